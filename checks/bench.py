@@ -38,6 +38,10 @@ def globals_(n):
     return TEXT + "    ret\n" + "".join(f"    .globl _g{i}\n_g{i}: ret\n" for i in range(n)) + LAST
 
 
+def code(n):
+    return TEXT + f"    ret\n    .fill {n // 4}, 4, 0xd503201f\n" + LAST
+
+
 def data(n):
     return TEXT + "    ret\n    .data\n_d: .fill {}, 1, 0x5a\n".format(n) + LAST
 
@@ -115,6 +119,7 @@ CASES = {
     "calls": ("one object of N calls", (1_000_000,), one_object(calls)),
     "sections": ("one object of 200 sections with N calls", (2_000_000,), one_object(sections)),
     "globals": ("one object of N global functions", (1_000_000,), one_object(globals_)),
+    "code": ("one object of N bytes of code", (200_000_000,), one_object(code)),
     "data": ("one object of N bytes of data", (200_000_000,), one_object(data)),
     "functions": ("one object of N functions with three relocations each", (2_000, 20_000, 200_000), one_object(functions)),
     "files": ("N files of one function", (100, 1_000, 10_000), many_objects(ONE, "_f000000")),

@@ -121,13 +121,14 @@ def sections():
     return object_of(headers, RETURN + bytes(12), relocations([0], 0, POINTER), [MAIN])
 
 
-def pages(sections, section_pages=32):
-    """Sections that share 512 KiB, with one pointer in each page of 16 KiB."""
-    size = 0x4000 * section_pages
+def pages(sections, last=0):
+    """Sections that share 512 KiB, with one pointer in each of their 32 pages; and one behind them with so many of these pages."""
+    size = 0x4000 * 32
     moved = relocations(range(0, size, 0x4000), 0, POINTER)
     headers = [text_alone()]
-    for number in range(sections):
-        headers.append((b"__DATA", b"__data", 0x4000 + number * size, size, 8, 14, 0, 0, section_pages))
+    for number in range(sections + (last > 0)):
+        count = 32 if number < sections else last
+        headers.append((b"__DATA", b"__data", 0x4000 + number * size, 0x4000 * count, 8, 14, 0, 0, count))
     return object_of(headers, RETURN + bytes(4 + size), moved, [MAIN])
 
 
@@ -143,7 +144,7 @@ CASES = {
     "pointers": ("200 sections that share one table of 100,000 pointers", lambda: shared(200, 100_000), None, 240, 3_000),
     "commands": ("2,000,000 load commands that nobody knows", commands, None, 20, 400),
     "sections": ("255 sections of one name", sections, None, 20, 400),
-    "pages": ("a chain of 65,504 pages, of an image of 1 GB", lambda: pages(2047), None, 240, 3_000),
+    "pages": ("a chain of 65,535 pages, of an image of 1 GB", lambda: pages(2047, 31), None, 240, 3_000),
     "more-pages": ("a chain of 65,536 pages", lambda: pages(2048), "pages", 60, 400),
 }
 

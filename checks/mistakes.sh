@@ -7,7 +7,7 @@ trap 'rm -rf "$folder"' EXIT
 
 source "$top/checks/installed.bash" || exit 1
 
-ar=$(tool llvm-ar) && lipo=$(tool llvm-lipo) && command -v clang >/dev/null && command -v python3 >/dev/null || {
+clang=$(tool clang) && ar=$(tool llvm-ar) && lipo=$(tool llvm-lipo) && command -v python3 >/dev/null || {
     echo "mistakes: SKIPPED, since clang, llvm-ar, llvm-lipo or python3 isn't installed"
     exit 0
 }
@@ -15,7 +15,7 @@ cd "$folder" || exit 1
 
 # Compiles twice.c for a target.
 compiled() {
-    clang --target="$1" -c -o "$2" "${@:3}" twice.c || fail "clang failed for $1"
+    "$clang" --target="$1" -c -o "$2" "${@:3}" twice.c || fail "clang failed for $1"
 }
 
 # A stub of the system's library, whose head and lines are given.
@@ -26,7 +26,7 @@ stub() {
 mac=arm64-apple-macos14
 printf 'int printf(const char *, ...);\nint twice(int);\nint main(void) { return printf("%%d", twice(21)); }\n' >main.c
 printf 'int twice(int n) { return 2 * n; }\n' >twice.c
-clang --target=$mac -c main.c || fail "clang failed"
+"$clang" --target=$mac -c main.c || fail "clang failed"
 compiled $mac twice.o
 compiled x86_64-apple-macos14 x86.o
 compiled x86_64-linux-gnu elf.o

@@ -8,7 +8,7 @@ trap 'rm -rf "$folder"' EXIT
 
 source "$top/checks/installed.bash" || exit 1
 
-command -v clang >/dev/null || {
+clang=$(tool clang) || {
     echo "objects_of_clang: SKIPPED, since clang isn't installed"
     exit 0
 }
@@ -53,15 +53,16 @@ try() {
     count=$((count + 1))
 }
 
-count=0
+count=0 unread=
 for source in "$top"/checks/objects/*.c "$top"/checks/objects/*.cpp; do
     for level in -O0 -O2; do
         object=$folder/$(basename "$source")$level.o
-        clang --target=arm64-apple-macos14 "$level" -c -o "$object" "$source" 2>"$folder/complaints" ||
+        "$clang" --target=arm64-apple-macos14 "$level" -c -o "$object" "$source" 2>"$folder/complaints" ||
             fail "clang $level failed: $(cat "$folder/complaints")"
         try "$object"
     done
 done
 try "$top/checks/objects/dropped.o"
 [ "$count" -gt 8 ] || fail "there are only $count objects"
-echo "objects_of_clang: $count objects linked"
+[ -n "$objdump" ] || unread="; their unwind information is SKIPPED, since llvm-objdump isn't installed"
+echo "objects_of_clang: $count objects linked$unread"

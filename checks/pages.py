@@ -1,9 +1,9 @@
 """Compares pages of docs/ with the sources that they list.
 
-docs/USAGE.md has each option and each rule on inputs; docs/ARCHITECTURE.md has each crate once, and no other; each page that README.md
-names is there, and each file of docs/ is named there; crates.txt names for a crate the libraries that its files name, and no other, and those
-that its edits name; each edit of must-fail/ and planted/ fits its files; little is read along the paths down from its crates.
-`pages.py --paths` prints the libraries that cost most.
+docs/USAGE.md has each option, each rule on inputs, and the words of each line that is printed; docs/ARCHITECTURE.md has each crate once,
+and no other; each page that README.md names is there, and each file of docs/ is named there; crates.txt names for a crate the libraries
+that its files name, and no other, and those that its edits name; each edit of must-fail/ and planted/ fits its files; little is read along
+the paths down from its crates. `pages.py --paths` prints the libraries that cost most.
 """
 import os
 import re
@@ -36,6 +36,13 @@ def faults():
     return [name for name in re.findall(r"^    (\w+)(?: \{.*)?,", body, re.M) if name != "OutOfMemory"]
 
 
+def texts():
+    """The words of the lines that a refusal or a fault prints, piece by piece, and what may be too many."""
+    lines = read("crates", "macho_report", "specs", "Lines.antt")
+    told = lines[lines.index("abbrev pub limit_name"):lines.index("abbrev pub fault_line")]
+    return [text for text in (text.strip(": ") for text in re.findall(r'codes "([^"]*)"', told)) if len(text) > 3]
+
+
 def crates():
     return [line.split(":")[0].split()[0] for line in read("crates.txt").split("\n") if ":" in line.split("#")[0]]
 
@@ -49,7 +56,10 @@ def wrong_usage():
     told = set(re.findall(r"`(-\w+)", usage)) | set(re.findall(r"^\| ((?:[OSU]\d+(?:, )?)+) \|", usage, re.M))
     told |= {name for names in list(told) for name in names.split(", ")} | set(re.findall(r"`bad word \d: (\w+)`", usage))
     wanted = options() + rules() + faults()
-    return lacking("USAGE.md", told, wanted) if len(wanted) > 60 else ["the options, rules or faults can't be read"]
+    lines = texts()
+    if len(wanted) < 60 or len(lines) < 30:
+        return ["the options, rules, faults or lines can't be read"]
+    return lacking("USAGE.md", told, wanted) + lacking("USAGE.md", usage, lines)
 
 
 def wrong_crates():

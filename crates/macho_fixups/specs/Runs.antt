@@ -17,7 +17,7 @@ AreSorted fixups = AllPairs (λ f g. f.address + POINTER_SIZE ≤ g.address) fix
 abbrev pub Holds : FixupSegment → ℕ → Type 0
 Holds s a = (s.address ≤ a) × (a + POINTER_SIZE ≤ s.address + s.file_size)
 
--- What both writers ask of the fixups.
+-- Fixups that chains can hold: both writers ask this of them.
 pub record AreFixups (segments : List FixupSegment) (fixups : List Fixup) : Type 0 where
   pub sorted : AreSorted fixups
   pub steps : All (λ f. f.address % STRIDE ≡ 0) fixups

@@ -30,7 +30,7 @@ pub record IsWordOf (kind : FixupKind) (next word : ℕ) : Type 0 where
   pub says : Says kind word
   pub leads : next_of word ≡ next
 
--- that word, as a sum of its fields
+-- the word of a fixup that leads so many steps on, as a sum of its fields
 unfoldable pub word_of : FixupKind → ℕ → ℕ
 word_of (Rebase target) next = target % 2 ^ 36 + target / 2 ^ 56 * 2 ^ 36 + next * 2 ^ 51
 word_of (Bind ordinal addend) next = ordinal + addend * 2 ^ 24 + next * 2 ^ 51 + 2 ^ 63

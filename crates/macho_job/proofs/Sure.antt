@@ -75,7 +75,7 @@ dylib-refused bytes refusal dylib why = why
 
 stub-refused : (bytes : List ℕ) (says : StubReading) (refusal : LinkError) → IsStubInput bytes says → BytesRefused head.Stub bytes refusal
     → ⊥
-stub-refused bytes says (error.BadInput (broken.Stub line rule)) stub (inl why) = why.1 says stub
+stub-refused bytes says (error.BadInput (broken.Stub line rule)) stub (inl why) = why.2 says stub
 stub-refused bytes says (error.BadInput (broken.Stub line rule)) stub (inr why) = why.0 stub.utf8
 stub-refused bytes says refusal stub why = why
 

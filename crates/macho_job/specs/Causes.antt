@@ -57,13 +57,13 @@ pub record NoneFailed (old new : Failures) : Type 0 where
 abbrev pub reading : ℕ → Failures
 reading reads = failures reads 0 0
 
--- Bytes are refused, by their head: they break the rule that is told, at the place that is told, and so are no such input. Of a stub
--- both are said; bytes that begin as a stub and aren't UTF-8 break the first rule of stubs at line 1.
+-- Bytes are refused, by their head: they break the rule that is told, at the place that is told, and so are no such input. Of the text of
+-- a stub both are said; bytes that begin as a stub and aren't UTF-8 break the first rule of stubs at line 1, and no other.
 abbrev pub BytesRefused : Head → List ℕ → LinkError → Type 0
 BytesRefused head.Object bytes (error.BadInput (input.Object fault)) = ObjectBreaks bytes fault.rule fault.place
 BytesRefused head.Dylib bytes (error.BadInput (input.Object fault)) = DylibBreaks bytes fault.rule fault.place
 BytesRefused head.Stub bytes (error.BadInput (input.Stub line rule)) =
-    (IsToldOfText bytes (Rule line rule) × ((says : StubReading) → IsStubInput bytes says → ⊥))
+    (IsUtf8 bytes × IsToldOfText bytes (Rule line rule) × ((says : StubReading) → IsStubInput bytes says → ⊥))
     ⊎ ((IsUtf8 bytes → ⊥) × (line ≡ 1) × (rule ≡ S1))
 BytesRefused begins bytes refusal = ⊥
 
@@ -123,7 +123,8 @@ pub record IsUnknown (told : Option Store) (s : Settings) (asked : args.Input) (
   pub found : IsFirstHeld told (candidates_of s asked) path bytes
   pub is : head_of bytes ≡ head
 
--- THE causes of the faults of settings, a row for each; `paths` are those of the files that were read. Want of memory is free.
+-- THE causes of the faults of settings, a row for each; `paths` are of files that were read, the last of them an input that is refused.
+-- Want of memory is free.
 abbrev pub JobFails : Option Store → Settings → List (List ℕ) → Failures → Failures → Fault → Type 0
 JobFails told s paths old new (MissingFile word) =
     ((asked : args.Input) × IsAsked told s word asked × All (IsMissing told) (candidates_of s asked))

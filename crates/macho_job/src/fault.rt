@@ -29,14 +29,14 @@ pub enum Fault {
         /// The index of the word in which the path stands.
         word: u32,
     },
-    /// The file does not begin as an object.
+    /// The file begins as no input: neither as an object, nor as a dynamic library or a text stub.
     UnknownKind {
         /// The index of the word in which the path stands.
         word: u32,
         /// What it begins as.
         kind: InputKind,
     },
-    /// The file breaks a rule of objects.
+    /// The file breaks a rule of its kind: of objects, of dynamic libraries or of text stubs.
     Input {
         /// The index of the word in which the path stands; of a made object its number, from 0.
         word: u32,

@@ -9,23 +9,21 @@ use Rattle.macho_model.specs.declared.rules.ObjectRule.{ObjectRule}
 use Rattle.macho_model.specs.declared.rules.ObjectRule.TheVariants.{O1, O2, O3, O4, O5, O6, O7, O8, O9, O10, O11, O12, O13, O14}
 use Rattle.macho_model.specs.Commands.{Command, commands_of, numbered, place_of, command_fits}
 use Rattle.macho_model.specs.ObjectRules.{head_fits, commands_inside, needed_in_object, needed_in_dylib, has_one, tables_inside, symbol_section_exists, relocations_inside, value_in_section, path_ends}
-use Rattle.macho_model.specs.Grammar.{EachCommand, AreWhole, IsObject, IsDylib, SectionFails, SymbolFails, RelocationFails, CommandFails, IsNotOne, ObjectBreaks, DylibBreaks}
+use Rattle.macho_model.specs.Grammar.{EachCommand, AreWhole, IsObject, IsDylib, StandOnce, SectionFails, SymbolFails, RelocationFails, CommandFails, IsNotOne, ObjectBreaks, DylibBreaks}
 use Rattle.macho_model.specs.ObjectLaws.{EachSection, EachSymbol, EachRelocation, KeepsObjectRules, KeepsDylibRules}
 use Rattle.macho_model.proofs.EachBelow.{not_false, true_or_false, is_equal, or_second}
 
 -- where no record fails a test, each one passes it
-sections_pass : (b : List ℕ) (test : ℕ → Bool) → has_one LC_SEGMENT_64 b ≡ true → ((place : ℕ) → SectionFails b place test → ⊥)
-    → EachSection b test
-sections_pass b test one none k within = not_false (test k) (λ fails. none _ (one, k, within, refl, fails))
+sections_pass : (b : List ℕ) (test : ℕ → Bool) → ((place : ℕ) → SectionFails b place test → ⊥) → EachSection b test
+sections_pass b test none k within = not_false (test k) (λ fails. none _ (k, within, refl, fails))
 
-symbols_pass : (b : List ℕ) (test : ℕ → Bool) → has_one LC_SYMTAB b ≡ true → tables_inside b ≡ true
-    → ((place : ℕ) → SymbolFails b place test → ⊥) → EachSymbol b test
-symbols_pass b test one tables none k within = not_false (test k) (λ fails. none _ (one, tables, k, within, refl, fails))
+symbols_pass : (b : List ℕ) (test : ℕ → Bool) → tables_inside b ≡ true → ((place : ℕ) → SymbolFails b place test → ⊥) → EachSymbol b test
+symbols_pass b test tables none k within = not_false (test k) (λ fails. none _ (tables, k, within, refl, fails))
 
-relocations_pass : (b : List ℕ) (test : ℕ → ℕ → Bool) → has_one LC_SEGMENT_64 b ≡ true → EachSection b (relocations_inside b)
+relocations_pass : (b : List ℕ) (test : ℕ → ℕ → Bool) → EachSection b (relocations_inside b)
     → ((place : ℕ) → RelocationFails b place test → ⊥) → EachRelocation b test
-relocations_pass b test one inside none k r within among =
-    not_false (test k r) (λ fails. none _ (one, k, r, within, inside k within, among, refl, fails))
+relocations_pass b test inside none k r within among =
+    not_false (test k r) (λ fails. none _ (k, r, within, inside k within, among, refl, fails))
 
 commands_pass : (cs : List Command) (test : Command → Bool) → ((place : ℕ) → CommandFails cs place test → ⊥) → EachCommand cs test
 commands_pass cs test none k d within =
@@ -50,26 +48,26 @@ object_keeps {b} is =
     record {
       o1 = head;
       o2 = whole;
-      o3 = (one_segment, one_symtab);
+      o3 = once;
       o4 = tables;
       o5 = (
         exist,
-        relocations_pass b _ one_segment inside (λ place h. is.unbroken O5 place (whole, inr h)),
+        relocations_pass b _ inside (λ place h. is.unbroken O5 place (whole, once, inr h)),
       );
-      o6 = sections_pass b _ one_segment (λ place h. is.unbroken O6 place (whole, h));
-      o7 = sections_pass b _ one_segment (λ place h. is.unbroken O7 place (whole, h));
+      o6 = sections_pass b _ (λ place h. is.unbroken O6 place (whole, once, h));
+      o7 = sections_pass b _ (λ place h. is.unbroken O7 place (whole, once, h));
       o8 = λ k within. both_hold (symbol_section_exists b k) (value_in_section b k) (exist k within)
-          (symbols_pass b (λ k. not (symbol_section_exists b k) || value_in_section b k) one_symtab tables
-          (λ place h. is.unbroken O8 place (whole, h)) k within);
-      o9 = symbols_pass b _ one_symtab tables (λ place h. is.unbroken O9 place (whole, h));
+          (symbols_pass b (λ k. not (symbol_section_exists b k) || value_in_section b k) tables
+          (λ place h. is.unbroken O8 place (whole, once, h)) k within);
+      o9 = symbols_pass b _ tables (λ place h. is.unbroken O9 place (whole, once, h));
       o10 = (
         inside,
-        relocations_pass b _ one_segment inside (λ place h. is.unbroken O10 place (whole, inr h)),
+        relocations_pass b _ inside (λ place h. is.unbroken O10 place (whole, once, inr h)),
       );
-      o11 = sections_pass b _ one_segment (λ place h. is.unbroken O11 place (whole, h));
-      o12 = sections_pass b _ one_segment (λ place h. is.unbroken O12 place (whole, h));
-      o13 = symbols_pass b _ one_symtab tables (λ place h. is.unbroken O13 place (whole, h));
-      o14 = symbols_pass b _ one_symtab tables (λ place h. is.unbroken O14 place (whole, h));
+      o11 = sections_pass b _ (λ place h. is.unbroken O11 place (whole, once, h));
+      o12 = sections_pass b _ (λ place h. is.unbroken O12 place (whole, once, h));
+      o13 = symbols_pass b _ tables (λ place h. is.unbroken O13 place (whole, once, h));
+      o14 = symbols_pass b _ tables (λ place h. is.unbroken O14 place (whole, once, h));
     }
   where
     head : head_fits MH_OBJECT b ≡ true
@@ -81,20 +79,20 @@ object_keeps {b} is =
       commands_pass (commands_of b) (command_fits (needed_in_object b) b) (λ place h. is.unbroken O2 place (inr h)),
     )
 
-    one_segment : has_one LC_SEGMENT_64 b ≡ true
-    one_segment = is_one LC_SEGMENT_64 b (λ place h. is.unbroken O3 place (whole, inl h))
-
-    one_symtab : has_one LC_SYMTAB b ≡ true
-    one_symtab = is_one LC_SYMTAB b (λ place h. is.unbroken O3 place (whole, inr h))
+    once : StandOnce LC_SEGMENT_64 LC_SYMTAB b
+    once = (
+      is_one LC_SEGMENT_64 b (λ place h. is.unbroken O3 place (whole, inl h)),
+      is_one LC_SYMTAB b (λ place h. is.unbroken O3 place (whole, inr h)),
+    )
 
     tables : tables_inside b ≡ true
-    tables = not_false (tables_inside b) (λ fails. is.unbroken O4 (place_of LC_SYMTAB b) (whole, (one_symtab, refl, fails)))
+    tables = not_false (tables_inside b) (λ fails. is.unbroken O4 (place_of LC_SYMTAB b) (whole, once, (refl, fails)))
 
     exist : EachSymbol b (symbol_section_exists b)
-    exist = symbols_pass b (symbol_section_exists b) one_symtab tables (λ place h. is.unbroken O5 place (whole, inl h))
+    exist = symbols_pass b (symbol_section_exists b) tables (λ place h. is.unbroken O5 place (whole, once, inl h))
 
     inside : EachSection b (relocations_inside b)
-    inside = sections_pass b (relocations_inside b) one_segment (λ place h. is.unbroken O10 place (whole, inl h))
+    inside = sections_pass b (relocations_inside b) (λ place h. is.unbroken O10 place (whole, once, inl h))
 
 -- a dynamic library passes each test
 pub dylib_keeps : {b : List ℕ} → IsDylib b → KeepsDylibRules b
@@ -102,13 +100,13 @@ dylib_keeps {b} is =
     record {
       o1 = not_false (head_fits MH_DYLIB b) (λ fails. is.unbroken O1 0 (refl, fails));
       o2 = whole;
-      o3 = (is_one LC_ID_DYLIB b (λ place h. is.unbroken O3 place (whole, inl h)), one_symtab);
+      o3 = once;
       o4 = tables;
       o9 = (
-        symbols_pass b _ one_symtab tables (λ place h. is.unbroken O9 place (whole, inl h)),
-        commands_pass (numbered LC_ID_DYLIB b) (path_ends b) (λ place h. is.unbroken O9 place (whole, inr h)),
+        symbols_pass b _ tables (λ place h. is.unbroken O9 place (whole, once, inl h)),
+        commands_pass (numbered LC_ID_DYLIB b) (path_ends b) (λ place h. is.unbroken O9 place (whole, once, inr h)),
       );
-      o13 = symbols_pass b _ one_symtab tables (λ place h. is.unbroken O13 place (whole, h));
+      o13 = symbols_pass b _ tables (λ place h. is.unbroken O13 place (whole, once, h));
     }
   where
     whole : AreWhole b (command_fits needed_in_dylib b)
@@ -117,21 +115,24 @@ dylib_keeps {b} is =
       commands_pass (commands_of b) (command_fits needed_in_dylib b) (λ place h. is.unbroken O2 place (inr h)),
     )
 
-    one_symtab : has_one LC_SYMTAB b ≡ true
-    one_symtab = is_one LC_SYMTAB b (λ place h. is.unbroken O3 place (whole, inr h))
+    once : StandOnce LC_ID_DYLIB LC_SYMTAB b
+    once = (
+      is_one LC_ID_DYLIB b (λ place h. is.unbroken O3 place (whole, inl h)),
+      is_one LC_SYMTAB b (λ place h. is.unbroken O3 place (whole, inr h)),
+    )
 
     tables : tables_inside b ≡ true
-    tables = not_false (tables_inside b) (λ fails. is.unbroken O4 (place_of LC_SYMTAB b) (whole, (one_symtab, refl, fails)))
+    tables = not_false (tables_inside b) (λ fails. is.unbroken O4 (place_of LC_SYMTAB b) (whole, once, (refl, fails)))
 
 -- where each record passes a test, none fails it
 section_fails : (b : List ℕ) (place : ℕ) (test : ℕ → Bool) → SectionFails b place test → EachSection b test → ⊥
-section_fails b place test (one, k, within, told, fails) each = true_or_false (test k) (each k within) fails
+section_fails b place test (k, within, told, fails) each = true_or_false (test k) (each k within) fails
 
 symbol_fails : (b : List ℕ) (place : ℕ) (test : ℕ → Bool) → SymbolFails b place test → EachSymbol b test → ⊥
-symbol_fails b place test (one, tables, k, within, told, fails) each = true_or_false (test k) (each k within) fails
+symbol_fails b place test (tables, k, within, told, fails) each = true_or_false (test k) (each k within) fails
 
 relocation_fails : (b : List ℕ) (place : ℕ) (test : ℕ → ℕ → Bool) → RelocationFails b place test → EachRelocation b test → ⊥
-relocation_fails b place test (one, k, r, within, inside, among, told, fails) each = true_or_false (test k r) (each k r within among) fails
+relocation_fails b place test (k, r, within, inside, among, told, fails) each = true_or_false (test k r) (each k r within among) fails
 
 command_fails : (cs : List Command) (place : ℕ) (test : Command → Bool) → CommandFails cs place test → EachCommand cs test → ⊥
 command_fails cs place test (k, c, (within, is), told, fails) each =
@@ -150,21 +151,21 @@ unbroken_object b O2 place o (inl h) = true_or_false _ o.o2.0 h.1
 unbroken_object b O2 place o (inr h) = command_fails (commands_of b) place (command_fits (needed_in_object b) b) h o.o2.1
 unbroken_object b O3 place o (whole, inl h) = not_one LC_SEGMENT_64 b place h o.o3.0
 unbroken_object b O3 place o (whole, inr h) = not_one LC_SYMTAB b place h o.o3.1
-unbroken_object b O4 place o (whole, h) = true_or_false _ o.o4 h.2
-unbroken_object b O5 place o (whole, inl h) = symbol_fails b place _ h o.o5.0
-unbroken_object b O5 place o (whole, inr h) = relocation_fails b place _ h o.o5.1
-unbroken_object b O6 place o (whole, h) = section_fails b place _ h o.o6
-unbroken_object b O7 place o (whole, h) = section_fails b place _ h o.o7
-unbroken_object b O8 place o (whole, h) =
+unbroken_object b O4 place o (whole, once, h) = true_or_false _ o.o4 h.1
+unbroken_object b O5 place o (whole, once, inl h) = symbol_fails b place _ h o.o5.0
+unbroken_object b O5 place o (whole, once, inr h) = relocation_fails b place _ h o.o5.1
+unbroken_object b O6 place o (whole, once, h) = section_fails b place _ h o.o6
+unbroken_object b O7 place o (whole, once, h) = section_fails b place _ h o.o7
+unbroken_object b O8 place o (whole, once, h) =
     symbol_fails b place (λ k. not (symbol_section_exists b k) || value_in_section b k) h
     (λ k within. or_second (not (symbol_section_exists b k)) (value_in_section b k) (o.o8 k within))
-unbroken_object b O9 place o (whole, h) = symbol_fails b place _ h o.o9
-unbroken_object b O10 place o (whole, inl h) = section_fails b place _ h o.o10.0
-unbroken_object b O10 place o (whole, inr h) = relocation_fails b place _ h o.o10.1
-unbroken_object b O11 place o (whole, h) = section_fails b place _ h o.o11
-unbroken_object b O12 place o (whole, h) = section_fails b place _ h o.o12
-unbroken_object b O13 place o (whole, h) = symbol_fails b place _ h o.o13
-unbroken_object b O14 place o (whole, h) = symbol_fails b place _ h o.o14
+unbroken_object b O9 place o (whole, once, h) = symbol_fails b place _ h o.o9
+unbroken_object b O10 place o (whole, once, inl h) = section_fails b place _ h o.o10.0
+unbroken_object b O10 place o (whole, once, inr h) = relocation_fails b place _ h o.o10.1
+unbroken_object b O11 place o (whole, once, h) = section_fails b place _ h o.o11
+unbroken_object b O12 place o (whole, once, h) = section_fails b place _ h o.o12
+unbroken_object b O13 place o (whole, once, h) = symbol_fails b place _ h o.o13
+unbroken_object b O14 place o (whole, once, h) = symbol_fails b place _ h o.o14
 
 unbroken_dylib : (b : List ℕ) (rule : ObjectRule) (place : ℕ) → KeepsDylibRules b → DylibBreaks b rule place → ⊥
 unbroken_dylib b O1 place d h = true_or_false _ d.o1 h.1
@@ -172,11 +173,11 @@ unbroken_dylib b O2 place d (inl h) = true_or_false _ d.o2.0 h.1
 unbroken_dylib b O2 place d (inr h) = command_fails (commands_of b) place (command_fits needed_in_dylib b) h d.o2.1
 unbroken_dylib b O3 place d (whole, inl h) = not_one LC_ID_DYLIB b place h d.o3.0
 unbroken_dylib b O3 place d (whole, inr h) = not_one LC_SYMTAB b place h d.o3.1
-unbroken_dylib b O4 place d (whole, h) = true_or_false _ d.o4 h.2
-unbroken_dylib b O9 place d (whole, inl h) = symbol_fails b place _ h d.o9.0
-unbroken_dylib b O9 place d (whole, inr h) = command_fails (numbered LC_ID_DYLIB b) place (path_ends b) h d.o9.1
-unbroken_dylib b O13 place d (whole, h) = symbol_fails b place _ h d.o13
-unbroken_dylib b _ place d h = absurd h.1
+unbroken_dylib b O4 place d (whole, once, h) = true_or_false _ d.o4 h.1
+unbroken_dylib b O9 place d (whole, once, inl h) = symbol_fails b place _ h d.o9.0
+unbroken_dylib b O9 place d (whole, once, inr h) = command_fails (numbered LC_ID_DYLIB b) place (path_ends b) h d.o9.1
+unbroken_dylib b O13 place d (whole, once, h) = symbol_fails b place _ h d.o13
+unbroken_dylib b _ place d h = absurd h.2
 
 -- what passes each test is an object, or a dynamic library
 pub kept_object : {b : List ℕ} → KeepsObjectRules b → IsObject b

@@ -45,10 +45,11 @@ pub data OnPageChain (segments : List ChainSegment) (b : List ℕ) (s : ChainSeg
   next : (a word : ℕ) → OnPageChain segments b s page a → IsFileWord segments b a word → 1 ≤ next_of word
       → OnPageChain segments b s page (a + STRIDE * next_of word)
 
--- a segment by its command, with the starts that a table has for its number
+-- the page starts that the first table has for the segment of a number
 abbrev pub starts_in_tables : List ℕ → List Table → ℕ → List ℕ
 starts_in_tables b tables k = of_first [] (λ t. if nat_lt k (starts_count b t) then page_starts b t k else []) tables
 
+-- a segment by its number and its command
 abbrev pub chain_segment : List ℕ → ℕ × SegmentCommand → ChainSegment
 chain_segment b (k, s) = record { address = s.vmaddr; file_offset = s.fileoff; file_size = s.filesize; starts = starts_in_tables b (tables_of b) k }
 

@@ -27,7 +27,7 @@ has_lists l = not (length l.export_lists == 0)
 abbrev pub is_listed : Link → List ℕ → Bool
 is_listed l name = not (has_lists l) || listed l.export_lists name
 
--- a name is exported from an object: its definition stands there and is visible
+-- a name is exported from an object: its definition stands there and is visible, and the name may be exported
 abbrev pub IsExported : Link → List ℕ → SymbolId → Type 0
 IsExported l name s = (definition_of l name ≡ Some (Symbol s)) × (is_hidden_of (entry_at l s) ≡ false) × (is_listed l name ≡ true)
 

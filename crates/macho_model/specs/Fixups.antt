@@ -45,12 +45,13 @@ own_entry is_one t addend = None
 unfoldable pub own_entries : Link → List EntryOfImport
 own_entries l = distinct same_entry (flat_map (λ s. filter_map (λ f. own_entry (is_pointer f) f.target f.addend) (fields_of l s)) (carried_of l))
 
--- the import table: an entry for each import, then those; addends have room in it only where there are any
+-- the import table: an entry for each import, then those
 unfoldable pub import_entries_of : Link → List EntryOfImport
 import_entries_of l = map (λ id. record { import = id; addend = 0 }) (range_with_len 0 (length (imports_of l))) ++ own_entries l
 
 unfoldable pub entries_have_addends : Link → Bool
 entries_have_addends l = not (length (own_entries l) == 0)
 
+-- addends have room in the table only where there are any
 abbrev pub import_format : Link → ℕ
 import_format l = if entries_have_addends l then IMPORT_ADDEND_FORMAT else IMPORT_FORMAT

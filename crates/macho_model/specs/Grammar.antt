@@ -18,25 +18,28 @@ EachCommand cs test = All (λ c. test c ≡ true) cs
 abbrev pub AreWhole : List ℕ → (Command → Bool) → Type 0
 AreWhole b fits = (commands_inside b ≡ true) × EachCommand (commands_of b) fits
 
--- Some section, symbol, relocation or command whose record stands at a place fails a test. Where the command that tells of
--- such records isn't there once, or their table isn't whole, there are none.
+-- Two commands stand once each; where one of them doesn't, no record that they tell of is looked at.
+abbrev pub StandOnce : ℕ → ℕ → List ℕ → Type 0
+StandOnce m n b = (has_one m b ≡ true) × (has_one n b ≡ true)
+
+-- Some section, symbol, relocation or command whose record stands at a place fails a test. Where a table isn't whole, its records
+-- aren't looked at.
 abbrev pub SectionFails : List ℕ → ℕ → (ℕ → Bool) → Type 0
-SectionFails b place test = (has_one LC_SEGMENT_64 b ≡ true) × (k : ℕ) × (k < num_sections b) × (place ≡ section_place b k) × (test k ≡ false)
+SectionFails b place test = (k : ℕ) × (k < num_sections b) × (place ≡ section_place b k) × (test k ≡ false)
 
 abbrev pub SymbolFails : List ℕ → ℕ → (ℕ → Bool) → Type 0
-SymbolFails b place test =
-    (has_one LC_SYMTAB b ≡ true) × (tables_inside b ≡ true) × (k : ℕ) × (k < num_symbols b) × (place ≡ symbol_place b k) × (test k ≡ false)
+SymbolFails b place test = (tables_inside b ≡ true) × (k : ℕ) × (k < num_symbols b) × (place ≡ symbol_place b k) × (test k ≡ false)
 
 abbrev pub RelocationFails : List ℕ → ℕ → (ℕ → ℕ → Bool) → Type 0
 RelocationFails b place test =
-    (has_one LC_SEGMENT_64 b ≡ true) × (k : ℕ) × (r : ℕ) × (k < num_sections b) × (relocations_inside b k ≡ true) × (r < (section_at b k).nreloc)
+    (k : ℕ) × (r : ℕ) × (k < num_sections b) × (relocations_inside b k ≡ true) × (r < (section_at b k).nreloc)
     × (place ≡ relocation_place b k r) × (test k r ≡ false)
 
 abbrev pub CommandFails : List Command → ℕ → (Command → Bool) → Type 0
 CommandFails cs place test =
     (k : ℕ) × (c : Command) × IsNumber cs k c × (place ≡ c.at) × (test c ≡ false)
 
--- there is no command of a number, told at place 0, or a second one, told at its place
+-- there is no command of a number, told at place 0, or one behind the first, told at its place
 abbrev pub IsNotOne : ℕ → List ℕ → ℕ → Type 0
 IsNotOne n b place =
     ((numbered n b ≡ []) × (place ≡ 0))
@@ -44,8 +47,7 @@ IsNotOne n b place =
 
 -- A record of an object breaks a rule: that rule's test fails for the record at the place.
 abbrev pub ObjectRecordBreaks : List ℕ → ObjectRule → ℕ → Type 0
-ObjectRecordBreaks b O3 place = IsNotOne LC_SEGMENT_64 b place ⊎ IsNotOne LC_SYMTAB b place
-ObjectRecordBreaks b O4 place = (has_one LC_SYMTAB b ≡ true) × (place ≡ place_of LC_SYMTAB b) × (tables_inside b ≡ false)
+ObjectRecordBreaks b O4 place = (place ≡ place_of LC_SYMTAB b) × (tables_inside b ≡ false)
 ObjectRecordBreaks b O5 place = SymbolFails b place (symbol_section_exists b) ⊎ RelocationFails b place (relocation_number_exists b)
 ObjectRecordBreaks b O6 place = SectionFails b place (data_inside b)
 ObjectRecordBreaks b O7 place = SectionFails b place (exponent_fits b)
@@ -62,7 +64,9 @@ ObjectRecordBreaks b rule place = ⊥
 abbrev pub ObjectBreaks : List ℕ → ObjectRule → ℕ → Type 0
 ObjectBreaks b O1 place = (place ≡ 0) × (head_fits MH_OBJECT b ≡ false)
 ObjectBreaks b O2 place = ((place ≡ 0) × (commands_inside b ≡ false)) ⊎ CommandFails (commands_of b) place (command_fits (needed_in_object b) b)
-ObjectBreaks b rule place = AreWhole b (command_fits (needed_in_object b) b) × ObjectRecordBreaks b rule place
+ObjectBreaks b O3 place = AreWhole b (command_fits (needed_in_object b) b) × (IsNotOne LC_SEGMENT_64 b place ⊎ IsNotOne LC_SYMTAB b place)
+ObjectBreaks b rule place =
+    AreWhole b (command_fits (needed_in_object b) b) × StandOnce LC_SEGMENT_64 LC_SYMTAB b × ObjectRecordBreaks b rule place
 
 -- The bytes are a relocatable object: no rule is broken, at any place.
 pub record IsObject (b : List ℕ) : Type 0 where
@@ -70,8 +74,7 @@ pub record IsObject (b : List ℕ) : Type 0 where
 
 -- A record of a dynamic library breaks a rule.
 abbrev pub DylibRecordBreaks : List ℕ → ObjectRule → ℕ → Type 0
-DylibRecordBreaks b O3 place = IsNotOne LC_ID_DYLIB b place ⊎ IsNotOne LC_SYMTAB b place
-DylibRecordBreaks b O4 place = (has_one LC_SYMTAB b ≡ true) × (place ≡ place_of LC_SYMTAB b) × (tables_inside b ≡ false)
+DylibRecordBreaks b O4 place = (place ≡ place_of LC_SYMTAB b) × (tables_inside b ≡ false)
 DylibRecordBreaks b O9 place = SymbolFails b place (name_ends b) ⊎ CommandFails (numbered LC_ID_DYLIB b) place (path_ends b)
 DylibRecordBreaks b O13 place = SymbolFails b place (global_has_name b)
 DylibRecordBreaks b rule place = ⊥
@@ -80,7 +83,8 @@ DylibRecordBreaks b rule place = ⊥
 abbrev pub DylibBreaks : List ℕ → ObjectRule → ℕ → Type 0
 DylibBreaks b O1 place = (place ≡ 0) × (head_fits MH_DYLIB b ≡ false)
 DylibBreaks b O2 place = ((place ≡ 0) × (commands_inside b ≡ false)) ⊎ CommandFails (commands_of b) place (command_fits needed_in_dylib b)
-DylibBreaks b rule place = AreWhole b (command_fits needed_in_dylib b) × DylibRecordBreaks b rule place
+DylibBreaks b O3 place = AreWhole b (command_fits needed_in_dylib b) × (IsNotOne LC_ID_DYLIB b place ⊎ IsNotOne LC_SYMTAB b place)
+DylibBreaks b rule place = AreWhole b (command_fits needed_in_dylib b) × StandOnce LC_ID_DYLIB LC_SYMTAB b × DylibRecordBreaks b rule place
 
 -- The bytes are a dynamic library. Its segments are not read, so no rule speaks of sections.
 pub record IsDylib (b : List ℕ) : Type 0 where

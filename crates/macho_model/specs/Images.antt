@@ -73,7 +73,7 @@ symbol_tables_of b = map (symbols_range b) (numbered LC_SYMTAB b)
 unfoldable pub string_tables_of : List ℕ → List Table
 string_tables_of b = map (strings_range b) (numbered LC_SYMTAB b)
 
--- the file offsets at which an executable begins; it has one
+-- where an executable begins, as an offset from the address of `__TEXT`; it has one
 unfoldable pub entries_of_file : List ℕ → List ℕ
 entries_of_file b = map (λ c. (reading entry_point_command b c.at).entryoff) (numbered LC_MAIN b)
 

@@ -12,7 +12,7 @@ use Rattle.macho_model.specs.Values.{needs_fixup}
 use Rattle.macho_model.specs.Fixups.{EntryOfImport, import_entries_of, import_format}
 use Rattle.macho_model.specs.Exports.{library_number}
 
--- the words that the loader writes: a slot each, and a pointer each that needs a fixup
+-- how many words the loader writes: one for each slot, and one for each pointer that needs a fixup
 unfoldable pub fixup_count : Link → ℕ
 fixup_count l = length (slots_of l) + length (flat_map (λ s. filter (needs_fixup l s) (fields_of l s)) (carried_of l))
 

@@ -46,8 +46,8 @@ PassesLimit l counts what number (Some p) = ⊥
 abbrev pub LIMIT_32 : ℕ
 LIMIT_32 = 2 ^ 32
 
--- An address whose offset from the base is written in 32 bits: an initializer, the start or the end of a function, its
--- language data, the slot of its personality.
+-- An address whose offset from the base has to fit 32 bits: an initializer, the start or the end of a function (only the last one's end is
+-- written), its language data, the slot of its personality.
 pub data IsWritten32 (l : Link) (p : Placed) : ℕ → Type 0 where
   initializer : (s : SectionId) (r x : ℕ) → Contains (initializer_sections l) s → r < (header_at l s).nreloc
       → IsAt l p 0 empty (target_of_relocation l s r) x → IsWritten32 l p x

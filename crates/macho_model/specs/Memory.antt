@@ -12,7 +12,7 @@ use Rattle.macho_model.specs.Chain.{chain_segments, IsFileWord, OnChainOf}
 use Rattle.macho_model.specs.Needs.{POINTER_SIZE}
 use Rattle.macho_model.specs.Loader.{is_bind, ordinal_of}
 
--- pairs of names, in order
+-- the order of pairs of names
 abbrev pub pair_cmp : List ℕ × List ℕ → List ℕ × List ℕ → Ordering
 pair_cmp x y = ordering_then (slice_cmp nat_cmp x.0 y.0) (slice_cmp nat_cmp x.1 y.1)
 

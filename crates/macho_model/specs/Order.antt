@@ -1,5 +1,5 @@
--- In which order the parts of a placement stand, and that each stands as low as it may: a placement is told by the link
--- and its counts alone.
+-- In which order the parts of a placement stand, and that each stands as low as it may: so the link and its counts alone tell where each
+-- part stands that isn't empty.
 use Rattle.std.specs.Prelude.{◌≡◌, ℕ, ◌+◌, ◌*◌, ◌-◌, ◌/◌, ◌^◌, ◌≤◌, ◌==◌, ◌&&◌, not, if◌then◌else◌, Bool, List, [], ◌∷◌, length, map, filter, All, AllPairs, sum_by}
 use Rattle.std.specs.Str.{bytes_eq}
 use Rattle.std.specs.List.{range_with_len}
@@ -65,7 +65,7 @@ BeginsLeast c d = d.start ≡ rounded_up (2 ^ d.exponent) (end_of_piece c)
 abbrev pub used_by : PlacedSegment → List Piece → ℕ
 used_by s row = greatest (map end_of_piece row) - s.address
 
--- the bytes of a segment in the file: up to its last data, or to the end of the signature, where the file ends
+-- the bytes of a segment in the file: up to the end of the page of its last data, or to the end of the signature, where the file ends
 abbrev pub least_file_size : Link → Counts → Placed → PlacedSegment → ℕ
 least_file_size l counts p s =
     if bytes_eq (text_of s.name) PAGEZERO then 0

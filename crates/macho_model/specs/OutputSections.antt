@@ -129,7 +129,7 @@ around cs = record {
 abbrev pub extent_of : Link → Placed → OutputSection → Piece
 extent_of l p o = around (pieces_of l p o)
 
--- the name, the segment and the flags of an output section
+-- the segment, the name and the type of an output section
 abbrev pub key_of_output : OutputSection → OutputKey
 key_of_output (Merged key) = key
 key_of_output InitOffsets = record { segment = TEXT; name = codes "__init_offsets"; type = S_INIT_FUNC_OFFSETS }
@@ -147,7 +147,7 @@ abbrev pub stub_size_of : OutputSection → ℕ
 stub_size_of Stubs = STUB_SIZE
 stub_size_of o = 0
 
--- the file offset of an address of a segment, 0 where there is no such segment
+-- the file offset of an address of a segment; 0 of zeros, which have no bytes in the file, and where there is no such segment
 abbrev pub file_offset_of : Placed → OutputKey → ℕ → ℕ
 file_offset_of p key address =
     if is_zeros key then 0

@@ -48,10 +48,10 @@ pub record Span : Type 0 where
 abbrev pub AreApart : Span → Span → Type 0
 AreApart a b = (a.size ≡ 0) ⊎ (b.size ≡ 0) ⊎ (a.start + a.size ≤ b.start) ⊎ (b.start + b.size ≤ a.start)
 
--- the parts of a placement as ranges of addresses
 abbrev pub id_of : PlacedSection → SectionId
 id_of p = record { file = p.file; section = p.section }
 
+-- the parts of a placement as ranges of addresses
 abbrev pub section_span : Link → PlacedSection → Span
 section_span l p = record { start = p.address; size = (header_at l (id_of p)).size }
 

@@ -31,7 +31,7 @@ abbrev pub difference_fits : Link → SectionId → ℕ → Bool
 difference_fits l s r =
     (has_form (relocation_in l s r) 2 false true || has_form (relocation_in l s r) 3 false true) && is_defined (target_of_relocation l s r)
 
--- an addend has no target
+-- an addend has 4 bytes, and isn't relative to its place
 abbrev pub addend_fits : Link → SectionId → ℕ → Bool
 addend_fits l s r = ((relocation_in l s r).r_length == 2) && not (relocation_in l s r).r_pcrel
 

@@ -125,8 +125,8 @@ output_keys_of l =
 abbrev pub one_if : Bool → ℕ
 one_if b = if b then 1 else 0
 
--- the output sections: the merged ones, and one for each part that the linker makes and that is not empty: initializers, unwind
--- information, stubs, slots
+-- how many output sections there are: the merged ones, and one for each part that the linker makes and that is not empty: initializers,
+-- unwind information, stubs, slots
 unfoldable pub output_count : Link → Counts → ℕ
 output_count l counts =
     length (output_keys_of l) + one_if (nat_lt 0 counts.initializers) + one_if (nat_lt 0 counts.unwind) + one_if (not (length (stubs_of l) == 0))

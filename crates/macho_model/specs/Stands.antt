@@ -94,7 +94,7 @@ LoadSays l p s choice (target.Import id) word input = (slot : ℕ) × SlotAt p s
 LoadSays l p s choice (target.Absolute value) word input = ⊥
 LoadSays l p s choice t word input = (x : ℕ) × IsAt l p s choice t x × AddsTo word input x
 
--- the page that such a load begins with: of the slot, or of the target itself
+-- the address whose page such a load begins with: that of the slot, or of the target itself
 abbrev pub LoadIsAt : Link → Placed → ℕ → Choice → Target → ℕ → Type 0
 LoadIsAt l p s choice (target.Import id) x = SlotAt p s (target.Import id) x
 LoadIsAt l p s choice (target.Absolute value) x = ⊥

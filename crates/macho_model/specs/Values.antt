@@ -28,8 +28,8 @@ abbrev pub is_absolute_target : Target → Bool
 is_absolute_target (target.Absolute value) = true
 is_absolute_target t = false
 
--- a pointer that the loader has to write: its target is no fixed value (it moves with the image, or is an import), and it is no
--- offset from the template
+-- A pointer that the loader has to write: its target is no fixed value, and it is no offset from the template. (Where relocations are
+-- supported, the target then moves with the image or is an import.)
 abbrev pub needs_fixup : Link → SectionId → Field → Bool
 needs_fixup l s f = is_pointer f && not (is_absolute_target f.target) && not (is_template_offset l s f)
 

@@ -5,10 +5,10 @@ use Rattle.macho_bytes.specs.Layouts.{reading}
 use Rattle.macho_bytes.specs.Texts.{name_of}
 use Rattle.macho_records.specs.Layouts.{load_command}
 use Rattle.macho_records.specs.CommandLayouts.{dylib_command}
-use Rattle.macho_model.specs.Commands.{numbered, command_fits, path_of, Command}
+use Rattle.macho_model.specs.Commands.{numbered, path_of, Command}
 use Rattle.macho_model.specs.Objects.{install_name_of, num_symbols}
-use Rattle.macho_model.specs.ObjectRules.{path_ends, needed_in_dylib}
-use Rattle.macho_model.specs.Grammar.{DylibBreaks, AreWhole}
+use Rattle.macho_model.specs.ObjectRules.{path_ends}
+use Rattle.macho_model.specs.Grammar.{DylibBreaks}
 use Rattle.macho_model.specs.ObjectLaws.{KeepsDylibRules}
 use Rattle.macho_model.specs.declared.rules.ObjectRule.TheVariants.{O9}
 use Rattle.macho_model.specs.Lists.{of_first}
@@ -16,6 +16,7 @@ use Rattle.macho_object.specs.declared.outline.Outline.{Outline}
 use Rattle.macho_object.specs.steps.Scans.{command_at}
 use Rattle.macho_object.specs.steps.Outlines.{IsOutlined, path_field_of}
 use Rattle.macho_object.specs.steps.Checks.{NameFits}
+use Rattle.macho_object.proofs.Breaks.{NamesItself}
 
 -- both readings of the command's size are one
 pub same_size : (b : List ℕ) (at : ℕ) → (reading dylib_command b at).cmdsize ≡ (reading load_command b at).cmdsize
@@ -29,9 +30,9 @@ install_name_is b main only = ap (of_first [] (λ (c : Command). path_of b c (re
 
 -- a path that does not end breaks the rule of names
 pub path_breaks : (b : List ℕ) (main : ℕ) → numbered 13 b ≡ command_at b main ∷ [] → path_ends b (command_at b main) ≡ false
-    → AreWhole b (command_fits needed_in_dylib b) → DylibBreaks b O9 main
-path_breaks b main only fails whole =
-    (whole, inr (0, command_at b main, (omega (arith, ap length only), ap (λ cs. get_or cs 0 (command_at b main)) only), refl, fails))
+    → NamesItself b → DylibBreaks b O9 main
+path_breaks b main only fails (whole, once) =
+    (whole, once, inr (0, command_at b main, (omega (arith, ap length only), ap (λ cs. get_or cs 0 (command_at b main)) only), refl, fails))
 
 -- a library that keeps every rule
 pub is_library : (o : Outline) → IsOutlined o → o.is_dynamic ≡ true → path_ends o.input.now (command_at o.input.now o.places.main) ≡ true

@@ -25,7 +25,7 @@ turn_then tail number at rest = record
 
 -- What may stand between the parts of a list: spaces; or the rest of a line, which is spaces and a comment at most,
 -- and on the next line, of this number and at this place, again what may stand between. (Blank lines and lines of a
--- comment alone aren't among the lines of a list, so that one turn is enough.)
+-- comment alone aren't among the lines of a list.)
 pub data Between : Type 0 where
   Spaces : ℕ → Between
   Turn : List ℕ → ℕ → ℕ → Between → Between

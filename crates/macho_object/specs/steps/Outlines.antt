@@ -40,7 +40,6 @@ pub record HasCommands (dyn : Bool) (b : List ℕ) (p : Places) : Type 0 where
 
 -- A section's header stands in the one segment's command, inside the file.
 pub record SectionStands (b : List ℕ) (main k : ℕ) : Type 0 where
-  pub one_segment : has_one LC_SEGMENT_64 b ≡ true
   pub among : k < num_sections b
   pub place : section_place b k ≡ main + size_of segment_command + size_of section_header * k
   pub room : section_place b k + size_of section_header ≤ length b
