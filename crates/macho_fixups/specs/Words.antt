@@ -7,6 +7,10 @@ use Rattle.macho_model.specs.Memory.{rebase_target, rebase_high, bind_addend}
 use Rattle.macho_fixups.specs.declared.words.FixupKind.{FixupKind}
 use Rattle.macho_fixups.specs.declared.words.FixupKind.TheVariants.{Rebase, Bind}
 
+-- the steps that a word has room for
+abbrev pub STEPS : ℕ
+STEPS = 4096
+
 -- a fixup has a word: its target has no bit outside the low 36 and the top 8, its addend is at most 255
 abbrev pub has_word : FixupKind → Bool
 has_word (Rebase target) = bits 36 20 target == 0

@@ -2,4 +2,3 @@
 pub mod Calls
 pub mod Chains
 pub mod Cuts
-pub mod Words

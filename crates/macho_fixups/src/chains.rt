@@ -8,7 +8,7 @@ ghost use Rattle.macho_bytes.specs.Texts.{put};
 ghost use Rattle.macho_model.specs.Needs.{POINTER_SIZE};
 ghost use Rattle.macho_fixups.specs.declared.run.FixupSegment.{FixupSegment};
 ghost use Rattle.macho_fixups.specs.Words.{has_word, FitsOrdinal, IsWordOf, word_of};
-ghost use Rattle.macho_fixups.specs.steps.Words.{STEPS};
+ghost use Rattle.macho_fixups.specs.Words.{STEPS};
 ghost use Rattle.macho_fixups.specs.Runs.{AreFixups, AreSegments, Holds};
 ghost use Rattle.macho_fixups.specs.Chains.{place_of, step_of, step_between, AreWritten, HaveWords, IsFirstRefused, HaveRoom, ChainIsRun};
 ghost use Rattle.macho_fixups.specs.steps.Chains.{IsSegmentOf, ArePassed};

@@ -13,7 +13,7 @@ ghost use Rattle.macho_bytes.specs.Numbers.{le_at, le_bytes};
 ghost use Rattle.macho_model.specs.Needs.{POINTER_SIZE};
 ghost use Rattle.macho_fixups.specs.declared.words.FixupKind.TheVariants.{Rebase, Bind};
 ghost use Rattle.macho_fixups.specs.Words.{has_word, FitsOrdinal, IsWordOf, word_of};
-ghost use Rattle.macho_fixups.specs.steps.Words.{STEPS};
+ghost use Rattle.macho_fixups.specs.Words.{STEPS};
 
 /// What the loader makes of a word.
 #[derive(Clone, Copy, Debug, PartialEq, Eq)]

@@ -1,4 +1,5 @@
--- The code's own steps: what private functions say, and what loops keep. No clause of a public function cites them.
+-- The code's own steps: what private functions say, and what loops keep. Of public functions only those that look up the number of a
+-- library cite one.
 pub mod Libraries
 pub mod Entries
 pub mod Values

@@ -1,5 +1,5 @@
--- The steps of the link: a link that is planned, what each pass writes, and why an image isn't written. No clause of a public
--- function cites them.
+-- The steps of the link: a link that is planned, what each pass writes, and why an image isn't written. Of public functions only `link`
+-- cites some, for `macho_image`.
 pub mod Linking
 pub mod Paths
 pub mod Lists

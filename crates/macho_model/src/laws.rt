@@ -1,6 +1,9 @@
 //! Laws of the definitions: each is the contract of a function that does nothing.
 ghost use Rattle.macho_model.specs.SlideLaws.{FieldsMove, PointersMove, ImportPointersBind};
 ghost use Rattle.macho_model.specs.Laws.{UnchainedIsEmpty, MemoryMoves, MemoryMovesBack, SegmentsAreApart};
+ghost use Rattle.macho_model.specs.HeldLaws.{TextsAreHeld, ZerosAreHeld, NumbersAreHeld, SlotsMove, ImportSlotsBind, PlainPointersStay};
+ghost use Rattle.macho_model.specs.LinkLaws.{DefinitionsAgree, NotedTargetsAgree, CommonsAgree, CarriedAgree, ImportsAgree, SlotsAgree, StubsAgree, AllAreNoted, SymbolsGrow, SectionsGrow, CommonsAreCounted};
+ghost use Rattle.macho_model.specs.ObjectLaws.{ObjectsKeepRules, KeepersAreObjects, DylibsKeepRules, KeepersAreDylibs};
 
 /// The chain of a file without fixup tables is empty; outside chain words memory at a slide is memory at slide 0, moved.
 pub fn memory_moves_by_the_slide()
@@ -21,8 +24,6 @@ pub fn fields_denote_at_every_slide()
     ensures bound { ImportPointersBind }
 {}
 
-ghost use Rattle.macho_model.specs.HeldLaws.{TextsAreHeld, ZerosAreHeld, NumbersAreHeld, SlotsMove, ImportSlotsBind, PlainPointersStay};
-
 /// Where no chain word has a byte, memory holds the texts and numbers of the file, and zeros behind a segment's file part.
 pub fn what_no_word_covers_is_held()
     ensures texts { TextsAreHeld }
@@ -40,8 +41,6 @@ pub fn slots_stand_at_every_slide()
 pub fn plain_pointers_stay()
     ensures { PlainPointersStay }
 {}
-
-ghost use Rattle.macho_model.specs.LinkLaws.{DefinitionsAgree, NotedTargetsAgree, CommonsAgree, CarriedAgree, ImportsAgree, SlotsAgree, StubsAgree, AllAreNoted, SymbolsGrow, SectionsGrow, CommonsAreCounted};
 
 /// Links with the same inputs have the same definitions, commons, carried sections and targets.
 pub fn equal_inputs_have_equal_definitions()
@@ -69,8 +68,6 @@ pub fn one_input_more_adds_its_own()
 pub fn chosen_commons_are_counted()
     ensures { CommonsAreCounted }
 {}
-
-ghost use Rattle.macho_model.specs.ObjectLaws.{ObjectsKeepRules, KeepersAreObjects, DylibsKeepRules, KeepersAreDylibs};
 
 /// An object, or a dynamic library, is what passes each test of its kind.
 pub fn objects_pass_each_test()

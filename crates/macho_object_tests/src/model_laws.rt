@@ -18,11 +18,13 @@ ghost use Rattle.macho_model.specs.Values.{is_absolute_target};
 ghost use Rattle.macho_model.specs.SlideLaws.{targets_move, MovesAt};
 ghost use Rattle.macho_model.specs.HeldLaws.{IsFree};
 ghost use Rattle.macho_model.specs.LinkLaws.{with_input};
+ghost use Rattle.macho_model.specs.ObjectRules.{tables_inside};
+ghost use Rattle.macho_model.specs.Grammar.{IsObject};
 
 use macho_model::{
     PlacedSection, Slot, chosen_commons_are_counted, equal_inputs_have_equal_definitions,
     equal_lists_have_equal_needs, fields_denote_at_every_slide, memory_moves_by_the_slide,
-    one_input_more_adds_its_own, plain_pointers_stay, segments_are_apart,
+    objects_pass_each_test, one_input_more_adds_its_own, plain_pointers_stay, segments_are_apart,
     slots_stand_at_every_slide, what_no_word_covers_is_held,
 };
 use macho_records::SegmentCommand;
@@ -116,4 +118,12 @@ fn first_common()
     ensures { (l : Link) (after : List SymbolId) (s : SymbolId) → symbols_of l ≡ s ∷ after → is_chosen l s ≡ true → position_or_len (same_symbol s) (chosen_commons l) ≡ 0 }
 {
     chosen_commons_are_counted();
+}
+
+/// The tables of an object's symbols stand inside the file.
+fn tables_of_an_object(file: &[u8])
+    requires { IsObject file.now }
+    ensures { tables_inside file.now ≡ true }
+{
+    objects_pass_each_test();
 }
