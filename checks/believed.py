@@ -38,7 +38,7 @@ PROMISED = [
     ("macho_model.specs.Stands", "IsLoadable", "the headline: parts have their places, the loader accepts the file, and at every slide and for every choice of import addresses the image stands in memory"),
     ("macho_promise.specs.Promise", "IsLinked", "the image whole: sizes and order, commands and tables, exports and unwind information by look-up, and every byte of what isn't a section's"),
     ("macho_faults.specs.Standing", "Stands", "why a link is refused"),
-    ("macho_model.specs.Valid", "IsValid", "which links are owed an image"),
+    ("macho_model.specs.Valid", "IsValid", "for which links the linker must write an image"),
     ("macho_job.specs.Job", "IsJob", "what words and files ask for: options, search, kinds of input, objects, libraries and text stubs, made objects"),
     ("wild_macho.specs.Runs", "IsRun", "a run: what it leaves, prints and answers, and the cause of every other status"),
 ]
