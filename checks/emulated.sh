@@ -119,4 +119,6 @@ if command -v cc >/dev/null; then
     compared pair "$programs/pair/main.c" "$folder"/lib{count,base}.so -Wl,-rpath,"$folder"
 fi
 
+command -v cc >/dev/null && command -v c++ >/dev/null ||
+    echo "emulated: comparing with programs that are made here is SKIPPED, since cc or c++ isn't installed"
 timeout 300 "$python" checks/emulated.py "$folder/cases" "$folder"
