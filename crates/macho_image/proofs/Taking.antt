@@ -43,14 +43,15 @@ stub_read text library utf8 stub = record {
 }
 
 -- a text that was refused is no stub
-pub stub_refused : (text : List ℕ) (f : StubFault) → IsToldOfText text f
+pub stub_refused : (text : List ℕ) (f : StubFault) → IsUtf8 text → IsToldOfText text f
     → ((library : LibraryFields) → IsStub text library → Fails f (Ok library))
     → StubRefused text (stub_refusal f)
-stub_refused text (stub.Rule line rule) told only = (told, λ says s. absurd (let none : ⊥ = none_of (only s.library s.in_grammar) in none))
+stub_refused text (stub.Rule line rule) utf8 told only =
+    (utf8, told, λ says s. absurd (let none : ⊥ = none_of (only s.library s.in_grammar) in none))
   where
     none_of : {library : LibraryFields} → Ok library ≡ broken line rule → ⊥
     none_of e = cc
-stub_refused text stub.OutOfMemory told only = tt
+stub_refused text stub.OutOfMemory utf8 told only = tt
 
 -- a test of some path
 pub any_path : {A : Type 0} (test : List ℕ → Bool) (paths : List (String A))

@@ -1,5 +1,5 @@
 -- When each refusal of a linker stands.
-use Rattle.std.specs.Prelude.{◌≡◌, ℕ, true, List}
+use Rattle.std.specs.Prelude.{◌≡◌, ℕ, true, List, IsUtf8}
 use Rattle.macho_stub.specs.Answer.{IsToldOfText}
 use Rattle.macho_stub_lines.specs.declared.fault.StubFault.TheVariants.{Rule}
 use Rattle.macho_model.specs.Grammar.{ObjectBreaks, DylibBreaks}
@@ -30,9 +30,10 @@ DylibRefused b (error.BadInput (input.Object fault)) = DylibBreaks b fault.rule 
 DylibRefused b error.OutOfMemory = Unit {0}
 DylibRefused b refusal = ⊥
 
--- the same of a stub's text: the rule is the one that is told of the text, at its line
+-- the same of a stub's text, which is UTF-8: the rule is the one that is told of the text, at its line
 abbrev pub StubRefused : List ℕ → LinkError → Type 0
-StubRefused text (error.BadInput (input.Stub line rule)) = IsToldOfText text (Rule line rule) × ((says : StubReading) → IsStubInput text says → ⊥)
+StubRefused text (error.BadInput (input.Stub line rule)) =
+    IsUtf8 text × IsToldOfText text (Rule line rule) × ((says : StubReading) → IsStubInput text says → ⊥)
 StubRefused text error.OutOfMemory = Unit {0}
 StubRefused text refusal = ⊥
 

@@ -147,9 +147,13 @@ breaks_main true b t place s not = ((s.inside, s.each), inl (not_one (numbered 1
 
 -- where the symbols or the strings do not stand inside the file, their rule is broken
 pub breaks_tables : (dyn : Bool) (b : List ℕ) (p : Places) → HasCommands dyn b p → tables_inside b ≡ false → Breaks dyn b O4 p.symtab
-breaks_tables false b p h not =
-    let once = (ap (λ cs. length cs == 1) h.main_only, h.one_symtab) in
-    ((h.inside, h.each), once, (sym (ap (of_first 0 (λ (c : Command). c.at)) h.symtab_only), not))
-breaks_tables true b p h not =
-    let once = (ap (λ cs. length cs == 1) h.main_only, h.one_symtab) in
-    ((h.inside, h.each), once, (sym (ap (of_first 0 (λ (c : Command). c.at)) h.symtab_only), not))
+breaks_tables false b p h not = (
+  (h.inside, h.each),
+  (ap (λ cs. length cs == 1) h.main_only, h.one_symtab),
+  (sym (ap (of_first 0 (λ (c : Command). c.at)) h.symtab_only), not),
+)
+breaks_tables true b p h not = (
+  (h.inside, h.each),
+  (ap (λ cs. length cs == 1) h.main_only, h.one_symtab),
+  (sym (ap (of_first 0 (λ (c : Command). c.at)) h.symtab_only), not),
+)

@@ -41,7 +41,7 @@ IsNoText bytes refusal = ⊥
 
 -- bytes that begin as a stub are refused, or memory ran out
 abbrev pub TextRefused : List ℕ → LinkError → Type 0
-TextRefused bytes refusal = (IsUtf8 bytes × StubRefused bytes refusal) ⊎ IsNoText bytes refusal
+TextRefused bytes refusal = StubRefused bytes refusal ⊎ IsNoText bytes refusal
 
 -- why bytes aren't added
 abbrev pub BytesFail : ℕ → List ℕ → Fault → Type 0

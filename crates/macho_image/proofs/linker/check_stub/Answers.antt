@@ -4,7 +4,7 @@ use Rattle.macho_image.proofs.linker.check_stub.Goals as goal
 
 pub returns-in-Err-clause-why : goal.returns-in-Err-clause-why
 returns-in-Err-clause-why c =
-    rw c.refusal_of_stub.ensures (stub_refused c.args.text.now c.in-Err.fault c.in-Err.ensures.fault
+    rw c.refusal_of_stub.ensures (stub_refused c.args.text.now c.in-Err.fault c.utf8.text c.in-Err.ensures.fault
     (λ library stub. c.in-Err.ensures.only library stub))
 
 pub returns-clause-found : goal.returns-clause-found
