@@ -114,6 +114,12 @@ def commands():
     return object_of([text_alone()], RETURN, b"", [MAIN], None, pack("<II", 0x7F, 8) * count, count)
 
 
+def mapped():
+    """A million load commands that nobody knows, and 95,000 sections."""
+    headers = [(b"__TEXT", b"__text", 4 * number, 4, 0, 2, CODE, 0, 0) for number in range(95_000)]
+    return object_of(headers, RETURN, b"", [MAIN], None, pack("<II", 0x7F, 8) * 1_000_000, 1_000_000)
+
+
 def sections():
     """255 sections of one name, each aligned to 16 KiB, with a pointer."""
     headers = [text_alone()]
@@ -143,10 +149,14 @@ CASES = {
     "reach": ("320 sections that share one table of 100,000 branches", lambda: branches(320), None, 240, 3_000),
     "pointers": ("200 sections that share one table of 100,000 pointers", lambda: shared(200, 100_000), None, 240, 3_000),
     "commands": ("2,000,000 load commands that nobody knows", commands, None, 20, 400),
+    "map": ("the map of 95,000 sections behind 1,000,000 load commands", mapped, None, 20, 400),
     "sections": ("255 sections of one name", sections, None, 20, 400),
     "pages": ("a chain of 65,535 pages, of an image of 1 GB", lambda: pages(2047, 31), None, 240, 3_000),
     "more-pages": ("a chain of 65,536 pages", lambda: pages(2048), "pages", 60, 400),
 }
+
+# What a case gives the linker beside its object.
+WORDS = {"map": ["-map"]}
 
 
 def run(words):
@@ -180,7 +190,7 @@ if __name__ == "__main__":
             subprocess.run([sys.executable, __file__, "--make", given, name], check=True)
             length = os.path.getsize(given)
             assert length <= LARGEST, f"{name} has {length} bytes"
-            status, line, took, peak = run([os.path.abspath(asked.program), "-o", out, given])
+            status, line, took, peak = run([os.path.abspath(asked.program), *WORDS.get(name, []), "-o", out, given])
             size = os.path.getsize(out) if os.path.exists(out) else 0
         answer = f"an image of {size / 1e6:.1f} MB" if status == 0 else line.replace(folder + "/", "")
         print(f"| {what} | {length / 1e6:.1f} MB | {answer[:100]} | {took:.1f} s, {peak} MB |", flush=True)

@@ -11,7 +11,9 @@ mod memory_files;
 mod memory_sink;
 mod numbers;
 mod output;
+mod read;
 mod real;
+mod write;
 
 pub use crate::file_system::{FileFault, Files};
 pub use crate::memory_files::{MemoryFiles, SteadyFiles};

@@ -29,15 +29,30 @@ fn run_length(long: usize) -> usize
     }
 }
 
-/// Of two runs that which fewer patterns share, of equals the longer one; an empty one only if both are.
-fn rarer<'a>(table: &PartTable, one: &'a [u8], other: &'a [u8]) -> &'a [u8]
-    ensures { (pattern : List ℕ) → IsRun one.now pattern → IsRun other.now pattern → IsRun result.now pattern }
+/// Some bytes of a pattern, and how many patterns were noted under them so far.
+#[derive(Clone, Copy)]
+pub(crate) struct Part<'a> {
+    pub(crate) bytes: &'a [u8],
+    pub(crate) sharing: usize,
+}
+
+/// Some bytes of a pattern, with the patterns of a table that were noted under them.
+fn part_of<'a>(table: &PartTable, bytes: &'a [u8]) -> Part<'a>
+    ensures { result.bytes.now ≡ bytes.now }
 {
-    let sharing_one = table.sharing(one);
-    let sharing_other = table.sharing(other);
-    let is_longer = sharing_other == sharing_one && other.len() > one.len();
-    let is_rarer = sharing_other < sharing_one || is_longer;
-    if one.is_empty() || (is_rarer && !other.is_empty()) {
+    Part {
+        bytes,
+        sharing: table.sharing(bytes),
+    }
+}
+
+/// Of two runs that which fewer patterns share, of equals the longer one; an empty one only if both are.
+fn rarer<'a>(one: Part<'a>, other: Part<'a>) -> Part<'a>
+    ensures { (pattern : List ℕ) → IsRun one.entry.bytes.now pattern → IsRun other.entry.bytes.now pattern → IsRun result.bytes.now pattern }
+{
+    let is_longer = other.sharing == one.sharing && other.bytes.len() > one.bytes.len();
+    let is_rarer = other.sharing < one.sharing || is_longer;
+    if one.bytes.is_empty() || (is_rarer && !other.bytes.is_empty()) {
         other
     } else {
         one
@@ -45,22 +60,26 @@ fn rarer<'a>(table: &PartTable, one: &'a [u8], other: &'a [u8]) -> &'a [u8]
 }
 
 /// The rarest of a run and those of some bytes between two stars.
-fn rarest_in<'a>(table: &PartTable, run: &'a [u8], between: &'a [u8]) -> &'a [u8]
-    ensures { (pattern : List ℕ) → IsRun run.now pattern → IsRun between.now pattern → IsRun result.now pattern }
+fn rarest_in<'a>(table: &PartTable, run: Part<'a>, between: &'a [u8]) -> Part<'a>
+    ensures { (pattern : List ℕ) → IsRun run.entry.bytes.now pattern → IsRun between.now pattern → IsRun result.bytes.now pattern }
 {
     let width = run_length(between.len());
     let mut rarest = run;
     for at in 0..between.len() - width + 1 {
-        rarest = rarer(table, rarest, &between[at..at + width]);
+        let other = part_of(table, &between[at..at + width]);
+        rarest = rarer(rarest, other);
     }
     rarest
 }
 
 /// The rarest run of a pattern, empty where no byte stands between two stars.
-fn rarest_run<'a>(table: &PartTable, pattern: &'a [u8]) -> &'a [u8]
-    ensures { IsRun result.now pattern.now }
+fn rarest_run<'a>(table: &PartTable, pattern: &'a [u8]) -> Part<'a>
+    ensures { IsRun result.bytes.now pattern.now }
 {
-    let mut rarest: &'a [u8] = &[];
+    let mut rarest: Part<'a> = Part {
+        bytes: &[],
+        sharing: 0,
+    };
     let Some(first) = memchr(b'*', pattern) else {
         return rarest;
     };
@@ -73,12 +92,12 @@ fn rarest_run<'a>(table: &PartTable, pattern: &'a [u8]) -> &'a [u8]
 }
 
 /// The part of a pattern that a table is to note it under.
-pub(crate) fn part_for<'a>(table: &PartTable, pattern: &'a [u8]) -> &'a [u8]
-    ensures { IsPart table.now.stands result.now pattern.now }
+pub(crate) fn part_for<'a>(table: &PartTable, pattern: &'a [u8]) -> Part<'a>
+    ensures { IsPart table.now.stands result.bytes.now pattern.now }
 {
     match table.stands {
-        Where::Front => front_of(pattern),
+        Where::Front => part_of(table, front_of(pattern)),
         Where::Anywhere => rarest_run(table, pattern),
-        Where::Back => back_of(pattern),
+        Where::Back => part_of(table, back_of(pattern)),
     }
 }

@@ -58,18 +58,20 @@ impl PatternTable {
         ensures kept { KeepsTables self.old self.new }
     {
         let first = part_for(&self.fronts, pattern);
-        let middle = part_for(&self.middles, pattern);
         let last = part_for(&self.backs, pattern);
-        let sharing_first = self.fronts.sharing(first);
-        let sharing_last = self.backs.sharing(last);
-        let is_last = first.is_empty() || (!last.is_empty() && sharing_last < sharing_first);
-        let sharing = if is_last { sharing_last } else { sharing_first };
-        if sharing >= MANY && !middle.is_empty() && self.middles.sharing(middle) < sharing {
-            self.middles.note(alloc, middle, number)
-        } else if is_last {
-            self.backs.note(alloc, last, number)
+        let is_rarer = !last.bytes.is_empty() && last.sharing < first.sharing;
+        let is_last = first.bytes.is_empty() || is_rarer;
+        let sharing = if is_last { last.sharing } else { first.sharing };
+        if sharing >= MANY {
+            let middle = part_for(&self.middles, pattern);
+            if !middle.bytes.is_empty() && middle.sharing < sharing {
+                return self.middles.note(alloc, middle.bytes, number);
+            }
+        }
+        if is_last {
+            self.backs.note(alloc, last.bytes, number)
         } else {
-            self.fronts.note(alloc, first, number)
+            self.fronts.note(alloc, first.bytes, number)
         }
     }
 

@@ -2,17 +2,19 @@
 --
 -- The list goes file by file: those of an object are numbered below its count, and no other file has one. So each section of the
 -- list is a section of an object among the inputs; and a part of the list has the same.
-use Rattle.std.proofs.Common.{◌≡◌, ℕ, suc, ◌+◌, ◌<◌, arith, refl, sym, subst, List, [], ◌∷◌, length, get_or, map, All}
+use Rattle.std.proofs.Common.{◌≡◌, ℕ, suc, ◌+◌, ◌<◌, arith, refl, sym, subst, List, [], ◌∷◌, length, get_or, map, All, ap, ◌∙◌}
 use Rattle.std.specs.List.{flat_map, enumerate_from, range_with_len}
 use Rattle.std.proofs.lemmas.List.{get_or-map, length-map}
 use Rattle.std.proofs.lemmas.List.Elements.{All-nil, All-append, All-filter, All-map, All-weaker}
 use Rattle.std.proofs.lemmas.List.FromFn.{length-range_with_len, get_or-range_with_len}
+use Rattle.macho_records.specs.declared.header.SectionHeader.{SectionHeader}
 use Rattle.macho_model.specs.declared.placed.PlacedSection.{PlacedSection}
 use Rattle.macho_model.specs.Links.{Link, SectionId, Input, Object, Dylib, Stub, no_input, is_carried, header_at, sections_of_file}
-use Rattle.macho_model.specs.Links.{sections_of, carried_of}
-use Rattle.macho_model.specs.Objects.{num_sections}
+use Rattle.macho_model.specs.Links.{sections_of, carried_of, object_bytes}
+use Rattle.macho_model.specs.Objects.{num_sections, section_at}
 use Rattle.macho_model.specs.Placement.{id_of}
-use Rattle.macho_report.specs.steps.Sections.{HasSection}
+use Rattle.macho_object.specs.Views.{FileBytes}
+use Rattle.macho_report.specs.steps.Sections.{HasSection, IsViewed}
 
 -- a section of one of these inputs, whose first has this number
 record IsAmong (inputs : List Input) (base : ℕ) (s : SectionId) : Type 0 where
@@ -84,3 +86,19 @@ placed-there l sections k q is within =
     let all : All (HasSection l) (map id_of sections) = subst (All (HasSection l)) (sym is) (carried-there l) in
     subst (HasSection l) (get_or-map id_of sections k q (id_of q) within)
     (all k (id_of q) (omega (arith, within, length-map sections id_of)))
+
+-- the view of its object has it, and its header
+viewed-bytes : (l : Link) (s : SectionId) (file : ℕ) (object : FileBytes) → file ≡ s.file → IsViewed l file object
+    → get_or l.inputs s.file no_input ≡ Object object.bytes
+viewed-bytes l s file object same viewed = subst (λ (n : ℕ). get_or l.inputs n no_input ≡ Object object.bytes) same viewed.is
+
+pub viewed-there : (l : Link) (s : SectionId) (file : ℕ) (object : FileBytes) → file ≡ s.file → IsViewed l file object → HasSection l s
+    → s.section < num_sections object.bytes
+viewed-there l s file object same viewed has =
+    let bytes : has.bytes ≡ object.bytes = ap object_bytes (sym has.object ∙ viewed-bytes l s file object same viewed) in
+    subst (λ (b : List ℕ). s.section < num_sections b) bytes has.within
+
+pub viewed-header : (l : Link) (s : SectionId) (file : ℕ) (object : FileBytes) (header : SectionHeader) → file ≡ s.file
+    → IsViewed l file object → header ≡ section_at object.bytes s.section → header ≡ header_at l s
+viewed-header l s file object header same viewed is =
+    is ∙ ap (λ (b : List ℕ). section_at b s.section) (sym (ap object_bytes (viewed-bytes l s file object same viewed)))

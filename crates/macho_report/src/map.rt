@@ -3,21 +3,23 @@
 //! A line tells a placed section: its address, its size, segment and name, and the path of its file, as in
 //! `0x0000000100000160 0x0000000000000010 __TEXT,__text main.o`.
 
-ghost use Rattle.std.specs.Prelude.{◌≡◌, [], ◌∷◌, codes, map};
+ghost use Rattle.std.specs.Prelude.{◌≡◌, ◌<◌, [], ◌∷◌, false, codes, map, IfSome};
 ghost use Rattle.std.specs.List.{flat_map};
-ghost use Rattle.macho_model.specs.Links.{header_at, carried_of};
+ghost use Rattle.macho_model.specs.Links.{Link, header_at, carried_of};
+ghost use Rattle.macho_model.specs.Objects.{num_sections, section_at};
 ghost use Rattle.macho_model.specs.Placement.{id_of};
 ghost use Rattle.macho_job.specs.Names.{names_of};
 ghost use Rattle.macho_report.specs.Lines.{hex_text, map_line};
 ghost use Rattle.macho_report.specs.Printing.{IsPrinted};
 ghost use Rattle.macho_report.specs.steps.Pushes.{IsPushed};
-ghost use Rattle.macho_report.specs.steps.Sections.{HasSection};
+ghost use Rattle.macho_report.specs.steps.Sections.{HasSection, IsViewed};
 
 use crate::line_buffer::LineBuffer;
 use crate::pieces::{Piece, push_pieces};
 use macho_devices::{Sink, SinkFault};
 use macho_job::{FileNames, InputView, Linker};
 use macho_layout::PlacedSection;
+use macho_object::File;
 use macho_records::{SectionHeader, name_bytes};
 
 /// Prints a line for each placed section. Where the sink fails, nothing more is printed.
@@ -36,7 +38,15 @@ pub(crate) fn print_map<O: Sink>(
     lines.flush(out)
 }
 
-// The lines of the placed sections, one behind the other.
+// A view of an object, with the number of its file.
+#[derive(Drop)]
+struct Viewed<'a> {
+    file: u32,
+    object: File<'a>,
+}
+
+// The lines of the placed sections, one behind the other. Those of a file stand together, and each view of it takes a walk over its
+// load commands, so the last one is kept.
 fn push_sections<O: Sink>(
     lines: &mut LineBuffer,
     out: &mut O,
@@ -49,26 +59,70 @@ fn push_sections<O: Sink>(
         lines.old.held.items lines.new.held.items
         (flat_map (map_line linker.now (names_of names.now)) sections.now) result }
 {
+    let mut last = None;
     for index in 0..sections.len() {
         let section = &sections[index];
-        push_section(lines, out, linker, names, section)?;
+        let viewed = view_of(linker, section, last);
+        let header = header_of(&viewed.object, section);
+        push_section(lines, out, names, section, header)?;
+        last = Some(viewed);
     }
     Ok(())
 }
 
-// The line of a placed section.
+// The view of a placed section's object: the last one, if it is of that file.
+fn view_of<'a>(linker: &'a Linker, section: &PlacedSection, last: Option<Viewed<'a>>) -> Viewed<'a>
+    requires there { HasSection linker.now (id_of section.now) }
+    requires last { IfSome last (λ viewed. IsViewed linker.now viewed.file viewed.object) }
+    ensures file { result.file ≡ section.now.file }
+    ensures viewed { IsViewed linker.now result.file result.object }
+{
+    if let Some(viewed) = last {
+        if viewed.file == section.file {
+            return viewed;
+        }
+    }
+    Viewed {
+        file: section.file,
+        object: object_of(linker, section),
+    }
+}
+
+// The object of a placed section, viewed anew.
+fn object_of<'a>(linker: &'a Linker, section: &PlacedSection) -> File<'a>
+    requires { HasSection linker.now (id_of section.now) }
+    ensures { IsViewed linker.now section.now.file result }
+{
+    match linker.input(section.file) {
+        Some(InputView::Object(file)) => file,
+        _ => unreachable!(),
+    }
+}
+
+// The header of a placed section in its object.
+fn header_of(object: &File<'_>, section: &PlacedSection) -> SectionHeader
+    requires kind { object.now.is_dynamic ≡ false }
+    requires there { section.now.section < num_sections object.now.bytes }
+    ensures { result ≡ section_at object.now.bytes section.now.section }
+{
+    match object.section(section.section) {
+        Some(header) => header,
+        None => unreachable!(),
+    }
+}
+
+// The line of a placed section with this header.
 fn push_section<O: Sink>(
     lines: &mut LineBuffer,
     out: &mut O,
-    linker: &Linker,
     names: &FileNames,
     section: &PlacedSection,
+    header: SectionHeader,
 ) -> Result<(), SinkFault>
-    requires { HasSection linker.now (id_of section.now) }
-    ensures { IsPushed (O.taken out.old) (O.taken out.new) (O.faults out.old) (O.faults out.new)
-        lines.old.held.items lines.new.held.items (map_line linker.now (names_of names.now) section.now) result }
+    ensures { (l : Link) → header ≡ header_at l (id_of section.now)
+        → IsPushed (O.taken out.old) (O.taken out.new) (O.faults out.old) (O.faults out.new)
+        lines.old.held.items lines.new.held.items (map_line l (names_of names.now) section.now) result }
 {
-    let header = header_of(linker, section);
     let segment = name_bytes(&header.segname);
     let name = name_bytes(&header.sectname);
     let path = names.path(section.file);
@@ -111,20 +165,4 @@ fn push_row<'a, O: Sink>(
         Piece::Text(b"\n"),
     ];
     push_pieces(lines, out, &pieces)
-}
-
-// The header of a placed section in its object.
-fn header_of(linker: &Linker, section: &PlacedSection) -> SectionHeader
-    requires { HasSection linker.now (id_of section.now) }
-    ensures { result ≡ header_at linker.now (id_of section.now) }
-{
-    match linker.input(section.file) {
-        Some(InputView::Object(file)) => {
-            match file.section(section.section) {
-                Some(header) => header,
-                None => unreachable!(),
-            }
-        }
-        _ => unreachable!(),
-    }
 }

@@ -8,8 +8,10 @@ use Rattle.macho_structs.specs.declared.relocations.RelocationInfo.{RelocationIn
 use Rattle.macho_model.specs.Objects.{relocation_at}
 use Rattle.macho_model.specs.Fields.{is_pair}
 use Rattle.macho_survey.specs.declared.overlap.Hull.{Hull}
+use Rattle.macho_survey.specs.declared.overlap.Order.{Order}
+use Rattle.macho_survey.specs.declared.pairs.Seen.{Seen}
 use Rattle.macho_survey.specs.steps.Windows.{window_in, ends, tests_before}
-use Rattle.macho_survey.specs.steps.Overlaps.{field_end, shares, are_one, GoTogether, AreApart, IsInside, Holds, excludes, hull_with}
+use Rattle.macho_survey.specs.steps.Overlaps.{field_end, shares, are_one, GoTogether, AreApart, IsInside, Holds, excludes, hull_with, IsOrder}
 
 -- what stands outside shares no byte
 apart_by : (a e low high b f : ℕ) → low ≤ a → e ≤ high → (nat_le high b || nat_le f low) ≡ true → (nat_lt a f && nat_lt b e) ≡ false
@@ -43,7 +45,7 @@ partner b k i e q before last =
     let next : q + 1 ≡ i = omega arith in
     subst (λ n. are_one b k q n ≡ true) next (partner_at b k q (subst (λ n. ends (window_in b k n) ≡ true) (sym next) e))
 
-pub apart_more : (b : List ℕ) (k i : ℕ) (older hull : Hull) → AreApart b k i
+apart_more : (b : List ℕ) (k i : ℕ) (older hull : Hull) → AreApart b k i
     → ((q : ℕ) → q + 1 < i → IsInside older (relocation_at b k q)) → Holds b k hull i
     → excludes (if ends (window_in b k i) then older else hull) (relocation_at b k i) ≡ true → AreApart b k (i + 1)
 apart_more b k i older hull apart old all test = record { each = λ q r order below. by q r order (cases_lt r i) below }
@@ -62,7 +64,7 @@ apart_more b k i older hull apart old all test = record { each = λ q r order be
     by q r order (inr h) below = let same : i ≡ r = omega arith in
         subst (GoTogether b k q) same (new (ends (window_in b k i)) refl test q (omega (arith, order, same)))
 
-pub hull_more : (b : List ℕ) (k i : ℕ) (hull : Hull) → Holds b k hull i → Holds b k (hull_with hull (relocation_at b k i)) (i + 1)
+hull_more : (b : List ℕ) (k i : ℕ) (hull : Hull) → Holds b k hull i → Holds b k (hull_with hull (relocation_at b k i)) (i + 1)
 hull_more b k i hull all q below = by (cases_lt q i)
   where
     by : (q < i) ⊎ (i ≤ q) → IsInside (hull_with hull (relocation_at b k i)) (relocation_at b k q)
@@ -70,5 +72,34 @@ hull_more b k i hull all q below = by (cases_lt q i)
     by (inr h) = let same : i ≡ q = omega arith in
         subst (λ n. IsInside (hull_with hull (relocation_at b k i)) (relocation_at b k n)) same (omega arith, omega arith)
 
-pub none_apart : (b : List ℕ) (k : ℕ) → AreApart b k 0
+none_apart : (b : List ℕ) (k : ℕ) → AreApart b k 0
 none_apart b k = record { each = λ q r order below. absurd (omega (arith, below)) }
+
+-- what is known of no field, and of one more
+pub order_none : (b : List ℕ) (k : ℕ) (o : Order) → IsOrder b k 0 o
+order_none b k o = record {
+  older = λ q below. absurd (omega (arith, below));
+  hull = λ q below. absurd (omega (arith, below));
+  apart = λ e. none_apart b k;
+}
+
+pub order_more : (b : List ℕ) (k i : ℕ) (o new : Order) (seen : Seen) (outside : Bool) → seen ≡ window_in b k i
+    → outside ≡ excludes (if ends seen then o.older else o.hull) seen.this
+    → new.older ≡ o.hull → new.hull ≡ hull_with o.hull seen.this → new.are_apart ≡ (o.are_apart && outside)
+    → IsOrder b k i o → IsOrder b k (i + 1) new
+order_more b k i o new seen outside is test older hull apart known = record {
+  older = λ q below. subst (λ h. IsInside h (relocation_at b k q)) (sym older) (known.hull q (omega (arith, below)));
+  hull = subst (λ h. Holds b k h (i + 1)) (sym hull_here) (hull_more b k i o.hull known.hull);
+  apart = λ e. all o.are_apart outside refl refl (sym apart ∙ e);
+}
+  where
+    hull_here : new.hull ≡ hull_with o.hull (relocation_at b k i)
+    hull_here = hull ∙ ap (λ (s : Seen). hull_with o.hull s.this) is
+
+    test_here : outside ≡ excludes (if ends (window_in b k i) then o.older else o.hull) (relocation_at b k i)
+    test_here = test ∙ ap (λ (s : Seen). excludes (if ends s then o.older else o.hull) s.this) is
+
+    all : (old out : Bool) → o.are_apart ≡ old → outside ≡ out → (old && out) ≡ true → AreApart b k (i + 1)
+    all true true before out e = apart_more b k i o.older o.hull (known.apart before) known.older known.hull (sym test_here ∙ out)
+    all true false before out e = cc
+    all false out before here e = cc

@@ -76,14 +76,11 @@ impl Findings {
         }
     }
 
-    /// The findings with two relocations that overlap, if a section has such.
-    pub(crate) fn with_overlap(self, pair: Option<Pair>) -> Findings
-        ensures { result ≡ record self { overlap = first_of self.overlap pair } }
+    /// Notes two relocations that overlap, if a section has such.
+    pub(crate) fn note_overlap(&mut self, pair: Option<Pair>)
+        ensures { self.new ≡ record self.old { overlap = first_of self.old.overlap pair } }
     {
-        Findings {
-            overlap: self.overlap.or(pair),
-            ..self
-        }
+        self.overlap = self.overlap.or(pair);
     }
 
     /// Notes a pointer whose addend doesn't fit, if there is one.

@@ -1,12 +1,12 @@
 //! Which relocations of a section share a byte. Where their places rise or fall, as compilers list them, each stands outside
 //! what those before it lie in; else a table tells for each byte which relocation has it.
-ghost use Rattle.std.specs.Prelude.{◌≡◌, ℕ, ◌+◌, ◌^◌, ◌<◌, ◌&&◌, ◌||◌, ◌==◌, nat_le, nat_eq, true, false, if◌then◌else◌, IfOk, IfSome};
+ghost use Rattle.std.specs.Prelude.{◌≡◌, ℕ, List, ◌+◌, ◌^◌, ◌<◌, ◌&&◌, ◌||◌, ◌==◌, nat_le, nat_eq, true, false, if◌then◌else◌, IfOk, IfSome};
 ghost use Rattle.std.specs.Bool.{OnTrue};
 ghost use Rattle.indexmap.specs.IndexMap.{get};
 ghost use Rattle.macho_structs.specs.Relocations.{BitsFit};
 ghost use Rattle.macho_model.specs.Objects.{section_at, relocation_at};
 ghost use Rattle.macho_survey.specs.steps.Windows.{ends, window_in};
-ghost use Rattle.macho_survey.specs.steps.Overlaps.{field_end, excludes, hull_with, AreApart, IsFoundIn, PutsOrTaken};
+ghost use Rattle.macho_survey.specs.steps.Overlaps.{field_end, excludes, hull_with, AreApart, IsOrder, IsFoundIn, PutsOrTaken};
 
 use crate::pairs::Seen;
 use indexmap::IndexMap;
@@ -57,32 +57,55 @@ impl Hull {
             high: self.high.max(field_end(rel)),
         }
     }
-
-    /// The other hull where `takes` holds, else this one.
-    fn or(self, other: Hull, takes: bool) -> Hull
-        ensures { result ≡ (if takes then other else self) }
-    {
-        if takes { other } else { self }
-    }
 }
 
-/// Whether each field of a section stands outside what those before it lie in, but for the partner of a pair.
-fn are_in_order(list: &RelocationList<'_>) -> bool
-    ensures { OnTrue result (AreApart list.now.bytes list.now.section (section_at list.now.bytes list.now.section).nreloc) }
-{
-    let mut older = Hull::EMPTY;
-    let mut hull = Hull::EMPTY;
-    let mut last = None;
-    for index in 0..list.num_relocations() {
-        let seen = Seen::of(list, index, last);
-        if !hull.or(older, seen.ends_pair()).excludes(seen.this) {
-            return false;
+/// The fields of a section that were seen so far, as far as it shows that they are apart.
+#[derive(Clone, Copy)]
+pub(crate) struct Order {
+    /// The hull of all but the last one.
+    pub(crate) older: Hull,
+    /// The hull of all.
+    pub(crate) hull: Hull,
+    /// Whether each stood outside the hull of those before it, but for the partner of a pair.
+    pub(crate) are_apart: bool,
+}
+
+impl Order {
+    /// No field was seen.
+    pub(crate) fn new() -> Order
+        ensures { (b : List ℕ) (k : ℕ) → IsOrder b k 0 result }
+    {
+        Order {
+            older: Hull::EMPTY,
+            hull: Hull::EMPTY,
+            are_apart: true,
         }
-        older = hull;
-        hull = hull.with(seen.this);
-        last = Some(seen);
     }
-    true
+
+    /// Whether a field stands outside the hull of those before it; the second of a pair, of those before its partner.
+    fn excludes(self, seen: Seen) -> bool
+        requires { seen.this.r_length < 4 }
+        ensures { result ≡ excludes (if ends seen then self.older else self.hull) seen.this }
+    {
+        if seen.ends_pair() {
+            self.older.excludes(seen.this)
+        } else {
+            self.hull.excludes(seen.this)
+        }
+    }
+
+    /// The same with one relocation more.
+    pub(crate) fn followed_by(self, seen: Seen) -> Order
+        requires { seen.this.r_length < 4 }
+        ensures { (b : List ℕ) (k i : ℕ) → seen ≡ window_in b k i → IsOrder b k i self → IsOrder b k (i + 1) result }
+    {
+        let stands_outside = self.excludes(seen);
+        Order {
+            older: self.hull,
+            hull: self.hull.with(seen.this),
+            are_apart: self.are_apart && stands_outside,
+        }
+    }
 }
 
 /// Whether an earlier relocation is the one before, as the first of a pair is.
@@ -157,14 +180,17 @@ fn overlap_by_table(
     Ok(None)
 }
 
-/// The first relocation of a section that shares a byte with an earlier one, and that one, but for pairs.
+/// The first relocation of a section that shares a byte with an earlier one, and that one, but for pairs. It is sought where all
+/// weren't seen to be apart.
 pub(crate) fn first_overlap(
     alloc: Global,
     list: &RelocationList<'_>,
+    are_apart: bool,
 ) -> Result<Option<(u32, u32)>, AllocError>
+    requires { OnTrue are_apart (AreApart list.now.bytes list.now.section (section_at list.now.bytes list.now.section).nreloc) }
     ensures { IfOk result (IsFoundIn list.now.bytes list.now.section) }
 {
-    if are_in_order(list) {
+    if are_apart {
         return Ok(None);
     }
     overlap_by_table(alloc, list)

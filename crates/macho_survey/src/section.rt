@@ -1,6 +1,7 @@
 //! The relocations of one carried section, looked at one by one.
 ghost use Rattle.std.specs.Prelude.{◌≡◌, ℕ, ◌+◌, ◌-◌, ◌%◌, ◌^◌, ◌<◌, ◌≤◌, ◌++◌, ◌∷◌, [], ◌==◌, if◌then◌else◌};
-ghost use Rattle.std.specs.Prelude.{Some, None, true, false, List, length, Contains, OnOk, IfErr};
+ghost use Rattle.std.specs.Prelude.{Some, None, true, false, List, length, Contains, OnOk, IfOk, IfErr};
+ghost use Rattle.std.specs.Bool.{OnTrue};
 ghost use Rattle.macho_bytes.specs.Numbers.{le_at};
 ghost use Rattle.macho_records.specs.declared.constants.TheConstants.{ARM64_RELOC_UNSIGNED};
 ghost use Rattle.macho_structs.specs.Relocations.{BitsFit};
@@ -16,11 +17,12 @@ ghost use Rattle.macho_parts.specs.Noted.{BeginsWith};
 ghost use Rattle.macho_needs.specs.Noted.{IsNext};
 ghost use Rattle.macho_survey.specs.steps.Found.{IsSurveyed};
 ghost use Rattle.macho_survey.specs.steps.Windows.{window_in};
+ghost use Rattle.macho_survey.specs.steps.Overlaps.{AreApart};
 ghost use Rattle.macho_survey.specs.steps.Sections.{is_plain, IsSectionOf, relocations_of, HasRows, id_of, counted_from, addend_by, pointer_at};
 ghost use Rattle.macho_survey.specs.steps.Sections.{bad_addend, misplaced, judged, pair_of, HasObject, IsCarriedAt};
 
 use crate::findings::{Addend, Findings, Pair, Place};
-use crate::overlap::first_overlap;
+use crate::overlap::{Order, first_overlap};
 use crate::pairs::Seen;
 use crate::rows::is_supported;
 use macho_faults::LinkError;
@@ -179,7 +181,7 @@ fn survey_relocation(
     Ok(())
 }
 
-/// Looks at all relocations of a section, in the order of its table.
+/// Looks at all relocations of a section, in the order of its table, and answers whether all were seen to be apart.
 fn survey_relocations(
     needs: &mut Needs<'_>,
     findings: &mut Findings,
@@ -187,7 +189,7 @@ fn survey_relocations(
     list: &RelocationList<'_>,
     bytes: &[u8],
     at: Section,
-) -> Result<(), LinkError>
+) -> Result<bool, LinkError>
     requires section { IsSectionOf object.now bytes.now at }
     requires list { list.now ≡ relocations_of object.now at }
     requires rows { HasRows needs.old.resolved.files at.file object.now.bytes }
@@ -199,14 +201,18 @@ fn survey_relocations(
         → Contains (carried_of l) (id_of at)
         → BeginsWith l (us ++ carried_uses l (id_of at)) → IsSurveyed l ss us needs.old findings.old → IfErr result (Stands l counts) }
     ensures kept { (inputs : List Input) → Keeps inputs needs.old.resolved.files → Keeps inputs needs.new.resolved.files }
+    ensures apart { IfOk result (λ are_apart. OnTrue are_apart
+        (AreApart list.now.bytes list.now.section (section_at list.now.bytes list.now.section).nreloc)) }
 {
+    let mut order = Order::new();
     let mut last = None;
     for index in 0..list.num_relocations() {
         let seen = Seen::of(list, index, last);
         survey_relocation(needs, findings, object, bytes, at, index, seen)?;
+        order = order.followed_by(seen);
         last = Some(seen);
     }
-    Ok(())
+    Ok(order.are_apart)
 }
 
 /// Two relocations of a section that overlap, if there are such.
@@ -224,7 +230,7 @@ fn pair(at: Section, told: Option<(u32, u32)>) -> Option<Pair>
     }
 }
 
-/// Looks at a carried section: which of its relocations overlap, then each of them.
+/// Looks at a carried section: at each of its relocations, then which of them overlap.
 pub(crate) fn survey_section(
     alloc: Global,
     needs: &mut Needs<'_>,
@@ -247,7 +253,8 @@ pub(crate) fn survey_section(
     let Some(bytes) = object.section_bytes(at.section) else {
         unreachable!()
     };
-    let told = first_overlap(alloc, &list)?;
-    *findings = findings.with_overlap(pair(at, told));
-    survey_relocations(needs, findings, object, &list, bytes, at)
+    let are_apart = survey_relocations(needs, findings, object, &list, bytes, at)?;
+    let told = first_overlap(alloc, &list, are_apart)?;
+    findings.note_overlap(pair(at, told));
+    Ok(())
 }

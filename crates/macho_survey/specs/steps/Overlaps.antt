@@ -4,6 +4,7 @@ use Rattle.macho_structs.specs.declared.relocations.RelocationInfo.{RelocationIn
 use Rattle.macho_model.specs.Objects.{section_at, relocation_at}
 use Rattle.macho_model.specs.Fields.{is_pair}
 use Rattle.macho_survey.specs.declared.overlap.Hull.{Hull}
+use Rattle.macho_survey.specs.declared.overlap.Order.{Order}
 
 -- the end of a relocation's field
 abbrev pub field_end : RelocationInfo → ℕ
@@ -38,6 +39,12 @@ excludes h rel = nat_le h.high rel.r_address || nat_le (field_end rel) h.low
 
 abbrev pub hull_with : Hull → RelocationInfo → Hull
 hull_with h rel = record { low = min h.low rel.r_address; high = max h.high (field_end rel) }
+
+-- what is known of the first n: where all lie, where all but the last do, and that all are apart where it shows
+pub record IsOrder (b : List ℕ) (k n : ℕ) (o : Order) : Type 0 where
+  pub older : (q : ℕ) → q + 1 < n → IsInside o.older (relocation_at b k q)
+  pub hull : Holds b k o.hull n
+  pub apart : o.are_apart ≡ true → AreApart b k n
 
 -- Two relocations of section k share a byte, and are no pair.
 pub record Overlaps (b : List ℕ) (k q r : ℕ) : Type 0 where

@@ -3,4 +3,4 @@ use Rattle.macho_exports.specs.steps.Ends.{IsRun}
 use Rattle.macho_exports.proofs.chosen.rarest_in.Given as goal
 
 abbrev pub invariant-loop-at : goal.invariant-loop-at
-invariant-loop-at l = (pattern : List ℕ) → IsRun l.run pattern → IsRun l.between pattern → IsRun l.rarest pattern
+invariant-loop-at l = (pattern : List ℕ) → IsRun l.run.bytes.now pattern → IsRun l.between pattern → IsRun l.rarest.bytes.now pattern

@@ -1,6 +1,7 @@
 -- The relocations so far are the first ones of the table; each that comes is the next one in the walk, and is known by what was seen
--- last.
-use Rattle.std.proofs.Common.{◌<◌, ◌≤◌, List, ◌++◌, take, refl, sym, ap, ◌∙◌, subst, append-nil, arith}
+-- last. Where each stood apart from those before it, all are apart in the end.
+use Rattle.std.proofs.Common.{◌≡◌, ◌<◌, ◌≤◌, List, ◌++◌, take, refl, sym, ap, ◌∙◌, subst, append-nil, arith}
+use Rattle.std.proofs.lemmas.Bool.{OnTrue_from}
 use Rattle.std.proofs.lemmas.Result.{err_from_is_err_and}
 use Rattle.macho_model.specs.Objects.{section_at}
 use Rattle.macho_model.specs.Links.{header_at}
@@ -9,6 +10,7 @@ use Rattle.macho_object.specs.Views.{RelocationBytes}
 use Rattle.macho_parts.specs.Noted.{imports_in}
 use Rattle.macho_survey.specs.steps.Found.{IsSurveyed}
 use Rattle.macho_survey.specs.steps.Windows.{window_in}
+use Rattle.macho_survey.specs.steps.Overlaps.{AreApart}
 use Rattle.macho_survey.specs.steps.Sections.{id_of}
 use Rattle.macho_survey.proofs.Walking.{next_is, next_there, uses_more, uses_long, all_taken, rows_kept}
 use Rattle.macho_survey.proofs.section.survey_relocations.Goals as goal
@@ -18,6 +20,7 @@ loop-index-init c = record {
   surveyed = λ l ss us object carried begins is. subst (λ (ws : List Use). IsSurveyed l ss ws c.args.needs.now c.args.findings.now)
       (sym (append-nil us)) is;
   last = record { is = refl; bits = tt };
+  order = c.new-order.ensures c.args.list.now.bytes c.args.list.now.section;
   kept = λ inputs keeps. keeps;
 }
 
@@ -49,6 +52,8 @@ loop-index-preserved c = record {
       subst (λ (ws : List Use). IsSurveyed l ss ws c.survey_relocation.new.needs c.survey_relocation.new.findings)
       (uses_more l us s c.loop-index.index below) more;
   last = c.of-seen.ensures.last;
+  order = c.followed_by-order.ensures c.args.list.now.bytes c.args.list.now.section c.loop-index.index c.of-seen.ensures.seen
+      c.loop-index.invariant.order;
   kept = λ inputs keeps. c.in_ok-survey_relocation.ensures.kept inputs (c.loop-index.invariant.kept inputs keeps);
 }
 
@@ -76,3 +81,10 @@ returns-clause-surveyed c l ss us object carried begins is =
     subst (λ (ws : List Use). IsSurveyed l ss (us ++ ws) c.loop-index.needs c.loop-index.findings)
     (all_taken c.loop-index.index (carried_uses l s) (omega (arith, past_here, uses_long l s)))
     (c.loop-index.invariant.surveyed l ss us object carried begins is)
+
+pub returns-clause-apart : goal.returns-clause-apart
+returns-clause-apart c =
+    let b = c.args.list.now.bytes in
+    let k = c.args.list.now.section in
+    let end : c.loop-index.index ≡ (section_at b k).nreloc = omega arith in
+    OnTrue_from c.loop-index.order.are_apart _ (λ e. subst (AreApart b k) end (c.loop-index.invariant.order.apart e))

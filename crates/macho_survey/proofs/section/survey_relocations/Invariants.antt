@@ -5,6 +5,7 @@ use Rattle.macho_names.specs.Kept.{Keeps}
 use Rattle.macho_parts.specs.Noted.{BeginsWith}
 use Rattle.macho_survey.specs.steps.Found.{IsSurveyed}
 use Rattle.macho_survey.specs.steps.Windows.{IsLast}
+use Rattle.macho_survey.specs.steps.Overlaps.{IsOrder}
 use Rattle.macho_survey.specs.steps.Sections.{id_of}
 use Rattle.macho_survey.proofs.section.survey_relocations.Given as goal
 
@@ -16,5 +17,6 @@ invariant-loop-index v =
           → BeginsWith l (us ++ carried_uses l (id_of v.at)) → IsSurveyed l ss us v.initial.needs v.initial.findings
           → IsSurveyed l ss (us ++ take v.index (carried_uses l (id_of v.at))) v.needs v.findings;
       last : IsLast v.list.bytes v.list.section v.index v.last;
+      order : IsOrder v.list.bytes v.list.section v.index v.order;
       kept : (inputs : List Input) → Keeps inputs v.initial.needs.resolved.files → Keeps inputs v.needs.resolved.files;
     }

@@ -1,0 +1,5 @@
+use Rattle.std.specs.Io.KnownBytes.{Keeps}
+use Rattle.macho_devices.proofs.read.read_once.Given as goal
+
+abbrev pub invariant-loop : goal.invariant-loop
+invariant-loop g l = Keeps (g.F.Read.remaining l.initial.file) (g.F.Read.remaining l.file)

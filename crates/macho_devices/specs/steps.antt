@@ -1,0 +1,2 @@
+-- The steps of the devices.
+pub mod Beside
