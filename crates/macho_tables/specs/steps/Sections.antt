@@ -1,11 +1,12 @@
 -- The number of an output section, as the headers of a placement tell it: that of the first header of a segment, name and type that is no
 -- section of the linker's own.
-use Rattle.std.specs.Prelude.{ℕ, ◌+◌, ◌==◌, nat_lt, ◌&&◌, ◌||◌, not, if◌then◌else◌, Bool, false, List, [], ◌∷◌, length, map, Option}
-use Rattle.std.specs.Prelude.{Some, None}
+use Rattle.std.specs.Prelude.{◌≡◌, ℕ, ◌+◌, ◌==◌, nat_lt, ◌&&◌, ◌||◌, not, if◌then◌else◌, Bool, false, List, [], ◌∷◌, length, map}
+use Rattle.std.specs.Prelude.{Option, Some, None, unwrap_or}
 use Rattle.std.specs.List.{position_or_len, range_with_len}
 use Rattle.std.specs.Str.{bytes_eq}
 use Rattle.macho_bytes.specs.Texts.{name_of}
 use Rattle.macho_records.specs.declared.header.SectionHeader.{SectionHeader}
+use Rattle.macho_records.specs.Sections.{type_of}
 use Rattle.macho_records.specs.Symbols.{is_common_of}
 use Rattle.macho_model.specs.declared.placed.Range64.{Range64}
 use Rattle.macho_model.specs.declared.placed.Slot.{Slot}
@@ -14,11 +15,16 @@ use Rattle.macho_model.specs.Segments.{TEXT, DATA_CONST, OutputKey, same_key, ke
 use Rattle.macho_model.specs.Placement.{Placed}
 use Rattle.macho_object.specs.Views.{FileBytes, section_count, of_section, of_symbol_section, section_index_of}
 use Rattle.macho_linkedit.specs.declared.listing.LinkedObject.{LinkedObject}
-use Rattle.macho_tables.specs.declared.sections.MergedBy.{MergedBy}
+use Rattle.macho_layout.specs.Keys.{padded}
+use Rattle.macho_layout.specs.declared.spec.OutputName.{OutputName}
+use Rattle.macho_tables.specs.declared.sections.SectionNumbers.{SectionNumbers}
 
--- what sections are merged by, without where the names lie
-abbrev pub key_seen : MergedBy → OutputKey
-key_seen m = record { segment = m.segment.now; name = m.name.now; type = m.kind }
+-- what sections of a segment, a name and a type are merged by, as tables hold it; and those of a header
+abbrev pub output_name : List ℕ → List ℕ → ℕ → OutputName
+output_name segment name kind = record { segment = padded segment; name = padded name; kind = kind }
+
+abbrev pub merged_name : SectionHeader → OutputName
+merged_name h = output_name h.segname h.sectname (type_of h)
 
 -- an output section of a segment begins at an address, and has bytes
 abbrev pub begins_at : SectionHeader → List ℕ → ℕ → Bool
@@ -48,6 +54,12 @@ number_or_none n length = if nat_lt n length then n + 1 else 0
 unfoldable pub number_told : Placed → OutputKey → ℕ
 number_told p key = number_or_none (position_or_len (is_of p key) p.output_sections) (length p.output_sections)
 
+-- a table finds the number of each output section by what is merged into it
+pub record FindsNumbers (p : Placed) (find : OutputName → Option ℕ) : Type 0 where
+  pub each : (segment name : List ℕ) (kind : ℕ)
+      → unwrap_or (find (output_name segment name kind)) 0
+      ≡ number_told p (record { segment = name_of segment; name = name_of name; type = kind })
+
 -- the section that a symbol of an object is defined in, as its view shows it
 abbrev pub header_with : FileBytes → Option ℕ → Option SectionHeader
 header_with f None = None
@@ -67,6 +79,11 @@ sections_told p f = map (λ k. number_with p (header_with f (Some k))) (range_wi
 -- the same for each object
 abbrev pub objects_told : Placed → List LinkedObject → List (List ℕ)
 objects_told p objects = map (λ o. sections_told p o.file) objects
+
+-- These are the numbers of the output sections of objects' sections, and of commons.
+pub record AreNumbers (p : Placed) (objects : List LinkedObject) (n : SectionNumbers) : Type 0 where
+  pub sections : map (λ numbers. numbers.items) n.objects.items ≡ objects_told p objects
+  pub commons : n.commons ≡ number_told p common_key
 
 -- the number of the output section that a symbol stands in
 abbrev pub section_told : Placed → FileBytes → ℕ → ℕ

@@ -64,13 +64,6 @@ row_of-row-requires-clause-size g c =
     (object_is some.0 c.args.objects.now s.file c.place_of-place.result c.index-objects-place.result some.2.objects_are
     c.place_of-place.ensures c.index-objects-place.is)
 
-pub row_of-row-requires-clause-told : goal.row_of-row-requires-clause-told
-row_of-row-requires-clause-told g c =
-    c.deref.ensures.value
-    ∙ numbers_of_object (placed_of c.args.placement.now) c.args.objects.now c.in_ok-numbers.numbers.items c.place_of-place.result
-    c.index-objects-place.result c.index.result.now c.in_ok-numbers.ensures c.place_of-place.ensures.within c.index-objects-place.is
-    c.index.ensures
-
 pub begin-table-requires : goal.begin-table-requires
 begin-table-requires g c = omega (arith, c.len.ensures, c.requires.room, c.requires.link.2.listed_are.strings_are)
 
@@ -86,8 +79,12 @@ push-requires g c =
     c.loop-symbol-test.true in
     let rests = row_rests some.0 some.1 p look c.args.objects.now c.args.listed.now (option_copied c.args.lists) c.place_of-place.result
     c.index-objects-place.result (id_of_symbol s) some.2 listed c.place_of-place.ensures c.index-objects-place.is in
+    let told = c.deref.ensures.value
+    ∙ numbers_of_object p c.args.objects.now c.in_ok-numbers.numbers.objects.items c.place_of-place.result c.index-objects-place.result
+    c.index.result.now c.in_ok-numbers.ensures.sections c.place_of-place.ensures.within c.index-objects-place.is c.index.ensures in
     let row = next_row some.0 some.1 p s c.args.objects.now c.place_of-place.result c.index-objects-place.result
-    (row_seen c.row_of-row.result) c.place_of-place.ensures c.index-objects-place.is (c.row_of-row.ensures some.0 some.1 rests.1) in
+    (row_seen c.row_of-row.result) c.place_of-place.ensures c.index-objects-place.is
+    (c.row_of-row.ensures some.0 some.1 p told c.in_ok-numbers.ensures.commons rests.1) in
     let room = row_fits some.0 some.1 p c.args.listed.now now n none (row_seen c.row_of-row.result) c.loop-symbol.table c.args.out.now
     c.loop-symbol.out some.2.listed_are c.requires.short c.requires.room c.as_slice-symbol-items.ensures.value c.loop-symbol-test.true row
     (c.loop-symbol.invariant some.0 some.1 some.2) in
@@ -108,10 +105,14 @@ loop-symbol-preserved g c l counts to =
     let listed = item_listed l c.args.listed.now now n none to.listed_are c.as_slice-symbol-items.ensures.value c.loop-symbol-test.true in
     let rests = row_rests l counts p look c.args.objects.now c.args.listed.now (option_copied c.args.lists) c.place_of-place.result
     c.index-objects-place.result (id_of_symbol s) to listed c.place_of-place.ensures c.index-objects-place.is in
+    let told = c.deref.ensures.value
+    ∙ numbers_of_object p c.args.objects.now c.in_ok-numbers.numbers.objects.items c.place_of-place.result c.index-objects-place.result
+    c.index.result.now c.in_ok-numbers.ensures.sections c.place_of-place.ensures.within c.index-objects-place.is c.index.ensures in
     table_more l counts p c.args.listed.now now n none (row_seen c.row_of-row.result) c.push.new.self c.args.out.now c.push.new.out
     c.as_slice-symbol-items.ensures.value c.loop-symbol-test.true
     (next_row l counts p s c.args.objects.now c.place_of-place.result c.index-objects-place.result (row_seen c.row_of-row.result)
-    c.place_of-place.ensures c.index-objects-place.is (c.row_of-row.ensures l counts rests.1))
+    c.place_of-place.ensures c.index-objects-place.is
+    (c.row_of-row.ensures l counts p told c.in_ok-numbers.ensures.commons rests.1))
     (c.push.ensures.written (length c.args.listed.now.symbols.items) (rows_to l counts p c.args.listed.now n) c.args.out.now
     (c.loop-symbol.invariant l counts to))
 
