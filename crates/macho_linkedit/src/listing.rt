@@ -6,6 +6,7 @@ ghost use Rattle.macho_model.specs.declared.placed.Counts.{Counts};
 ghost use Rattle.macho_model.specs.Placement.{Placed};
 ghost use Rattle.macho_linkedit.specs.TableRows.{row_of};
 ghost use Rattle.macho_linkedit.specs.Symbols.{row_seen};
+ghost use Rattle.macho_linkedit.specs.declared.listing.LinkedObject.{LinkedObject};
 ghost use Rattle.macho_model.specs.Objects.{num_symbols, strings_of, symbol_at, symbol_name};
 ghost use Rattle.macho_model.specs.Links.{Link, object_of};
 ghost use Rattle.macho_model.specs.SymbolTable.{is_in_table};
@@ -34,17 +35,13 @@ pub struct LinkedObject<'a> {
 
 impl<'a> LinkedObject<'a> {
     /// The name of a symbol, found by the bytes that it has: none of them is read.
-    pub fn name(&self, index: u32, size: u32) -> &'a [u8]
-        requires among { index < num_symbols self.now.file.bytes }
-        requires size { size ≡ length (symbol_name self.now.file.bytes index) }
-        ensures { result.now ≡ symbol_name self.now.file.bytes index }
+    pub fn name(&self, symbol: SymtabEntry, size: u32) -> &'a [u8]
+        requires { (index : ℕ) × (symbol ≡ symbol_at self.now.file.bytes index) × (size ≡ length (symbol_name self.now.file.bytes index)) }
+        ensures { (index : ℕ) → symbol ≡ symbol_at self.now.file.bytes index → result.now ≡ symbol_name self.now.file.bytes index }
     {
         if size == 0 {
             return &[];
         }
-        let Some(symbol) = self.file.symbol(index) else {
-            unreachable!()
-        };
         let at = symbol.n_strx as usize;
         &self.file.strings()[at..at + size as usize]
     }
@@ -170,23 +167,18 @@ pub fn table_symbols(
 
 /// The row of a symbol of an object under its name: its type as the object has it, at its place in the image.
 ///
-/// A global symbol that isn't listed for export is hidden, and a common has become a symbol of a section.
+/// A global symbol that isn't listed for export is hidden, and a common has become a symbol of a section. Of a local symbol
+/// `is_listed` isn't looked at.
 pub fn table_row<'a>(
-    object: &LinkedObject<'_>,
-    index: u32,
+    entry: SymtabEntry,
     name: &'a [u8],
     is_listed: bool,
     section: u8,
     address: u64,
 ) -> TableRow<'a>
-    requires object { object.now.file.is_dynamic ≡ false }
-    requires among { index < num_symbols object.now.file.bytes }
-    ensures { (l : Link) (counts : Counts) (p : Placed) → IsRowOf l counts p object.now index name.now is_listed section address
-        → row_seen result ≡ row_of l counts p (symbol_id object.now.number index) }
+    ensures { (l : Link) (counts : Counts) (p : Placed) (o : LinkedObject) (index : ℕ) → entry ≡ symbol_at o.file.bytes index
+        → IsRowOf l counts p o index name.now is_listed section address → row_seen result ≡ row_of l counts p (symbol_id o.number index) }
 {
-    let Some(entry) = object.file.symbol(index) else {
-        unreachable!()
-    };
     TableRow {
         name,
         kind: placed_type(entry, is_listed),

@@ -1,5 +1,5 @@
 //! The symbol table: a row for each symbol that was listed.
-ghost use Rattle.std.specs.Prelude.{◌≡◌, ℕ, ◌+◌, ◌*◌, ◌<◌, ◌≤◌, ◌^◌, List, length, All, OnOk};
+ghost use Rattle.std.specs.Prelude.{◌≡◌, ℕ, ◌+◌, ◌*◌, ◌<◌, ◌≤◌, ◌^◌, true, List, length, All, OnOk};
 ghost use Rattle.std.specs.Option.{option_copied};
 ghost use Rattle.macho_bytes.specs.Layouts.{size_of};
 ghost use Rattle.macho_records.specs.Layouts.{symtab_entry};
@@ -8,6 +8,7 @@ ghost use Rattle.macho_model.specs.Links.{Link};
 ghost use Rattle.macho_model.specs.Placement.{Placed};
 ghost use Rattle.macho_model.specs.Segments.{common_key};
 ghost use Rattle.macho_model.specs.Objects.{num_symbols, symbol_name};
+ghost use Rattle.macho_model.specs.Symbols.{is_global};
 ghost use Rattle.macho_model.specs.Exports.{is_listed};
 ghost use Rattle.macho_linkedit.specs.TableRows.{row_of, symbol_rows};
 ghost use Rattle.macho_layout.specs.Placements.{placed_of};
@@ -23,6 +24,8 @@ use macho_exports::ExportList;
 use macho_fields::{Places, address_of};
 use macho_layout::Placement;
 use macho_linkedit::{LinkedObject, SymbolWriter, TableRow, TableSymbol, TableSymbols, table_row};
+use macho_names::is_global;
+use macho_records::SymtabEntry;
 use std::alloc::{AllocError, Global};
 
 /// The place of the object of a number: the first whose number isn't below.
@@ -44,10 +47,13 @@ fn place_of(objects: &[LinkedObject<'_>], number: u32) -> usize
     low
 }
 
-/// Whether export lists contain a name, where there are any.
-fn is_listed(lists: Option<&ExportList>, name: &[u8]) -> bool
-    ensures { (l : Link) → AreLists l (option_copied lists.entry) → result ≡ is_listed l name.now }
+/// Whether export lists contain the name of a global symbol, where there are any. Of another symbol none is asked.
+fn is_listed(lists: Option<&ExportList>, symbol: SymtabEntry, name: &[u8]) -> bool
+    ensures { (l : Link) → AreLists l (option_copied lists.entry) → is_global symbol ≡ true → result ≡ is_listed l name.now }
 {
+    if !is_global(symbol) {
+        return true;
+    }
     match lists {
         Some(list) => list.contains(name),
         None => true,
@@ -70,18 +76,14 @@ fn row_of<'a, P: Places>(
         → IsListed l counts p (P.look places.now) object.now symbol.symbol (option_copied lists.entry)
         → row_seen result ≡ row_of l counts p (symbol_id object.now.number symbol.symbol) }
 {
-    let index = symbol.symbol;
-    let name = object.name(index, symbol.length);
-    let section = section_of_symbol(object, index, numbers, commons);
-    let address = address_of(places, places.target(object.number, index));
-    table_row(
-        object,
-        index,
-        name,
-        is_listed(lists, name),
-        section,
-        address,
-    )
+    let Some(entry) = object.file.symbol(symbol.symbol) else {
+        unreachable!()
+    };
+    let name = object.name(entry, symbol.length);
+    let is_listed = is_listed(lists, entry, name);
+    let section = section_of_symbol(entry, numbers, commons);
+    let address = address_of(places, places.target(object.number, symbol.symbol));
+    table_row(entry, name, is_listed, section, address)
 }
 
 /// Writes the symbol table of a placed link at the front of a range, with a row for each listed symbol, in order. `listed` are the

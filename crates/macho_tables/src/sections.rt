@@ -7,26 +7,28 @@
 //! sections of an object     __text   __compact_unwind   __data
 //! their output sections          1                  0        4   ->   a symbol whose n_sect is 3 stands in output section 4
 //! ```
-ghost use Rattle.std.specs.Prelude.{◌≡◌, ◌<◌, ◌≤◌, nat_lt, ◌&&◌, false, length, map, unwrap_or, Some, IfOk};
+ghost use Rattle.std.specs.Prelude.{◌≡◌, ◌<◌, ◌≤◌, nat_lt, ◌&&◌, false, length, map, get_or, unwrap_or, Some, IfOk};
 ghost use Rattle.indexmap.specs.IndexMap.{get};
 ghost use Rattle.macho_bytes.specs.Texts.{name_of};
 ghost use Rattle.macho_records.specs.declared.constants.TheConstants.{S_ZEROFILL};
-ghost use Rattle.macho_model.specs.Objects.{num_symbols};
 ghost use Rattle.macho_model.specs.Segments.{DATA, COMMON, common_key};
 ghost use Rattle.macho_model.specs.Placement.{Placed};
+ghost use Rattle.macho_object.specs.Views.{FileBytes};
 ghost use Rattle.macho_layout.specs.Keys.{same_output};
 ghost use Rattle.macho_layout.specs.Placements.{placed_of};
 ghost use Rattle.macho_tables.specs.steps.Sections.{begins_at, fills, holds_slots, is_made, output_name, merged_name, FindsNumbers};
-ghost use Rattle.macho_tables.specs.steps.Sections.{number_told, number_with, header_with, symbol_header, section_told};
+ghost use Rattle.macho_tables.specs.steps.Sections.{number_told, number_with, header_with, section_told};
 ghost use Rattle.macho_tables.specs.steps.Sections.{sections_told, objects_told, AreNumbers};
 
 use indexmap::IndexMap;
 use macho_layout::{OutputName, Placement};
 use macho_linkedit::LinkedObject;
 use macho_model::{Range64, Slot};
-use macho_names::is_common;
+use macho_names::{is_absolute, is_common};
 use macho_object::File;
-use macho_records::{S_ZEROFILL, SectionFlags, SectionHeader, SegmentName, name_bytes};
+use macho_records::{
+    S_ZEROFILL, SectionFlags, SectionHeader, SegmentName, SymtabEntry, name_bytes,
+};
 use std::alloc::{AllocError, Global};
 
 /// The numbers of the output sections that the sections of some objects, and commons, are merged into; 0 where there is none.
@@ -186,33 +188,27 @@ pub(crate) fn section_numbers(
     })
 }
 
-/// The number of the output section that a symbol is defined in, by those of its object's sections; 0 for a value of its own.
-fn number_of_symbol(file: &File<'_>, index: u32, numbers: &[u8]) -> u8
-    ensures { (p : Placed) → numbers.now ≡ sections_told p file.now → result ≡ number_with p (symbol_header file.now index) }
+/// The number at a place; 0 past the end.
+fn number_at(numbers: &[u8], place: usize) -> u8
+    ensures { result ≡ get_or numbers.now place 0 }
 {
-    match file.symbol_section(index) {
-        Some(section) if (section as usize) < numbers.len() => numbers[section as usize],
-        _ => 0,
+    match numbers.get(place) {
+        Some(number) => *number,
+        None => 0,
     }
 }
 
 /// The number of the output section that a symbol of an object stands in, by those of the object's sections and that of commons; 0 for a
 /// value of its own.
-pub(crate) fn section_of_symbol(
-    object: &LinkedObject<'_>,
-    index: u32,
-    numbers: &[u8],
-    commons: u8,
-) -> u8
-    requires { index < num_symbols object.now.file.bytes }
-    ensures { (p : Placed) → numbers.now ≡ sections_told p object.now.file → commons ≡ number_told p common_key
-        → result ≡ section_told p object.now.file index }
+pub(crate) fn section_of_symbol(symbol: SymtabEntry, numbers: &[u8], commons: u8) -> u8
+    ensures { (p : Placed) (f : FileBytes) → numbers.now ≡ sections_told p f → commons ≡ number_told p common_key
+        → result ≡ section_told p f symbol }
 {
-    let Some(symbol) = object.file.symbol(index) else {
-        unreachable!()
-    };
     if is_common(symbol) {
         return commons;
     }
-    number_of_symbol(&object.file, index, numbers)
+    if is_absolute(symbol) {
+        return 0;
+    }
+    number_at(numbers, symbol.n_sect.saturating_sub(1) as usize)
 }
