@@ -47,6 +47,18 @@ fn place_of(objects: &[LinkedObject<'_>], number: u32) -> usize
     low
 }
 
+/// The place of the object of a number, where that of the row before mostly is.
+fn place_from(objects: &[LinkedObject<'_>], last: usize, number: u32) -> usize
+    requires rise { NumbersRise objects.now }
+    requires there { HasNumber objects.now number }
+    ensures { IsObjectAt objects.now number result }
+{
+    match objects.get(last) {
+        Some(object) if object.number == number => last,
+        _ => place_of(objects, number),
+    }
+}
+
 /// Whether export lists contain the name of a global symbol, where there are any. Of another symbol none is asked.
 fn is_listed(lists: Option<&ExportList>, symbol: SymtabEntry, name: &[u8]) -> bool
     ensures { (l : Link) → AreLists l (option_copied lists.entry) → is_global symbol ≡ true → result ≡ is_listed l name.now }
@@ -114,8 +126,9 @@ pub fn write_symbol_table<P: Places>(
 {
     let numbers = section_numbers(alloc, placement, objects)?;
     let mut table = SymbolWriter::begin(listed.symbols.len(), out);
+    let mut place = 0;
     for symbol in listed.symbols.as_slice() {
-        let place = place_of(objects, symbol.file);
+        place = place_from(objects, place, symbol.file);
         let row = row_of(
             places,
             &objects[place],
