@@ -77,39 +77,42 @@ fn is_defined_symbol(file: &File<'_>, index: u32, symbol: SymtabEntry) -> bool
     symbol.n_strx != 0 && (in_carried(file, index) || is_absolute(symbol) || is_common(symbol))
 }
 
-/// The bytes of a symbol's name, where the symbol stands in the table. Only the name of a local symbol is read.
+/// The bytes of a symbol's name, where the symbol stands in the table. Only the name of a local symbol is read: the string table of an
+/// object without one isn't.
 fn listed_name(
+    alloc: Global,
     object: &LinkedObject<'_>,
-    names: &Names<'_>,
+    names: &mut Names<'_>,
     index: u32,
     resolved: &Resolved<'_>,
-) -> Option<u32>
+) -> Result<Option<u32>, AllocError>
     requires object { object.now.file.is_dynamic ≡ false }
-    requires names { AreNames (strings_of object.now.file.bytes) names.now }
+    requires names { AreNames (strings_of object.now.file.bytes) names.old }
     requires among { index < num_symbols object.now.file.bytes }
     requires known { HasSymbol resolved.now object.now.number index }
     ensures is { (l : Link) (noted : List (List ℕ)) → IsResolved l noted resolved.now
         → object_of l object.now.number ≡ object.now.file.bytes
-        → result ≡ name_length l (symbol_id object.now.number index) }
+        → IfOk result (λ size. size ≡ name_length l (symbol_id object.now.number index)) }
+    ensures kept { OnOk result (AreNames (strings_of object.now.file.bytes) names.new) }
 {
     let _object = object.file.is_dynamic();
     let Some(symbol) = object.file.symbol(index) else {
         unreachable!()
     };
     if !is_defined_symbol(&object.file, index, symbol) {
-        return None;
+        return Ok(None);
     }
     if is_global(symbol) {
         if !resolved.defines(object.number, index) {
-            return None;
+            return Ok(None);
         }
-        return Some(resolved.name_length(object.number, index));
+        return Ok(Some(resolved.name_length(object.number, index)));
     }
-    let name = names.name(symbol.n_strx);
+    let name = names.name(alloc, symbol.n_strx)?;
     if symbol.is_default_strippable(name) {
-        return None;
+        return Ok(None);
     }
-    Some(name.len() as u32)
+    Ok(Some(name.len() as u32))
 }
 
 /// Lists the symbols of an object behind the others.
@@ -128,9 +131,10 @@ fn list_object(
         (num_symbols object.now.file.bytes)) table.old table.new) }
     ensures room { OnOk result (table.new.strings ≤ table.old.strings + 2 ^ 32 * num_symbols object.now.file.bytes) }
 {
-    let names = Names::new(alloc, object.file.strings())?;
+    let mut names = Names::new(object.file.strings());
     for symbol in 0..object.file.num_symbols() {
-        if let Some(length) = listed_name(object, &names, symbol, resolved) {
+        let listed = listed_name(alloc, object, &mut names, symbol, resolved)?;
+        if let Some(length) = listed {
             table.symbols.push(TableSymbol {
                 file: object.number,
                 symbol,
