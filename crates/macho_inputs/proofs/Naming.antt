@@ -2,7 +2,8 @@
 --
 -- A name that is put into a set goes last, unless it is there: so the set's names are those given, each where it stood first.
 -- Whether an import asks for a library doesn't ask how often its name stands among those asked for. An import's library is
--- that of the file which defines its name: so the libraries asked for are those of the imported names.
+-- that of the file which defines its name: so the libraries asked for are those of the imported names. Where unused libraries stay, none
+-- is asked about.
 use Rattle.std.proofs.Common.{◌≡◌, ℕ, ◌+◌, ◌<◌, Bool, true, false, cond, not, ◌||◌, List, [], ◌∷◌, ◌++◌, length, get_or, take, map, filter, sym, ap, ◌∙◌, refl, suc, arith, Bor, Option}
 use Rattle.std.specs.List.{filter_map, list_any}
 use Rattle.std.specs.Str.{bytes_eq}
@@ -82,20 +83,28 @@ asked_are l imports are = by (imports_of l) imports are.long (λ k d lt. library
 
 -- a library is kept exactly where it is needed
 pub needed_are : (l : Link) (inputs : List Input) (imports : List Import) (dead : Bool) (asked : List (List ℕ)) → l.inputs ≡ inputs
-    → l.dead_strip_dylibs ≡ dead → ImportsAre l (imports_of l) imports → asked ≡ distinct bytes_eq (asked_of imports)
+    → l.dead_strip_dylibs ≡ dead → ImportsAre l (imports_of l) imports → (dead ≡ true → asked ≡ distinct bytes_eq (asked_of imports))
     → filter (is_kept dead asked) (distinct bytes_eq (filter_map library_of_input inputs)) ≡ libraries_needed l
 unfolding libraries_needed
 needed_are l inputs imports dead asked held strips are names =
     filter_agree (is_kept dead asked) (λ n. not l.dead_strip_dylibs || is_needed l n) same (distinct bytes_eq (filter_map library_of_input inputs))
     ∙ ap (λ (xs : List Input). filter (λ n. not l.dead_strip_dylibs || is_needed l n) (distinct bytes_eq (filter_map library_of_input xs))) (sym held)
   where
-    among : (n : List ℕ) → list_any (bytes_eq n) asked ≡ is_needed l n
-    among n =
-        ap (list_any (bytes_eq n)) names
+    among : (n : List ℕ) → dead ≡ true → list_any (bytes_eq n) asked ≡ is_needed l n
+    among n strip =
+        ap (list_any (bytes_eq n)) (names strip)
         ∙ any_distinct bytes_eq (bytes_eq n) (λ a b e. ap (bytes_eq n) ((bytes_eq-Decides a b).0 e)) (asked_of imports)
         ∙ ap (list_any (bytes_eq n)) (asked_are l imports are) ∙ any_map (bytes_eq n) (import_library l) (imports_of l)
         ∙ any_agree (λ (name : List ℕ). bytes_eq n (import_library l name)) (λ (name : List ℕ). bytes_eq (import_library l name) n)
         (λ name. same_bytes n (import_library l name)) (imports_of l)
 
     same : (n : List ℕ) → is_kept dead asked n ≡ (not l.dead_strip_dylibs || is_needed l n)
-    same n = ap (λ (b : Bool). not b || list_any (bytes_eq n) asked) (sym strips) ∙ ap (λ (b : Bool). not l.dead_strip_dylibs || b) (among n)
+    same n = by dead refl
+      where
+        by : (b : Bool) → dead ≡ b → is_kept dead asked n ≡ (not l.dead_strip_dylibs || is_needed l n)
+        by true e =
+            ap (λ (b : Bool). not b || list_any (bytes_eq n) asked) (sym strips)
+            ∙ ap (λ (b : Bool). not l.dead_strip_dylibs || b) (among n e)
+        by false e =
+            ap (λ (b : Bool). not b || list_any (bytes_eq n) asked) e
+            ∙ sym (ap (λ (b : Bool). not b || is_needed l n) (strips ∙ e))

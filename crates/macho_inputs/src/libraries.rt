@@ -1,5 +1,5 @@
 //! The libraries that the image of a link needs.
-ghost use Rattle.std.specs.Prelude.{◌≡◌, map, filter, IfOk};
+ghost use Rattle.std.specs.Prelude.{◌≡◌, true, map, filter, IfOk};
 ghost use Rattle.macho_model.specs.Links.{Link};
 ghost use Rattle.macho_model.specs.Needs.{distinct, imports_of, libraries_needed};
 ghost use Rattle.std.specs.Str.{bytes_eq};
@@ -22,10 +22,17 @@ fn distinct_names<'a>(alloc: Global, names: &[&'a [u8]]) -> Result<IndexSet<&'a 
     Ok(set)
 }
 
-/// The install names that imports ask for, each once.
-fn asked_names(alloc: Global, imports: &[Import]) -> Result<IndexSet<&[u8]>, AllocError>
-    ensures { IfOk result (λ set. texts set.keys ≡ distinct bytes_eq (asked_of imports.now)) }
+/// The install names that imports ask for, each once. They are looked at only where unused libraries are left out.
+fn asked_names(
+    alloc: Global,
+    imports: &[Import],
+    dead_strip_dylibs: bool,
+) -> Result<IndexSet<&[u8]>, AllocError>
+    ensures { IfOk result (λ set. dead_strip_dylibs ≡ true → texts set.keys ≡ distinct bytes_eq (asked_of imports.now)) }
 {
+    if !dead_strip_dylibs {
+        return Ok(IndexSet::new(alloc));
+    }
     let mut names: Vec<&[u8]> = Vec::new(alloc);
     for import in imports {
         names.push(&import.library)?;
@@ -75,6 +82,6 @@ pub fn needed_libraries(
 {
     let names = symbols.libraries(alloc)?;
     let names = distinct_names(alloc, &names)?;
-    let asked = asked_names(alloc, symbols.imports())?;
+    let asked = asked_names(alloc, symbols.imports(), dead_strip_dylibs)?;
     kept_names(alloc, names.as_slice(), &asked, dead_strip_dylibs)
 }

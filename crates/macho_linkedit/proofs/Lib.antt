@@ -15,5 +15,6 @@ pub mod Exporting
 pub mod Rows
 pub mod SymbolsSaid
 pub mod Listed
+pub mod RowsMade
 pub mod Counted
 pub mod CanList

@@ -126,6 +126,11 @@ found_name n b k e name are entry defined is =
     is ∙ ap (λ (xs : List ℕ). name_of (drop e.n_strx xs)) are.strings_are
     ∙ ap (λ (x : SymtabEntry). name_of (drop x.n_strx (strings_of b))) entry ∙ named_is b k defined
 
+-- equal entries have equal names
+pub same_name : (b : List ℕ) (i k : ℕ) → symbol_at b i ≡ symbol_at b k → symbol_name b i ≡ symbol_name b k
+unfolding symbol_name
+same_name b i k same = ap (λ (e : SymtabEntry). if e.n_strx == 0 then [] else name_of (drop e.n_strx (strings_of b))) same
+
 -- a name of so many bytes, one or more, stands whole in the string table
 pub name_taken : (b : List ℕ) (k size : ℕ) → size ≡ length (symbol_name b k) → (size ≡ 0 → ⊥)
     → ((symbol_at b k).n_strx + size ≤ length (strings_of b))

@@ -1,7 +1,8 @@
 -- Which symbols of a link's objects stand in the symbol table, as they are listed before addresses are known.
-use Rattle.std.specs.Prelude.{◌≡◌, ℕ, ◌+◌, ◌<◌, ◌^◌, false, Bool, List, length, map, sum_by, All, Option, Some, None}
+use Rattle.std.specs.Prelude.{◌≡◌, ℕ, ◌+◌, ◌<◌, ◌^◌, true, false, Bool, List, length, map, sum_by, All, Option, Some, None}
 use Rattle.std.specs.List.{enumerate_from, filter_map}
-use Rattle.macho_model.specs.Objects.{num_symbols, symbol_name}
+use Rattle.macho_model.specs.Symbols.{is_global}
+use Rattle.macho_model.specs.Objects.{num_symbols, symbol_at, symbol_name}
 use Rattle.macho_model.specs.Links.{Input, Object, Dylib, Stub, Link, object_of}
 use Rattle.macho_model.specs.Resolution.{SymbolId, name_at}
 use Rattle.macho_model.specs.SymbolTable.{table_symbols}
@@ -49,12 +50,12 @@ pub record AreListed (l : Link) (t : TableSymbols) : Type 0 where
   pub lengths_are : All (HasLength l) t.symbols.items
   pub strings_are : t.strings ≡ 1 + sum_by (λ s. text_size (name_at l s)) (table_symbols l)
 
--- What the row of a symbol is made of, besides its entry: its name, whether the export lists contain it, the number of its
--- output section, and its address or value.
+-- What the row of a symbol is made of, besides its entry: its name, of a global one whether the export lists contain it, the number of
+-- its output section, and its address or value.
 pub record IsRowOf (l : Link) (counts : Counts) (p : Placed) (o : LinkedObject) (index : ℕ) (name : List ℕ) (listed : Bool)
     (section address : ℕ) : Type 0 where
   pub bytes_are : object_of l o.number ≡ o.file.bytes
   pub name_is : name ≡ symbol_name o.file.bytes index
-  pub listed_is : listed ≡ is_listed l (symbol_name o.file.bytes index)
+  pub listed_is : is_global (symbol_at o.file.bytes index) ≡ true → listed ≡ is_listed l (symbol_name o.file.bytes index)
   pub section_is : section ≡ entry_section l counts (symbol_id o.number index)
   pub address_is : address ≡ address_of p (own_target l (symbol_id o.number index))

@@ -6,6 +6,7 @@ ghost use Rattle.macho_model.specs.declared.placed.Counts.{Counts};
 ghost use Rattle.macho_model.specs.Placement.{Placed};
 ghost use Rattle.macho_linkedit.specs.TableRows.{row_of};
 ghost use Rattle.macho_linkedit.specs.Symbols.{row_seen};
+ghost use Rattle.macho_linkedit.specs.declared.listing.LinkedObject.{LinkedObject};
 ghost use Rattle.macho_model.specs.Objects.{num_symbols, strings_of, symbol_at, symbol_name};
 ghost use Rattle.macho_model.specs.Links.{Link, object_of};
 ghost use Rattle.macho_model.specs.SymbolTable.{is_in_table};
@@ -34,17 +35,13 @@ pub struct LinkedObject<'a> {
 
 impl<'a> LinkedObject<'a> {
     /// The name of a symbol, found by the bytes that it has: none of them is read.
-    pub fn name(&self, index: u32, size: u32) -> &'a [u8]
-        requires among { index < num_symbols self.now.file.bytes }
-        requires size { size ≡ length (symbol_name self.now.file.bytes index) }
-        ensures { result.now ≡ symbol_name self.now.file.bytes index }
+    pub fn name(&self, symbol: SymtabEntry, size: u32) -> &'a [u8]
+        requires { (index : ℕ) × (symbol ≡ symbol_at self.now.file.bytes index) × (size ≡ length (symbol_name self.now.file.bytes index)) }
+        ensures { (index : ℕ) → symbol ≡ symbol_at self.now.file.bytes index → result.now ≡ symbol_name self.now.file.bytes index }
     {
         if size == 0 {
             return &[];
         }
-        let Some(symbol) = self.file.symbol(index) else {
-            unreachable!()
-        };
         let at = symbol.n_strx as usize;
         &self.file.strings()[at..at + size as usize]
     }
@@ -80,39 +77,42 @@ fn is_defined_symbol(file: &File<'_>, index: u32, symbol: SymtabEntry) -> bool
     symbol.n_strx != 0 && (in_carried(file, index) || is_absolute(symbol) || is_common(symbol))
 }
 
-/// The bytes of a symbol's name, where the symbol stands in the table. Only the name of a local symbol is read.
+/// The bytes of a symbol's name, where the symbol stands in the table. Only the name of a local symbol is read: the string table of an
+/// object without one isn't.
 fn listed_name(
+    alloc: Global,
     object: &LinkedObject<'_>,
-    names: &Names<'_>,
+    names: &mut Names<'_>,
     index: u32,
     resolved: &Resolved<'_>,
-) -> Option<u32>
+) -> Result<Option<u32>, AllocError>
     requires object { object.now.file.is_dynamic ≡ false }
-    requires names { AreNames (strings_of object.now.file.bytes) names.now }
+    requires names { AreNames (strings_of object.now.file.bytes) names.old }
     requires among { index < num_symbols object.now.file.bytes }
     requires known { HasSymbol resolved.now object.now.number index }
     ensures is { (l : Link) (noted : List (List ℕ)) → IsResolved l noted resolved.now
         → object_of l object.now.number ≡ object.now.file.bytes
-        → result ≡ name_length l (symbol_id object.now.number index) }
+        → IfOk result (λ size. size ≡ name_length l (symbol_id object.now.number index)) }
+    ensures kept { OnOk result (AreNames (strings_of object.now.file.bytes) names.new) }
 {
     let _object = object.file.is_dynamic();
     let Some(symbol) = object.file.symbol(index) else {
         unreachable!()
     };
     if !is_defined_symbol(&object.file, index, symbol) {
-        return None;
+        return Ok(None);
     }
     if is_global(symbol) {
         if !resolved.defines(object.number, index) {
-            return None;
+            return Ok(None);
         }
-        return Some(resolved.name_length(object.number, index));
+        return Ok(Some(resolved.name_length(object.number, index)));
     }
-    let name = names.name(symbol.n_strx);
+    let name = names.name(alloc, symbol.n_strx)?;
     if symbol.is_default_strippable(name) {
-        return None;
+        return Ok(None);
     }
-    Some(name.len() as u32)
+    Ok(Some(name.len() as u32))
 }
 
 /// Lists the symbols of an object behind the others.
@@ -131,9 +131,10 @@ fn list_object(
         (num_symbols object.now.file.bytes)) table.old table.new) }
     ensures room { OnOk result (table.new.strings ≤ table.old.strings + 2 ^ 32 * num_symbols object.now.file.bytes) }
 {
-    let names = Names::new(alloc, object.file.strings())?;
+    let mut names = Names::new(object.file.strings());
     for symbol in 0..object.file.num_symbols() {
-        if let Some(length) = listed_name(object, &names, symbol, resolved) {
+        let listed = listed_name(alloc, object, &mut names, symbol, resolved)?;
+        if let Some(length) = listed {
             table.symbols.push(TableSymbol {
                 file: object.number,
                 symbol,
@@ -170,23 +171,18 @@ pub fn table_symbols(
 
 /// The row of a symbol of an object under its name: its type as the object has it, at its place in the image.
 ///
-/// A global symbol that isn't listed for export is hidden, and a common has become a symbol of a section.
+/// A global symbol that isn't listed for export is hidden, and a common has become a symbol of a section. Of a local symbol
+/// `is_listed` isn't looked at.
 pub fn table_row<'a>(
-    object: &LinkedObject<'_>,
-    index: u32,
+    entry: SymtabEntry,
     name: &'a [u8],
     is_listed: bool,
     section: u8,
     address: u64,
 ) -> TableRow<'a>
-    requires object { object.now.file.is_dynamic ≡ false }
-    requires among { index < num_symbols object.now.file.bytes }
-    ensures { (l : Link) (counts : Counts) (p : Placed) → IsRowOf l counts p object.now index name.now is_listed section address
-        → row_seen result ≡ row_of l counts p (symbol_id object.now.number index) }
+    ensures { (l : Link) (counts : Counts) (p : Placed) (o : LinkedObject) (index : ℕ) → entry ≡ symbol_at o.file.bytes index
+        → IsRowOf l counts p o index name.now is_listed section address → row_seen result ≡ row_of l counts p (symbol_id o.number index) }
 {
-    let Some(entry) = object.file.symbol(index) else {
-        unreachable!()
-    };
     TableRow {
         name,
         kind: placed_type(entry, is_listed),

@@ -121,12 +121,9 @@ fn listed(alloc: Global, bytes: &[u8]) -> Result<TableSymbols, Fail> {
 
 /// The row of a symbol of an object.
 fn row_of<'a>(object: &LinkedObject<'a>, row: Row) -> Result<TableRow<'a>, Fail> {
-    if object.file.is_dynamic() || row.0 >= object.file.num_symbols() {
-        return Err("a symbol".into());
-    }
-    match object.file.symbol_name(row.0) {
-        Some(name) => Ok(table_row(object, row.0, name, row.1, row.2, row.3)),
-        None => Err("a symbol with a name".into()),
+    match (object.file.symbol(row.0), object.file.symbol_name(row.0)) {
+        (Some(entry), Some(name)) => Ok(table_row(entry, name, row.1, row.2, row.3)),
+        _ => Err("a symbol with a name".into()),
     }
 }
 

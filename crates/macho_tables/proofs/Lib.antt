@@ -13,6 +13,7 @@ pub mod Outputs
 pub mod MadeSections
 pub mod Headers
 pub mod Numbers
+pub mod ByName
 pub mod SectionNumbers
 pub mod TableRows
 pub mod Objects

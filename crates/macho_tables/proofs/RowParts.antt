@@ -1,7 +1,7 @@
 -- The parts of a symbol's row, as they are looked up: its name, its section, its address.
 use Rattle.std.proofs.Common.{◌≡◌, ℕ, ◌<◌, Bool, false, ap, ◌∙◌}
 use Rattle.macho_model.specs.declared.placed.Counts.{Counts}
-use Rattle.macho_model.specs.Objects.{num_symbols}
+use Rattle.macho_model.specs.Objects.{num_symbols, symbol_at}
 use Rattle.macho_model.specs.Links.{Link, object_of}
 use Rattle.macho_model.specs.Targets.{own_target, target_of}
 use Rattle.macho_model.specs.Placement.{Placed}
@@ -20,9 +20,9 @@ use Rattle.macho_tables.proofs.TableRows.{IsInTable, own_is, section_is}
 pub section_seen : (l : Link) (counts : Counts) (p : Placed) (look : Look) (o : LinkedObject) (index : ℕ) → IsToTable l counts p look
     → object_of l o.number ≡ o.file.bytes
     → o.file.is_dynamic ≡ false → IsInTable l (symbol_id o.number index)
-    → section_told p o.file index ≡ entry_section l counts (symbol_id o.number index)
+    → section_told p o.file (symbol_at o.file.bytes index) ≡ entry_section l counts (symbol_id o.number index)
 section_seen l counts p look o index to bytes kind in_it =
-    ap (λ (d : Bool). section_told p (record { bytes = o.file.bytes; is_dynamic = d }) index) kind
+    ap (λ (d : Bool). section_told p (record { bytes = o.file.bytes; is_dynamic = d }) (symbol_at o.file.bytes index)) kind
     ∙ section_is l counts p o.number index o.file.bytes to.objects to.placed bytes in_it
 
 -- the address that look-ups tell

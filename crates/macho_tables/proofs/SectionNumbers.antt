@@ -3,11 +3,12 @@
 -- The list grows by a section at a time. Then each section's number stands at its place, and there is none past the end. The lists of all
 -- objects stand in the order of the objects.
 use Rattle.std.proofs.Common.{◌≡◌, ℕ, ◌+◌, ◌<◌, ◌≤◌, Bool, false, List, [], ◌∷◌, ◌++◌, map, length, get_or, refl, sym, ap, ◌∙◌, arith}
-use Rattle.std.proofs.Common.{Vec, Global}
+use Rattle.std.proofs.Common.{Vec, Global, inl, inr}
 use Rattle.std.specs.Prelude.{if◌then◌else◌, nat_lt, Some, None}
 use Rattle.std.specs.List.{range_with_len}
+use Rattle.std.proofs.lemmas.Bool.{cases_lt}
 use Rattle.std.proofs.lemmas.Bool.Decides.{nat_tests}
-use Rattle.std.proofs.lemmas.List.{get_or-map, length-map}
+use Rattle.std.proofs.lemmas.List.{get_or-map, get_or_past, length-map}
 use Rattle.std.proofs.lemmas.List.FromFn.{map-range_with_len_more, get_or-map-range_with_len, length-map-range_with_len}
 use Rattle.macho_model.specs.Objects.{section_at}
 use Rattle.macho_model.specs.Placement.{Placed}
@@ -40,7 +41,7 @@ unfolding sections_told
 numbers_long p f numbers same =
     ap (λ (xs : List ℕ). length xs) same ∙ length-map-range_with_len (number_at p f) 0 (section_count f.is_dynamic f.bytes)
 
-pub number_there : (p : Placed) (f : FileBytes) (numbers : List ℕ) (k : ℕ) → numbers ≡ sections_told p f → k < length numbers
+number_there : (p : Placed) (f : FileBytes) (numbers : List ℕ) (k : ℕ) → numbers ≡ sections_told p f → k < length numbers
     → get_or numbers k 0 ≡ number_at p f k
 unfolding sections_told
 number_there p f numbers k same lt =
@@ -48,13 +49,20 @@ number_there p f numbers k same lt =
     ∙ get_or-map-range_with_len (number_at p f) 0 (section_count f.is_dynamic f.bytes) k k 0
     (omega (arith, lt, numbers_long p f numbers same)) (omega arith)
 
-pub number_past : (p : Placed) (f : FileBytes) (numbers : List ℕ) (k : ℕ) → numbers ≡ sections_told p f → length numbers ≤ k
-    → 0 ≡ number_at p f k
+number_past : (p : Placed) (f : FileBytes) (numbers : List ℕ) (k : ℕ) → numbers ≡ sections_told p f → length numbers ≤ k
+    → get_or numbers k 0 ≡ number_at p f k
 number_past p f numbers k same past =
-    by (nat_lt k (section_count f.is_dynamic f.bytes)) (grind (arith, nat_tests, past, numbers_long p f numbers same))
+    get_or_past numbers k 0 past
+    ∙ by (nat_lt k (section_count f.is_dynamic f.bytes)) (grind (arith, nat_tests, past, numbers_long p f numbers same))
   where
     by : (t : Bool) → t ≡ false → 0 ≡ number_with p (if t then Some (section_at f.bytes k) else None)
     by t e = rw e refl
+
+pub number_is : (p : Placed) (f : FileBytes) (numbers : List ℕ) (k : ℕ) → numbers ≡ sections_told p f → get_or numbers k 0 ≡ number_at p f k
+number_is p f numbers k same = elim (cases_lt k (length numbers)) [
+  | inl within ↦ number_there p f numbers k same within
+  | inr past ↦ number_past p f numbers k same past
+]
 
 -- the list of an object stands at its place
 pub numbers_of_object : (p : Placed) (objects : List LinkedObject) (all : List (Vec ℕ Global)) (place : ℕ) (o : LinkedObject)

@@ -7,14 +7,14 @@ use Rattle.std.proofs.Common.{arith, Contains, eqb-true}
 use Rattle.std.specs.Prelude.{if◌then◌else◌, nat_lt, Option, Some, None}
 use Rattle.std.proofs.lemmas.Bool.{and_parts, lt-ltb, true≢false}
 use Rattle.macho_records.specs.declared.symbols.SymtabEntry.{SymtabEntry}
-use Rattle.macho_records.specs.declared.constants.TheConstants.{N_ABS, N_SECT, N_UNDF}
+use Rattle.macho_records.specs.declared.constants.TheConstants.{N_UNDF}
 use Rattle.macho_records.specs.Symbols.{is_common_of, is_stab_of, is_external_of, is_undefined_of, is_absolute_of, is_defined_of}
 use Rattle.macho_records.specs.Symbols.{symbol_type_of, is_default_strippable_of}
 use Rattle.macho_model.specs.declared.placed.Counts.{Counts}
 use Rattle.macho_model.specs.declared.targets.Target.{Target}
 use Rattle.macho_model.specs.declared.targets.Target.TheVariants as target
-use Rattle.macho_model.specs.Symbols.{is_absolute, is_global, is_local, is_in_section}
-use Rattle.macho_model.specs.Objects.{num_symbols, num_sections, section_at}
+use Rattle.macho_model.specs.Symbols.{is_absolute, is_global, is_local}
+use Rattle.macho_model.specs.Objects.{num_sections, section_at, symbol_at}
 use Rattle.macho_model.specs.Links.{Link, SectionId, object_of, header_at, sections_of, carried_of, is_carried}
 use Rattle.macho_model.specs.Needs.{imports_of}
 use Rattle.macho_model.specs.Resolution.{SymbolId, Definition, Symbol, Library, ImageBase, entry_at, name_at, symbols_of, stands_in_carried}
@@ -29,8 +29,9 @@ use Rattle.macho_lists.proofs.Members.{contains_filter, filter_contains, nil_con
 use Rattle.macho_object.specs.Views.{FileBytes, section_index_of}
 use Rattle.macho_symbols.specs.Kept.{symbol_id}
 use Rattle.macho_model.specs.Grammar.{ObjectsAreRead}
-use Rattle.macho_targets.proofs.OfLink.{symbol_of, section_of, carried_symbol}
-use Rattle.macho_tables.specs.steps.Sections.{symbol_header, header_with, number_with, number_told, section_told}
+use Rattle.macho_targets.proofs.OfLink.{section_of, carried_symbol}
+use Rattle.macho_records.specs.declared.header.SectionHeader.{SectionHeader}
+use Rattle.macho_tables.specs.steps.Sections.{header_with, number_with, number_told, section_told}
 use Rattle.macho_tables.proofs.Numbers.{section_agrees, commons_agree}
 
 -- What is known of a symbol of the table.
@@ -139,17 +140,6 @@ common_chosen l s in_it common =
     some [] has = absurd (nil_contains s has)
     some (x ∷ xs) has = omega arith
 
--- a value of its own is in no section
-absolute_apart : (e : SymtabEntry) → is_absolute e ≡ true → is_in_section e ≡ false
-absolute_apart e is =
-    let both = and_parts (not (is_stab_of e)) (symbol_type_of e == N_ABS) is in
-    let type : symbol_type_of e ≡ N_ABS = eqb-true (symbol_type_of e) N_ABS both.1 in
-    by (not (is_stab_of e)) (symbol_type_of e == N_SECT) (ap (λ (n : ℕ). n == N_SECT) type)
-  where
-    by : (a b : Bool) → b ≡ false → (a && b) ≡ false
-    by true b e = e
-    by false b e = refl
-
 -- a carried section is one of the link's
 in_sections : (l : Link) (s : SectionId) → Contains (carried_of l) s → Contains (sections_of l) s
 unfolding carried_of
@@ -158,9 +148,9 @@ in_sections l s has = (filter_contains (λ (t : SectionId). is_carried (header_a
 -- THE section of a row
 pub section_is : (l : Link) (counts : Counts) (p : Placed) (file index : ℕ) (b : List ℕ) → ObjectsAreRead l → IsWhollyPlaced l counts p
     → object_of l file ≡ b → IsInTable l (symbol_id file index)
-    → section_told p (record { bytes = b; is_dynamic = false }) index ≡ entry_section l counts (symbol_id file index)
+    → section_told p (record { bytes = b; is_dynamic = false }) (symbol_at b index) ≡ entry_section l counts (symbol_id file index)
 section_is l counts p file index b read placed is in_it =
-    subst (λ (x : List ℕ). section_told p (record { bytes = x; is_dynamic = false }) index ≡ entry_section l counts s) is
+    subst (λ (x : List ℕ). section_told p (record { bytes = x; is_dynamic = false }) (symbol_at x index) ≡ entry_section l counts s) is
     (by (is_common_of (entry_at l s)) (is_absolute (entry_at l s)) refl refl)
   where
     s : SymbolId
@@ -175,30 +165,17 @@ section_is l counts p file index b read placed is in_it =
     second : {X : Type 0} (t : Bool) (x y : X) → t ≡ false → (if t then x else y) ≡ y
     second t x y e = rw e refl
 
-    none_there : is_in_section (entry_at l s) ≡ false → symbol_header f index ≡ None
-    none_there out = ap (header_with f) (second_of (nat_lt index (num_symbols f.bytes)) (is_in_section (entry_at l s)) out)
-      where
-        second_of : (a c : Bool) → c ≡ false → (if (true && (a && c)) then Some (section_index_of f index) else None) ≡ None
-        second_of true c e = rw e refl
-        second_of false c e = refl
+    header : Option SectionHeader
+    header = header_with f (Some (section_index_of f index))
 
-    one_there : stands_in_carried l s ≡ true → symbol_header f index ≡ Some (header_at l (section_of_symbol l s))
+    one_there : stands_in_carried l s ≡ true → header ≡ Some (header_at l (section_of_symbol l s))
     one_there stands =
-        let both = and_parts (is_in_section (entry_at l s)) (is_carried (header_at l (section_of_symbol l s))) stands in
-        let of = symbol_of l s in_it.there in
         let carried = carried_symbol l s read in_it.there stands in
-        let low : index < num_symbols f.bytes = subst (λ (x : List ℕ). index < num_symbols x) (sym of.object) of.symbol in
         let sec = section_of l (section_of_symbol l s) (in_sections l (section_of_symbol l s) carried) in
         let there : section_index_of f index < num_sections f.bytes = subst (λ (x : List ℕ). section_index_of f index < num_sections x)
         (sym sec.object) sec.section in
-        ap (header_with f)
-        (first_of (nat_lt index (num_symbols f.bytes)) (is_in_section (entry_at l s)) (lt-ltb index (num_symbols f.bytes) low) both.0)
-        ∙ first (nat_lt (section_index_of f index) (num_sections f.bytes)) (Some (section_at f.bytes (section_index_of f index))) None
+        first (nat_lt (section_index_of f index) (num_sections f.bytes)) (Some (section_at f.bytes (section_index_of f index))) None
         (lt-ltb (section_index_of f index) (num_sections f.bytes) there)
-      where
-        first_of : (a c : Bool) → a ≡ true → c ≡ true → (if (true && (a && c)) then Some (section_index_of f index) else None)
-            ≡ Some (section_index_of f index)
-        first_of a c e g = rw (e, g) refl
 
     stands_there : is_common_of (entry_at l s) ≡ false → is_absolute (entry_at l s) ≡ false → stands_in_carried l s ≡ true
     stands_there no_common no_value =
@@ -210,20 +187,25 @@ section_is l counts p file index b read placed is in_it =
         only false false true e g h = absurd (true≢false g)
         only false false false e g h = h
 
+    -- the number, where the symbol is no common
+    other : ℕ
+    other = if is_absolute (entry_at l s) then 0 else number_with p header
+
     by : (c a : Bool) → is_common_of (entry_at l s) ≡ c → is_absolute (entry_at l s) ≡ a
-        → section_told p f index ≡ entry_section l counts s
+        → section_told p f (entry_at l s) ≡ entry_section l counts s
     by true a e g =
-        first (is_common_of (entry_at l s)) (number_told p common_key) (number_with p (symbol_header f index)) e
+        first (is_common_of (entry_at l s)) (number_told p common_key) other e
         ∙ commons_agree l counts p placed (common_chosen l s in_it e)
         ∙ sym (first (is_common_of (entry_at l s)) (section_number l counts common_key) _ e)
     by false true e g =
-        second (is_common_of (entry_at l s)) (number_told p common_key) (number_with p (symbol_header f index)) e
-        ∙ ap (number_with p) (none_there (absolute_apart (entry_at l s) g))
+        second (is_common_of (entry_at l s)) (number_told p common_key) other e
+        ∙ first (is_absolute (entry_at l s)) 0 (number_with p header) g
         ∙ sym (second (is_common_of (entry_at l s)) (section_number l counts common_key) _ e
         ∙ first (is_absolute (entry_at l s)) 0 (section_number l counts (key_of (header_at l (section_of_symbol l s)))) g)
     by false false e g =
         let stands = stands_there e g in
-        second (is_common_of (entry_at l s)) (number_told p common_key) (number_with p (symbol_header f index)) e
+        second (is_common_of (entry_at l s)) (number_told p common_key) other e
+        ∙ second (is_absolute (entry_at l s)) 0 (number_with p header) g
         ∙ ap (number_with p) (one_there stands)
         ∙ section_agrees l counts p (section_of_symbol l s) placed (carried_symbol l s read in_it.there stands)
         ∙ sym (second (is_common_of (entry_at l s)) (section_number l counts common_key) _ e

@@ -1,11 +1,14 @@
 //! The symbol table: a row for each symbol that was listed.
-ghost use Rattle.std.specs.Prelude.{◌≡◌, ℕ, ◌+◌, ◌*◌, ◌<◌, ◌≤◌, ◌^◌, List, length, All, OnOk};
+ghost use Rattle.std.specs.Prelude.{◌≡◌, ℕ, ◌+◌, ◌*◌, ◌<◌, ◌≤◌, ◌^◌, true, List, length, All, OnOk};
 ghost use Rattle.std.specs.Option.{option_copied};
 ghost use Rattle.macho_bytes.specs.Layouts.{size_of};
 ghost use Rattle.macho_records.specs.Layouts.{symtab_entry};
 ghost use Rattle.macho_model.specs.declared.placed.Counts.{Counts};
 ghost use Rattle.macho_model.specs.Links.{Link};
+ghost use Rattle.macho_model.specs.Placement.{Placed};
+ghost use Rattle.macho_model.specs.Segments.{common_key};
 ghost use Rattle.macho_model.specs.Objects.{num_symbols, symbol_name};
+ghost use Rattle.macho_model.specs.Symbols.{is_global};
 ghost use Rattle.macho_model.specs.Exports.{is_listed};
 ghost use Rattle.macho_linkedit.specs.TableRows.{row_of, symbol_rows};
 ghost use Rattle.macho_layout.specs.Placements.{placed_of};
@@ -13,14 +16,16 @@ ghost use Rattle.macho_symbols.specs.Exported.{AreLists};
 ghost use Rattle.macho_symbols.specs.Kept.{symbol_id};
 ghost use Rattle.macho_linkedit.specs.Symbols.{row_seen, IsTableWritten};
 ghost use Rattle.macho_tables.specs.steps.Rows.{NumbersRise, HasNumber, IsObjectAt, CanHaveRow, IsListed};
-ghost use Rattle.macho_tables.specs.steps.Sections.{sections_told};
+ghost use Rattle.macho_tables.specs.steps.Sections.{sections_told, number_told};
 ghost use Rattle.macho_tables.specs.Rows.{AreToList};
 
-use crate::sections::{numbers_of_objects, section_of_symbol};
+use crate::sections::{section_numbers, section_of_symbol};
 use macho_exports::ExportList;
 use macho_fields::{Places, address_of};
 use macho_layout::Placement;
 use macho_linkedit::{LinkedObject, SymbolWriter, TableRow, TableSymbol, TableSymbols, table_row};
+use macho_names::is_global;
+use macho_records::SymtabEntry;
 use std::alloc::{AllocError, Global};
 
 /// The place of the object of a number: the first whose number isn't below.
@@ -42,46 +47,55 @@ fn place_of(objects: &[LinkedObject<'_>], number: u32) -> usize
     low
 }
 
-/// Whether export lists contain a name, where there are any.
-fn is_listed(lists: Option<&ExportList>, name: &[u8]) -> bool
-    ensures { (l : Link) → AreLists l (option_copied lists.entry) → result ≡ is_listed l name.now }
+/// The place of the object of a number, where that of the row before mostly is.
+fn place_from(objects: &[LinkedObject<'_>], last: usize, number: u32) -> usize
+    requires rise { NumbersRise objects.now }
+    requires there { HasNumber objects.now number }
+    ensures { IsObjectAt objects.now number result }
 {
+    match objects.get(last) {
+        Some(object) if object.number == number => last,
+        _ => place_of(objects, number),
+    }
+}
+
+/// Whether export lists contain the name of a global symbol, where there are any. Of another symbol none is asked.
+fn is_listed(lists: Option<&ExportList>, symbol: SymtabEntry, name: &[u8]) -> bool
+    ensures { (l : Link) → AreLists l (option_copied lists.entry) → is_global symbol ≡ true → result ≡ is_listed l name.now }
+{
+    if !is_global(symbol) {
+        return true;
+    }
     match lists {
         Some(list) => list.contains(name),
         None => true,
     }
 }
 
-/// The row of a symbol of the table, by the numbers of its object's sections.
+/// The row of a symbol of the table, by the numbers of its object's sections and that of commons.
 fn row_of<'a, P: Places>(
     places: &P,
-    placement: &Placement,
     object: &LinkedObject<'a>,
     symbol: TableSymbol,
     lists: Option<&ExportList>,
     numbers: &[u8],
+    commons: u8,
 ) -> TableRow<'a>
-    requires few { length placement.now.output_sections.items ≤ 255 }
-    requires told { numbers.now ≡ sections_told (placed_of placement.now) object.now.file }
     requires symbol { CanHaveRow object.now symbol.symbol }
     requires size { symbol.length ≡ length (symbol_name object.now.file.bytes symbol.symbol) }
     requires known { P.has_symbol places.now object.now.number symbol.symbol }
-    ensures { (l : Link) (counts : Counts) → IsListed l counts (placed_of placement.now) (P.look places.now) object.now symbol.symbol
-        (option_copied lists.entry)
-        → row_seen result ≡ row_of l counts (placed_of placement.now) (symbol_id object.now.number symbol.symbol) }
+    ensures { (l : Link) (counts : Counts) (p : Placed) → numbers.now ≡ sections_told p object.now.file → commons ≡ number_told p common_key
+        → IsListed l counts p (P.look places.now) object.now symbol.symbol (option_copied lists.entry)
+        → row_seen result ≡ row_of l counts p (symbol_id object.now.number symbol.symbol) }
 {
-    let index = symbol.symbol;
-    let name = object.name(index, symbol.length);
-    let section = section_of_symbol(placement, object, index, numbers);
-    let address = address_of(places, places.target(object.number, index));
-    table_row(
-        object,
-        index,
-        name,
-        is_listed(lists, name),
-        section,
-        address,
-    )
+    let Some(entry) = object.file.symbol(symbol.symbol) else {
+        unreachable!()
+    };
+    let name = object.name(entry, symbol.length);
+    let is_listed = is_listed(lists, entry, name);
+    let section = section_of_symbol(entry, numbers, commons);
+    let address = address_of(places, places.target(object.number, symbol.symbol));
+    table_row(entry, name, is_listed, section, address)
 }
 
 /// Writes the symbol table of a placed link at the front of a range, with a row for each listed symbol, in order. `listed` are the
@@ -110,17 +124,18 @@ pub fn write_symbol_table<P: Places>(
         → OnOk result (IsTableWritten (symbol_rows l counts (placed_of placement.now)) out.old out.new) }
     ensures length { length out.new ≡ length out.old }
 {
-    let numbers = numbers_of_objects(alloc, placement, objects)?;
+    let numbers = section_numbers(alloc, placement, objects)?;
     let mut table = SymbolWriter::begin(listed.symbols.len(), out);
+    let mut place = 0;
     for symbol in listed.symbols.as_slice() {
-        let place = place_of(objects, symbol.file);
+        place = place_from(objects, place, symbol.file);
         let row = row_of(
             places,
-            placement,
             &objects[place],
             *symbol,
             lists,
-            &numbers[place],
+            &numbers.objects[place],
+            numbers.commons,
         );
         table.push(out, row);
     }

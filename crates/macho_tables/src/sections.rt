@@ -1,45 +1,64 @@
 //! The numbers of output sections, by which symbols tell where they stand. There are at most 255.
 //!
-//! The output section of each section of an object is searched for once, before the rows of symbols are made:
+//! A table has them by what sections are merged by. The output section of each section of an object is looked up once, before the rows of
+//! symbols are made:
 //!
 //! ```text
 //! sections of an object     __text   __compact_unwind   __data
 //! their output sections          1                  0        4   ->   a symbol whose n_sect is 3 stands in output section 4
 //! ```
-ghost use Rattle.std.specs.Prelude.{◌≡◌, ◌<◌, ◌≤◌, nat_lt, ◌&&◌, false, length, map, Some, IfOk};
+ghost use Rattle.std.specs.Prelude.{◌≡◌, ◌<◌, ◌≤◌, nat_lt, ◌&&◌, false, length, map, get_or, unwrap_or, Some, IfOk};
+ghost use Rattle.indexmap.specs.IndexMap.{get};
 ghost use Rattle.macho_bytes.specs.Texts.{name_of};
-ghost use Rattle.macho_model.specs.Objects.{num_symbols};
-ghost use Rattle.macho_model.specs.Segments.{key_of};
+ghost use Rattle.macho_records.specs.declared.constants.TheConstants.{S_ZEROFILL};
+ghost use Rattle.macho_model.specs.Segments.{DATA, COMMON, common_key};
 ghost use Rattle.macho_model.specs.Placement.{Placed};
+ghost use Rattle.macho_object.specs.Views.{FileBytes};
+ghost use Rattle.macho_layout.specs.Keys.{same_output};
 ghost use Rattle.macho_layout.specs.Placements.{placed_of};
-ghost use Rattle.macho_tables.specs.steps.Sections.{key_seen, begins_at, fills, holds_slots, is_made};
-ghost use Rattle.macho_tables.specs.steps.Sections.{is_of, number_told, number_with, header_with, symbol_header, section_told};
-ghost use Rattle.macho_tables.specs.steps.Sections.{sections_told, objects_told};
+ghost use Rattle.macho_tables.specs.steps.Sections.{begins_at, fills, holds_slots, is_made, output_name, merged_name, FindsNumbers};
+ghost use Rattle.macho_tables.specs.steps.Sections.{number_told, number_with, header_with, section_told};
+ghost use Rattle.macho_tables.specs.steps.Sections.{sections_told, objects_told, AreNumbers};
 
-use macho_layout::Placement;
+use indexmap::IndexMap;
+use macho_layout::{OutputName, Placement};
 use macho_linkedit::LinkedObject;
 use macho_model::{Range64, Slot};
-use macho_names::is_common;
+use macho_names::{is_absolute, is_common};
 use macho_object::File;
-use macho_records::{S_ZEROFILL, SectionFlags, SectionHeader, name_bytes};
+use macho_records::{
+    S_ZEROFILL, SectionFlags, SectionHeader, SegmentName, SymtabEntry, name_bytes,
+};
 use std::alloc::{AllocError, Global};
 
-/// What sections are merged by: those of one segment, name and type become one output section.
-#[derive(Clone, Copy)]
-pub(crate) struct MergedBy<'a> {
-    pub(crate) segment: &'a [u8],
-    pub(crate) name: &'a [u8],
-    pub(crate) kind: u32,
+/// The numbers of the output sections that the sections of some objects, and commons, are merged into; 0 where there is none.
+#[derive(Drop)]
+pub(crate) struct SectionNumbers {
+    /// Those of each object's sections, in order.
+    pub(crate) objects: Vec<Vec<u8>>,
+    /// That of commons.
+    pub(crate) commons: u8,
 }
 
-/// What the section of a header is merged by.
-fn merged_by(header: &SectionHeader) -> MergedBy<'_>
-    ensures { key_seen result ≡ key_of header.now }
+/// What the section of a header is merged by: those of one segment, name and type become one output section.
+fn merged_by(header: &SectionHeader) -> OutputName
+    ensures { result ≡ merged_name header.now }
 {
-    MergedBy {
-        segment: name_bytes(&header.segname),
-        name: name_bytes(&header.sectname),
+    OutputName {
+        segment: SegmentName::from_bytes(&header.segname),
+        name: SegmentName::from_bytes(&header.sectname),
         kind: SectionFlags(header.flags).typ(),
+    }
+}
+
+/// What commons are merged by.
+fn common_name() -> OutputName
+    ensures { result ≡ output_name DATA COMMON S_ZEROFILL }
+{
+    OutputName {
+        segment: SegmentName::DATA,
+        name: SegmentName::from_bytes(b"__common"),
+        kind: S_ZEROFILL,
     }
 }
 
@@ -77,38 +96,44 @@ fn is_made(placement: &Placement, header: &SectionHeader) -> bool
         || holds_slots(header, &placement.slots)
 }
 
-/// Whether sections are merged into an output section.
-fn is_of(placement: &Placement, by: &MergedBy<'_>, header: &SectionHeader) -> bool
-    ensures { result ≡ is_of (placed_of placement.now) (key_seen by.now) header.now }
-{
-    let other = merged_by(header);
-    by.segment == other.segment
-        && by.name == other.name
-        && by.kind == other.kind
-        && !is_made(placement, header)
-}
-
-/// The number of the output section that sections are merged into, from 1 in the order of section headers; 0 where there is none.
-#[tactic(auto, unfolding(crate::specs::steps::Sections::number_told))]
-fn section_number(placement: &Placement, by: &MergedBy<'_>) -> u8
+/// The numbers of output sections from 1 in the order of section headers, by what sections are merged by. The linker makes the others.
+fn numbers_by_name(
+    alloc: Global,
+    placement: &Placement,
+) -> Result<IndexMap<OutputName, u8>, AllocError>
     requires { length placement.now.output_sections.items ≤ 255 }
-    ensures { result ≡ number_told (placed_of placement.now) (key_seen by.now) }
+    ensures { IfOk result (λ numbers. FindsNumbers (placed_of placement.now) (get same_output numbers)) }
 {
-    for (index, header) in placement.output_sections.iter().enumerate() {
-        if is_of(placement, by, header) {
-            return (index + 1) as u8;
+    let headers = placement.output_sections.as_slice();
+    let many = headers.len();
+    let mut numbers = IndexMap::new(alloc);
+    for done in 0..many {
+        // of several with one name the first is put in last
+        let index = many - 1 - done;
+        let header = &headers[index];
+        if !is_made(placement, header) {
+            numbers.insert(merged_by(header), (index + 1) as u8)?;
         }
     }
-    0
+    Ok(numbers)
+}
+
+/// The number of an output section; 0 where there is none.
+fn number_of(numbers: &IndexMap<OutputName, u8>, name: &OutputName) -> u8
+    ensures { result ≡ unwrap_or (get same_output numbers.now name.now) 0 }
+{
+    match numbers.get(name) {
+        Some(number) => *number,
+        None => 0,
+    }
 }
 
 /// The number of the output section that a section of an object is merged into; 0 where there is none.
-fn number_of_section(placement: &Placement, file: &File<'_>, section: u32) -> u8
-    requires { length placement.now.output_sections.items ≤ 255 }
-    ensures { result ≡ number_with (placed_of placement.now) (header_with file.now (Some section)) }
+fn number_of_section(numbers: &IndexMap<OutputName, u8>, file: &File<'_>, section: u32) -> u8
+    ensures { (p : Placed) → FindsNumbers p (get same_output numbers.now) → result ≡ number_with p (header_with file.now (Some section)) }
 {
     match file.section(section) {
-        Some(header) => section_number(placement, &merged_by(&header)),
+        Some(header) => number_of(numbers, &merged_by(&header)),
         None => 0,
     }
 }
@@ -116,68 +141,74 @@ fn number_of_section(placement: &Placement, file: &File<'_>, section: u32) -> u8
 /// The numbers of the output sections that the sections of an object are merged into, in order.
 fn numbers_of_sections(
     alloc: Global,
-    placement: &Placement,
+    by_name: &IndexMap<OutputName, u8>,
     file: &File<'_>,
 ) -> Result<Vec<u8>, AllocError>
-    requires { length placement.now.output_sections.items ≤ 255 }
-    ensures { IfOk result (λ numbers. numbers.items ≡ sections_told (placed_of placement.now) file.now) }
+    ensures { (p : Placed) → FindsNumbers p (get same_output by_name.now)
+        → IfOk result (λ numbers. numbers.items ≡ sections_told p file.now) }
 {
     let count = file.num_sections();
     let mut numbers = Vec::with_capacity(alloc, count as usize)?;
     for section in 0..count {
-        numbers.push(number_of_section(placement, file, section))?;
+        numbers.push(number_of_section(by_name, file, section))?;
     }
     Ok(numbers)
 }
 
 /// The same for each object.
-pub(crate) fn numbers_of_objects(
+fn numbers_of_objects(
     alloc: Global,
-    placement: &Placement,
+    by_name: &IndexMap<OutputName, u8>,
     objects: &[LinkedObject<'_>],
 ) -> Result<Vec<Vec<u8>>, AllocError>
-    requires { length placement.now.output_sections.items ≤ 255 }
-    ensures { IfOk result (λ all. map (λ numbers. numbers.items) all.items ≡ objects_told (placed_of placement.now) objects.now) }
+    ensures { (p : Placed) → FindsNumbers p (get same_output by_name.now)
+        → IfOk result (λ all. map (λ numbers. numbers.items) all.items ≡ objects_told p objects.now) }
 {
     let mut all = Vec::with_capacity(alloc, objects.len())?;
     for object in objects {
-        all.push(numbers_of_sections(alloc, placement, &object.file)?)?;
+        all.push(numbers_of_sections(alloc, by_name, &object.file)?)?;
     }
     Ok(all)
 }
 
-/// The number of the output section that a symbol is defined in, by those of its object's sections; 0 for a value of its own.
-fn number_of_symbol(file: &File<'_>, index: u32, numbers: &[u8]) -> u8
-    ensures { (p : Placed) → numbers.now ≡ sections_told p file.now → result ≡ number_with p (symbol_header file.now index) }
+/// The numbers of the output sections of objects' sections and of commons.
+pub(crate) fn section_numbers(
+    alloc: Global,
+    placement: &Placement,
+    objects: &[LinkedObject<'_>],
+) -> Result<SectionNumbers, AllocError>
+    requires { length placement.now.output_sections.items ≤ 255 }
+    ensures { IfOk result (AreNumbers (placed_of placement.now) objects.now) }
 {
-    match file.symbol_section(index) {
-        Some(section) if (section as usize) < numbers.len() => numbers[section as usize],
-        _ => 0,
+    let by_name = numbers_by_name(alloc, placement)?;
+    let objects = numbers_of_objects(alloc, &by_name, objects)?;
+    Ok(SectionNumbers {
+        objects,
+        commons: number_of(&by_name, &common_name()),
+    })
+}
+
+/// The number at a place; 0 past the end.
+fn number_at(numbers: &[u8], place: usize) -> u8
+    ensures { result ≡ get_or numbers.now place 0 }
+{
+    match numbers.get(place) {
+        Some(number) => *number,
+        None => 0,
     }
 }
 
-/// The number of the output section that a symbol of an object stands in, by those of the object's sections; 0 for a value of its own.
-pub(crate) fn section_of_symbol(
-    placement: &Placement,
-    object: &LinkedObject<'_>,
-    index: u32,
-    numbers: &[u8],
-) -> u8
-    requires few { length placement.now.output_sections.items ≤ 255 }
-    requires among { index < num_symbols object.now.file.bytes }
-    requires told { numbers.now ≡ sections_told (placed_of placement.now) object.now.file }
-    ensures { result ≡ section_told (placed_of placement.now) object.now.file index }
+/// The number of the output section that a symbol of an object stands in, by those of the object's sections and that of commons; 0 for a
+/// value of its own.
+pub(crate) fn section_of_symbol(symbol: SymtabEntry, numbers: &[u8], commons: u8) -> u8
+    ensures { (p : Placed) (f : FileBytes) → numbers.now ≡ sections_told p f → commons ≡ number_told p common_key
+        → result ≡ section_told p f symbol }
 {
-    let Some(symbol) = object.file.symbol(index) else {
-        unreachable!()
-    };
     if is_common(symbol) {
-        let commons = MergedBy {
-            segment: b"__DATA",
-            name: b"__common",
-            kind: S_ZEROFILL,
-        };
-        return section_number(placement, &commons);
+        return commons;
     }
-    number_of_symbol(&object.file, index, numbers)
+    if is_absolute(symbol) {
+        return 0;
+    }
+    number_at(numbers, symbol.n_sect.saturating_sub(1) as usize)
 }

@@ -1,16 +1,17 @@
 -- What the code finds of the symbol is what the link's definition asks, test by test.
-use Rattle.std.proofs.Common.{◌≡◌, ℕ, false, true, not, Some, List, length, sym, ap, ◌∙◌, arith}
+use Rattle.std.proofs.Common.{◌≡◌, ℕ, false, true, not, Some, List, length, sym, ap, subst, ◌∙◌, arith}
 use Rattle.macho_records.specs.Symbols.{is_default_strippable_of}
 use Rattle.macho_records.specs.declared.symbols.SymtabEntry.{SymtabEntry}
 use Rattle.macho_model.specs.Symbols.{is_global}
 use Rattle.macho_model.specs.Objects.{strings_of, symbol_at, symbol_name}
 use Rattle.macho_symbols.specs.Kept.{symbol_id}
 use Rattle.macho_names.proofs.Entries.{some_if}
+use Rattle.macho_linkedit.specs.steps.Names.{AreNames}
 use Rattle.macho_linkedit.proofs.Listed.{global_is, local_is, name_small, found_name, own_names}
 use Rattle.macho_linkedit.proofs.listing.listed_name.Goals as goal
 
-pub name-name-requires : goal.name-name-requires
-name-name-requires c = own_names (strings_of c.args.object.now.file.bytes) c.args.names.now c.requires.names
+pub name-requires : goal.name-requires
+name-requires c = own_names (strings_of c.args.object.now.file.bytes) c.args.names.now c.requires.names
 
 pub returns-then-not-defines : goal.returns-then-not-defines
 returns-then-not-defines c = record {
@@ -20,6 +21,7 @@ returns-then-not-defines c = record {
       (sym c.is_defined_symbol.ensures ∙ c.if-not-is_defined_symbol.false)
       (ap is_global (sym entry) ∙ sym c.is_global.ensures ∙ c.if-is_global.true)
       (sym c.if-not-defines.true ∙ c.defines.ensures l noted resolved));
+  kept = c.requires.names;
 }
 
 pub returns-then-is_global : goal.returns-then-is_global
@@ -37,6 +39,7 @@ returns-then-is_global c = record {
       ∙ sym (global_is l c.args.object.now.number c.args.index b true at
       (sym c.is_defined_symbol.ensures ∙ c.if-not-is_defined_symbol.false) global
       (sym c.if-not-defines.false ∙ c.defines.ensures l noted resolved));
+  kept = c.requires.names;
 }
 
 pub returns-then-is_default_strippable : goal.returns-then-is_default_strippable
@@ -45,22 +48,23 @@ returns-then-is_default_strippable c = record {
       let b = c.args.object.now.file.bytes in
       let entry : c.in-Some.symbol ≡ symbol_at b c.args.index = (some_if _ _ _ c.in-Some.ensures).1 in
       let defined = sym c.is_defined_symbol.ensures ∙ c.if-not-is_defined_symbol.false in
-      let name = found_name c.args.names.now b c.args.index c.in-Some.symbol c.name-name.result.now c.requires.names entry defined
-      c.name-name.ensures in
+      let name = found_name c.args.names.now b c.args.index c.in-Some.symbol c.in_ok-name.name.now c.requires.names entry defined
+      c.in_ok-name.ensures.found in
       let label : is_default_strippable_of (symbol_at b c.args.index) (symbol_name b c.args.index) ≡ true
       = ap (λ (e : SymtabEntry). is_default_strippable_of e (symbol_name b c.args.index)) (sym entry)
       ∙ ap (is_default_strippable_of c.in-Some.symbol) (sym name)
       ∙ sym c.is_default_strippable.ensures ∙ c.if-is_default_strippable.true in
       sym (local_is l c.args.object.now.number c.args.index b false at defined
       (ap is_global (sym entry) ∙ sym c.is_global.ensures ∙ c.if-is_global.false) (sym (ap not label)));
+  kept = subst (λ (xs : List ℕ). AreNames xs c.name.new.self) c.requires.names.strings_are c.in_ok-name.ensures.kept;
 }
 
 pub overflow_cast-result : goal.overflow_cast-result
 overflow_cast-result c =
     let b = c.args.object.now.file.bytes in
     let entry : c.in-Some.symbol ≡ symbol_at b c.args.index = (some_if _ _ _ c.in-Some.ensures).1 in
-    let name = found_name c.args.names.now b c.args.index c.in-Some.symbol c.name-name.result.now c.requires.names entry
-    (sym c.is_defined_symbol.ensures ∙ c.if-not-is_defined_symbol.false) c.name-name.ensures in
+    let name = found_name c.args.names.now b c.args.index c.in-Some.symbol c.in_ok-name.name.now c.requires.names entry
+    (sym c.is_defined_symbol.ensures ∙ c.if-not-is_defined_symbol.false) c.in_ok-name.ensures.found in
     omega (arith, ap length name, name_small _ b c.args.index c.is_dynamic-object.ensures.kept)
 
 pub returns : goal.returns
@@ -69,8 +73,8 @@ returns c = record {
       let b = c.args.object.now.file.bytes in
       let entry : c.in-Some.symbol ≡ symbol_at b c.args.index = (some_if _ _ _ c.in-Some.ensures).1 in
       let defined = sym c.is_defined_symbol.ensures ∙ c.if-not-is_defined_symbol.false in
-      let name = found_name c.args.names.now b c.args.index c.in-Some.symbol c.name-name.result.now c.requires.names entry defined
-      c.name-name.ensures in
+      let name = found_name c.args.names.now b c.args.index c.in-Some.symbol c.in_ok-name.name.now c.requires.names entry defined
+      c.in_ok-name.ensures.found in
       let label : is_default_strippable_of (symbol_at b c.args.index) (symbol_name b c.args.index) ≡ false
       = ap (λ (e : SymtabEntry). is_default_strippable_of e (symbol_name b c.args.index)) (sym entry)
       ∙ ap (is_default_strippable_of c.in-Some.symbol) (sym name)
@@ -78,4 +82,5 @@ returns c = record {
       ap (λ (n : List ℕ). Some (length n)) name
       ∙ sym (local_is l c.args.object.now.number c.args.index b true at defined
       (ap is_global (sym entry) ∙ sym c.is_global.ensures ∙ c.if-is_global.false) (sym (ap not label)));
+  kept = subst (λ (xs : List ℕ). AreNames xs c.name.new.self) c.requires.names.strings_are c.in_ok-name.ensures.kept;
 }

@@ -18,11 +18,11 @@ use Rattle.macho_tables.proofs.rows.write_symbol_table.Goals as goal
 abbrev none : TableSymbol
 none = record { file = 0; symbol = 0; length = 0 }
 
-pub place_of-place-requires-clause-rise : goal.place_of-place-requires-clause-rise
-place_of-place-requires-clause-rise g c = objects_rise c.requires.link.0 c.args.objects.now c.requires.link.2.objects_are
+pub place_from-place-requires-clause-rise : goal.place_from-place-requires-clause-rise
+place_from-place-requires-clause-rise g c = objects_rise c.requires.link.0 c.args.objects.now c.requires.link.2.objects_are
 
-pub place_of-place-requires-clause-there : goal.place_of-place-requires-clause-there
-place_of-place-requires-clause-there g c =
+pub place_from-place-requires-clause-there : goal.place_from-place-requires-clause-there
+place_from-place-requires-clause-there g c =
     let some = c.requires.link in
     let s = get_or c.as_slice-symbol-items.result.now c.loop-symbol.symbol-index none in
     let listed = item_listed some.0 c.args.listed.now c.as_slice-symbol-items.result.now c.loop-symbol.symbol-index none some.2.listed_are
@@ -36,8 +36,8 @@ row_of-row-requires-clause-symbol g c =
     let listed = item_listed some.0 c.args.listed.now c.as_slice-symbol-items.result.now c.loop-symbol.symbol-index none some.2.listed_are
     c.as_slice-symbol-items.ensures.value c.loop-symbol-test.true in
     (row_rests some.0 some.1 (placed_of c.args.placement.now) (g.P.Places.look c.args.places.now) c.args.objects.now c.args.listed.now
-    (option_copied c.args.lists) c.place_of-place.result c.index-objects-place.result (id_of_symbol s) some.2 listed
-    c.place_of-place.ensures c.index-objects-place.is).0
+    (option_copied c.args.lists) c.place_from-place.result c.index-objects-place.result (id_of_symbol s) some.2 listed
+    c.place_from-place.ensures c.index-objects-place.is).0
 
 pub row_of-row-requires-clause-known : goal.row_of-row-requires-clause-known
 row_of-row-requires-clause-known g c =
@@ -47,11 +47,11 @@ row_of-row-requires-clause-known g c =
     c.as_slice-symbol-items.ensures.value c.loop-symbol-test.true in
     let can = (row_rests some.0 some.1 (placed_of c.args.placement.now) (g.P.Places.look c.args.places.now) c.args.objects.now
     c.args.listed.now
-    (option_copied c.args.lists) c.place_of-place.result c.index-objects-place.result (id_of_symbol s) some.2 listed
-    c.place_of-place.ensures c.index-objects-place.is).0 in
+    (option_copied c.args.lists) c.place_from-place.result c.index-objects-place.result (id_of_symbol s) some.2 listed
+    c.place_from-place.ensures c.index-objects-place.is).0 in
     all_contains (λ (o : LinkedObject). (k : ℕ) → k < num_symbols o.file.bytes → g.P.Places.has_symbol c.args.places.now o.number k)
     c.args.objects.now c.index-objects-place.result c.requires.symbols
-    (c.place_of-place.result, c.place_of-place.ensures.within, sym c.index-objects-place.is) s.symbol can.among
+    (c.place_from-place.result, c.place_from-place.ensures.within, sym c.index-objects-place.is) s.symbol can.among
 
 pub row_of-row-requires-clause-size : goal.row_of-row-requires-clause-size
 row_of-row-requires-clause-size g c =
@@ -61,15 +61,8 @@ row_of-row-requires-clause-size g c =
     item_long some.0 c.args.listed.now now c.loop-symbol.symbol-index none some.2.listed_are c.as_slice-symbol-items.ensures.value
     c.loop-symbol-test.true
     ∙ ap (λ (b : List ℕ). length (symbol_name b s.symbol))
-    (object_is some.0 c.args.objects.now s.file c.place_of-place.result c.index-objects-place.result some.2.objects_are
-    c.place_of-place.ensures c.index-objects-place.is)
-
-pub row_of-row-requires-clause-told : goal.row_of-row-requires-clause-told
-row_of-row-requires-clause-told g c =
-    c.deref.ensures.value
-    ∙ numbers_of_object (placed_of c.args.placement.now) c.args.objects.now c.in_ok-numbers.numbers.items c.place_of-place.result
-    c.index-objects-place.result c.index.result.now c.in_ok-numbers.ensures c.place_of-place.ensures.within c.index-objects-place.is
-    c.index.ensures
+    (object_is some.0 c.args.objects.now s.file c.place_from-place.result c.index-objects-place.result some.2.objects_are
+    c.place_from-place.ensures c.index-objects-place.is)
 
 pub begin-table-requires : goal.begin-table-requires
 begin-table-requires g c = omega (arith, c.len.ensures, c.requires.room, c.requires.link.2.listed_are.strings_are)
@@ -84,10 +77,14 @@ push-requires g c =
     let s = get_or now n none in
     let listed = item_listed some.0 c.args.listed.now now n none some.2.listed_are c.as_slice-symbol-items.ensures.value
     c.loop-symbol-test.true in
-    let rests = row_rests some.0 some.1 p look c.args.objects.now c.args.listed.now (option_copied c.args.lists) c.place_of-place.result
-    c.index-objects-place.result (id_of_symbol s) some.2 listed c.place_of-place.ensures c.index-objects-place.is in
-    let row = next_row some.0 some.1 p s c.args.objects.now c.place_of-place.result c.index-objects-place.result
-    (row_seen c.row_of-row.result) c.place_of-place.ensures c.index-objects-place.is (c.row_of-row.ensures some.0 some.1 rests.1) in
+    let rests = row_rests some.0 some.1 p look c.args.objects.now c.args.listed.now (option_copied c.args.lists) c.place_from-place.result
+    c.index-objects-place.result (id_of_symbol s) some.2 listed c.place_from-place.ensures c.index-objects-place.is in
+    let told = c.deref.ensures.value
+    ∙ numbers_of_object p c.args.objects.now c.in_ok-numbers.numbers.objects.items c.place_from-place.result c.index-objects-place.result
+    c.index.result.now c.in_ok-numbers.ensures.sections c.place_from-place.ensures.within c.index-objects-place.is c.index.ensures in
+    let row = next_row some.0 some.1 p s c.args.objects.now c.place_from-place.result c.index-objects-place.result
+    (row_seen c.row_of-row.result) c.place_from-place.ensures c.index-objects-place.is
+    (c.row_of-row.ensures some.0 some.1 p told c.in_ok-numbers.ensures.commons rests.1) in
     let room = row_fits some.0 some.1 p c.args.listed.now now n none (row_seen c.row_of-row.result) c.loop-symbol.table c.args.out.now
     c.loop-symbol.out some.2.listed_are c.requires.short c.requires.room c.as_slice-symbol-items.ensures.value c.loop-symbol-test.true row
     (c.loop-symbol.invariant some.0 some.1 some.2) in
@@ -106,12 +103,16 @@ loop-symbol-preserved g c l counts to =
     let n = c.loop-symbol.symbol-index in
     let s = get_or now n none in
     let listed = item_listed l c.args.listed.now now n none to.listed_are c.as_slice-symbol-items.ensures.value c.loop-symbol-test.true in
-    let rests = row_rests l counts p look c.args.objects.now c.args.listed.now (option_copied c.args.lists) c.place_of-place.result
-    c.index-objects-place.result (id_of_symbol s) to listed c.place_of-place.ensures c.index-objects-place.is in
+    let rests = row_rests l counts p look c.args.objects.now c.args.listed.now (option_copied c.args.lists) c.place_from-place.result
+    c.index-objects-place.result (id_of_symbol s) to listed c.place_from-place.ensures c.index-objects-place.is in
+    let told = c.deref.ensures.value
+    ∙ numbers_of_object p c.args.objects.now c.in_ok-numbers.numbers.objects.items c.place_from-place.result c.index-objects-place.result
+    c.index.result.now c.in_ok-numbers.ensures.sections c.place_from-place.ensures.within c.index-objects-place.is c.index.ensures in
     table_more l counts p c.args.listed.now now n none (row_seen c.row_of-row.result) c.push.new.self c.args.out.now c.push.new.out
     c.as_slice-symbol-items.ensures.value c.loop-symbol-test.true
-    (next_row l counts p s c.args.objects.now c.place_of-place.result c.index-objects-place.result (row_seen c.row_of-row.result)
-    c.place_of-place.ensures c.index-objects-place.is (c.row_of-row.ensures l counts rests.1))
+    (next_row l counts p s c.args.objects.now c.place_from-place.result c.index-objects-place.result (row_seen c.row_of-row.result)
+    c.place_from-place.ensures c.index-objects-place.is
+    (c.row_of-row.ensures l counts p told c.in_ok-numbers.ensures.commons rests.1))
     (c.push.ensures.written (length c.args.listed.now.symbols.items) (rows_to l counts p c.args.listed.now n) c.args.out.now
     (c.loop-symbol.invariant l counts to))
 

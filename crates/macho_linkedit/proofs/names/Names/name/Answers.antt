@@ -3,8 +3,8 @@ use Rattle.std.proofs.Common.{◌≡◌, ℕ, ◌+◌, ◌-◌, take, drop, ap, 
 use Rattle.macho_names.proofs.Strings.{string_stands}
 use Rattle.macho_linkedit.proofs.names.Names.name.Goals as goal
 
-pub returns : goal.returns
-returns c =
+pub returns-clause-found : goal.returns-clause-found
+returns-clause-found c =
     let s = c.args.self.now.strings.now in
     let at = c.args.at in
     let size = c.string_end.result - at in
