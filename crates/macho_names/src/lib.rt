@@ -4,7 +4,6 @@
 mod ends;
 mod fault;
 mod files;
-mod found;
 mod kinds;
 mod notes;
 mod resolve;
@@ -13,7 +12,6 @@ mod table;
 pub use ends::{block_ends, string_end};
 pub use fault::SymbolFault;
 pub use files::FileNames;
-pub use found::{NO_ENTRY, found_entries};
 pub use kinds::{is_absolute, is_common, is_global};
 pub use macho_object::File;
 pub use macho_stub::DefinedStubLibrary;

@@ -10,6 +10,7 @@ ghost use Rattle.std.specs.Prelude.{◌≡◌, ℕ, ◌+◌, ◌/◌, ◌%◌, �
 ghost use Rattle.std.specs.List.{fold};
 ghost use Rattle.macho_names.specs.Kept.{no_file};
 ghost use Rattle.macho_names.specs.steps.Events.{row_at, row_count, event_at, beats};
+ghost use Rattle.macho_names.specs.steps.Found.{HaveGrown};
 ghost use Rattle.macho_names.specs.steps.Notes.{named_row, CommonFits};
 ghost use Rattle.macho_names.specs.steps.Tables.{IsEmptyTable, hash_step, hash_of, IsPlaceOfName, IsTagged, entry_name, IsTable, IsEntryOf, IsNowhere, IsAdded, TakesIn, Refuses, IsThere, no_entry, both_strong, names_of};
 
@@ -185,7 +186,7 @@ impl Table {
         name: &[u8],
         hash: u64,
         place: Option<Place>,
-    ) -> Option<usize>
+    ) -> Option<u32>
         requires table { IsTable files.now self.now.heads.items self.now.entries.items }
         requires hash { hash ≡ hash_of name.now }
         requires place { IfSome place (IsPlaceOfName files.now name.now) }
@@ -194,8 +195,8 @@ impl Table {
     {
         let mut at = self.heads[self.bucket(hash)];
         while at != 0 {
-            let number = at as usize - 1;
-            let entry = self.entries[number];
+            let number = at - 1;
+            let entry = self.entries[number as usize];
             if is_named(files, entry, name, hash, place) {
                 return Some(number);
             }
@@ -210,17 +211,20 @@ impl Table {
         ensures found { IfSome result (λ j. IsEntryOf files.now self.now.entries.items name.now j) }
         ensures none { IfNone result (IsNowhere name.now (names_of files.now self.now.entries.items)) }
     {
-        self.find_from(files, name, hash(name), None)
+        match self.find_from(files, name, hash(name), None) {
+            Some(number) => Some(number as usize),
+            None => None,
+        }
     }
 
     /// The number of the entry of a row's name, of which the hash is given.
-    pub fn find_row(
+    pub(crate) fn find_row(
         &self,
         files: &[FileNames<'_>],
         file: u32,
         row: usize,
         hash: u64,
-    ) -> Option<usize>
+    ) -> Option<u32>
         requires file { file < length files.now }
         requires row { row < row_count files.now file }
         requires table { IsTable files.now self.now.heads.items self.now.entries.items }
@@ -234,14 +238,14 @@ impl Table {
 }
 
 impl Table {
-    /// Adds a name, which a row brings.
+    /// Adds a name, which a row brings, and answers the number of its entry.
     pub(crate) fn add(
         &mut self,
         files: &[FileNames<'_>],
         file: u32,
         row: usize,
         hash: u64,
-    ) -> Result<(), AllocError>
+    ) -> Result<u32, AllocError>
         requires hash { hash ≡ hash_of (row_at files.now file row).name }
         requires file { file < length files.now }
         requires row { row < row_count files.now file }
@@ -249,6 +253,7 @@ impl Table {
         requires new { IsNowhere (row_at files.now file row).name (names_of files.now self.old.entries.items) }
         ensures table { OnOk result (IsTable files.now self.new.heads.items self.new.entries.items) }
         ensures added { OnOk result (IsAdded self.old.entries.items self.new.entries.items file row) }
+        ensures number { IfOk result (λ number. number ≡ length self.old.entries.items) }
     {
         let bucket = self.bucket(hash);
         let next = self.heads[bucket];
@@ -264,8 +269,9 @@ impl Table {
             file,
             tag: tag(hash),
         })?;
-        self.heads[bucket] = number as u32 + 1;
-        Ok(())
+        let number = number as u32;
+        self.heads[bucket] = number + 1;
+        Ok(number)
     }
 }
 
@@ -327,6 +333,7 @@ impl Table {
         requires global { (row_at files.now file row).global ≡ true }
         requires entry { IsEntryOf files.now self.old.entries.items (row_at files.now file row).name number }
         ensures table { OnOk result (IsTable files.now self.new.heads.items self.new.entries.items) }
+        ensures grown { OnOk result (HaveGrown files.now self.old.entries.items self.new.entries.items) }
         ensures done { OnOk result (TakesIn files.now self.old.heads.items self.old.entries.items self.new.heads.items self.new.entries.items (event_at files.now file row ∷ [])) }
         ensures why { IfErr result (Refuses files.now self.old.heads.items self.old.entries.items (event_at files.now file row ∷ [])) }
     {

@@ -9,7 +9,7 @@ ghost use Rattle.macho_symbols.specs.Kept.{IsResolved};
 use crate::choosing::chosen_commons;
 use crate::resolved::Resolved;
 use crate::solved::{Solved, UNNUMBERED};
-use macho_names::{DefinedStubLibrary, File, FileNames, SymbolFault, Table, found_entries};
+use macho_names::{DefinedStubLibrary, File, FileNames, SymbolFault, Table};
 use std::alloc::{AllocError, Global};
 use std::marker::Model;
 
@@ -117,9 +117,8 @@ impl<'data> Resolver<'data> {
         let alloc = self.alloc;
         let files = self.files;
         let mut table = Table::new(alloc, named_rows(&files))?;
-        table.take_files(&files)?;
-        let commons = chosen_commons(alloc, &files, &table)?;
-        let found = found_entries(alloc, &files, &table)?;
+        let found = table.take_files(&files)?;
+        let commons = chosen_commons(alloc, &files, &table, &found)?;
         let numbers = vec![in alloc; UNNUMBERED; table.entries.len()]?;
         Ok(Resolved {
             solved: Solved {

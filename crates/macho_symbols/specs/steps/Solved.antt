@@ -62,7 +62,7 @@ IsImportIn files i =
 -- all that is known
 pub record IsSolved (s : Solved) : Type 0 where
   pub known : IsKnown s.files.items s.table.heads.items s.table.entries.items (events s.files.items)
-  pub found : AreFound s.files.items s.table.entries.items s.found.items
+  pub found : AreFound s.files.items s.table.entries.items (length s.files.items) s.found.items
   pub commons : s.commons.items ≡ map common_told (chosen_in s.files.items)
   pub few_commons : length s.commons.items < 2 ^ 32
   pub few_imports : length s.imports.items < UNNUMBERED + 1
