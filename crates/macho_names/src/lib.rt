@@ -4,6 +4,7 @@
 mod ends;
 mod fault;
 mod files;
+mod hashing;
 mod kinds;
 mod notes;
 mod resolve;
@@ -16,4 +17,4 @@ pub use kinds::{is_absolute, is_common, is_global};
 pub use macho_object::File;
 pub use macho_stub::DefinedStubLibrary;
 pub use notes::{Name, Note, Sort, in_carried};
-pub use table::{Entry, Table, hash_of_row, name_in, note_in, rows_in};
+pub use table::{Entry, Table, name_in, note_in, rows_in};

@@ -9,11 +9,11 @@
 ghost use Rattle.std.specs.Prelude.{◌≡◌, ◌^◌, ◌<◌, [], ◌∷◌, length, IfOk, OnOk, IfErr};
 ghost use Rattle.macho_names.specs.steps.Events.{row_at, row_count, event_at, events_of_file, events};
 ghost use Rattle.macho_names.specs.steps.Found.{IsFound, AreFoundIn, AreFound, HaveGrown};
-ghost use Rattle.macho_names.specs.steps.Tables.{IsTable, IsKnown, IsClash, TakesIn, Refuses};
+ghost use Rattle.macho_names.specs.steps.Tables.{heads_of, IsTable, IsKnown, IsClash, TakesIn, Refuses};
 
 use crate::fault::SymbolFault;
 use crate::files::FileNames;
-use crate::table::{Table, hash_of_row, note_in, rows_in};
+use crate::table::{Table, note_in, rows_in};
 
 /// The number that stands for no entry, of a row that isn't global.
 const NO_ENTRY: u32 = u32::MAX;
@@ -28,17 +28,17 @@ impl Table {
     ) -> Result<u32, SymbolFault>
         requires file { file < length files.now }
         requires row { row < row_count files.now file }
-        requires table { IsTable files.now self.old.heads.items self.old.entries.items }
-        ensures table { OnOk result (IsTable files.now self.new.heads.items self.new.entries.items) }
+        requires table { IsTable files.now (heads_of self.old) self.old.entries.items }
+        ensures table { OnOk result (IsTable files.now (heads_of self.new) self.new.entries.items) }
         ensures grown { OnOk result (HaveGrown files.now self.old.entries.items self.new.entries.items) }
         ensures found { IfOk result (λ number. IsFound files.now self.new.entries.items file row number) }
-        ensures done { OnOk result (TakesIn files.now self.old.heads.items self.old.entries.items self.new.heads.items self.new.entries.items (event_at files.now file row ∷ [])) }
-        ensures why { IfErr result (Refuses files.now self.old.heads.items self.old.entries.items (event_at files.now file row ∷ [])) }
+        ensures done { OnOk result (TakesIn files.now (heads_of self.old) self.old.entries.items (heads_of self.new) self.new.entries.items (event_at files.now file row ∷ [])) }
+        ensures why { IfErr result (Refuses files.now (heads_of self.old) self.old.entries.items (event_at files.now file row ∷ [])) }
     {
         if !note_in(files, file, row).global {
             return Ok(NO_ENTRY);
         }
-        let hash = hash_of_row(files, file, row);
+        let hash = self.hash_of_row(files, file, row);
         let Some(number) = self.find_row(files, file, row, hash) else {
             return Ok(self.add(files, file, row, hash)?);
         };
@@ -49,12 +49,12 @@ impl Table {
     /// Takes the rows of a file in: answers the numbers of their entries.
     fn take_file(&mut self, files: &[FileNames<'_>], file: u32) -> Result<Vec<u32>, SymbolFault>
         requires file { file < length files.now }
-        requires table { IsTable files.now self.old.heads.items self.old.entries.items }
-        ensures table { OnOk result (IsTable files.now self.new.heads.items self.new.entries.items) }
+        requires table { IsTable files.now (heads_of self.old) self.old.entries.items }
+        ensures table { OnOk result (IsTable files.now (heads_of self.new) self.new.entries.items) }
         ensures grown { OnOk result (HaveGrown files.now self.old.entries.items self.new.entries.items) }
         ensures found { IfOk result (λ found. AreFoundIn files.now self.new.entries.items file (row_count files.now file) found.items) }
-        ensures done { OnOk result (TakesIn files.now self.old.heads.items self.old.entries.items self.new.heads.items self.new.entries.items (events_of_file files.now file (row_count files.now file))) }
-        ensures why { IfErr result (Refuses files.now self.old.heads.items self.old.entries.items (events_of_file files.now file (row_count files.now file))) }
+        ensures done { OnOk result (TakesIn files.now (heads_of self.old) self.old.entries.items (heads_of self.new) self.new.entries.items (events_of_file files.now file (row_count files.now file))) }
+        ensures why { IfErr result (Refuses files.now (heads_of self.old) self.old.entries.items (events_of_file files.now file (row_count files.now file))) }
     {
         let count = rows_in(files, file);
         let mut found = Vec::with_capacity(*self.heads.allocator(), count)?;
@@ -72,8 +72,8 @@ impl Table {
     /// A name has two strong definitions, or there is not enough memory.
     pub fn take_files(&mut self, files: &[FileNames<'_>]) -> Result<Vec<Vec<u32>>, SymbolFault>
         requires few { length files.now < 2 ^ 32 }
-        requires known { IsKnown files.now self.old.heads.items self.old.entries.items [] }
-        ensures done { OnOk result (IsKnown files.now self.new.heads.items self.new.entries.items (events files.now)) }
+        requires known { IsKnown files.now (heads_of self.old) self.old.entries.items [] }
+        ensures done { OnOk result (IsKnown files.now (heads_of self.new) self.new.entries.items (events files.now)) }
         ensures found { IfOk result (λ found. AreFound files.now self.new.entries.items (length files.now) found.items) }
         ensures why { IfErr result (IsClash (events files.now)) }
     {

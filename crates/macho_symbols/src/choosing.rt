@@ -3,7 +3,7 @@ ghost use Rattle.std.specs.Prelude.{◌≡◌, ◌^◌, ◌<◌, ◌++◌, ◌&&
 ghost use Rattle.macho_bytes.specs.Numbers.{rounded_up};
 ghost use Rattle.macho_names.specs.steps.Events.{row_at, row_count, event_at, events, events_of_file, strength};
 ghost use Rattle.macho_names.specs.steps.Found.{AreFound};
-ghost use Rattle.macho_names.specs.steps.Tables.{IsKnown};
+ghost use Rattle.macho_names.specs.steps.Tables.{heads_of, IsKnown};
 ghost use Rattle.macho_symbols.specs.steps.Targets.{defines_in, is_chosen_in, is_of_object, chosen_in};
 ghost use Rattle.macho_symbols.specs.steps.Solved.{common_told};
 
@@ -33,7 +33,7 @@ pub(crate) fn is_definition(
     requires file { file < length files.now }
     requires row { row < row_count files.now file }
     requires found { AreFound files.now table.now.entries.items (length files.now) found.now }
-    requires known { IsKnown files.now table.now.heads.items table.now.entries.items (events files.now) }
+    requires known { IsKnown files.now (heads_of table.now) table.now.entries.items (events files.now) }
     ensures { result ≡ defines_in files.now (event_at files.now file row) }
 {
     if !note_in(files, file, row).global {
@@ -56,7 +56,7 @@ fn is_chosen(
     requires file { file < length files.now }
     requires row { row < row_count files.now file }
     requires found { AreFound files.now table.now.entries.items (length files.now) found.now }
-    requires known { IsKnown files.now table.now.heads.items table.now.entries.items (events files.now) }
+    requires known { IsKnown files.now (heads_of table.now) table.now.entries.items (events files.now) }
     ensures { result ≡ is_chosen_in files.now (event_at files.now file row) }
 {
     note_in(files, file, row).strength() == 2 && is_definition(files, table, found, file, row)
@@ -93,7 +93,7 @@ fn add_commons(
 ) -> Result<(), SymbolFault>
     requires file { file < length files.now }
     requires found { AreFound files.now table.now.entries.items (length files.now) found.now }
-    requires known { IsKnown files.now table.now.heads.items table.now.entries.items (events files.now) }
+    requires known { IsKnown files.now (heads_of table.now) table.now.entries.items (events files.now) }
     ensures added { OnOk result (commons.new.items ≡ commons.old.items ++ map common_told (filter (is_chosen_in files.now) (events_of_file files.now file (row_count files.now file)))) }
     ensures why { IfErr result (λ fault. fault ≡ SymbolFault.OutOfMemory) }
 {
@@ -115,7 +115,7 @@ pub(crate) fn chosen_commons(
 ) -> Result<Vec<Common>, SymbolFault>
     requires few { length files.now < 2 ^ 32 }
     requires found { AreFound files.now table.now.entries.items (length files.now) found.now }
-    requires known { IsKnown files.now table.now.heads.items table.now.entries.items (events files.now) }
+    requires known { IsKnown files.now (heads_of table.now) table.now.entries.items (events files.now) }
     ensures commons { IfOk result (λ commons. commons.items ≡ map common_told (chosen_in files.now)) }
     ensures few { IfOk result (λ commons. length commons.items < 2 ^ 32) }
     ensures why { IfErr result (λ fault. fault ≡ SymbolFault.OutOfMemory) }

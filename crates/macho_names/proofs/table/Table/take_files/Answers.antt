@@ -2,7 +2,7 @@ use Rattle.std.proofs.Common.{◌≡◌, length, ap, arith, subst}
 use Rattle.std.proofs.lemmas.Result.{err_from_is_err_and}
 use Rattle.macho_names.specs.steps.Events.{events_of}
 use Rattle.macho_names.specs.steps.Found.{AreFound}
-use Rattle.macho_names.specs.steps.Tables.{IsKnown}
+use Rattle.macho_names.specs.steps.Tables.{heads_of, IsKnown}
 use Rattle.macho_names.proofs.FoundRows.{no_file_found, file_found}
 use Rattle.macho_names.proofs.Taking.{clash_in_files, files_more, files_none}
 use Rattle.macho_names.proofs.table.Table.take_files.Goals as goal
@@ -28,7 +28,7 @@ returns-in_err-take_file-clause-why c =
 pub returns-clause-done : goal.returns-clause-done
 returns-clause-done c =
     let all : c.loop-file.file ≡ length c.args.files.now = omega arith in
-    subst (λ n. IsKnown c.args.files.now c.loop-file.self.heads.items c.loop-file.self.entries.items (events_of c.args.files.now n)) all
+    subst (λ n. IsKnown c.args.files.now (heads_of c.loop-file.self) c.loop-file.self.entries.items (events_of c.args.files.now n)) all
     c.loop-file.invariant.known
 
 pub returns-clause-found : goal.returns-clause-found

@@ -2,7 +2,7 @@ use Rattle.std.proofs.Common.{◌≡◌, ℕ, ◌<◌, ap, ◌∙◌, subst, ref
 use Rattle.std.proofs.lemmas.List.{get_or-replicate, length-replicate}
 use Rattle.macho_names.specs.Kept.{FileRows}
 use Rattle.macho_names.specs.steps.Events.{events, is_strong_of}
-use Rattle.macho_names.specs.steps.Tables.{IsClash, IsKnown}
+use Rattle.macho_names.specs.steps.Tables.{heads_of, IsClash, IsKnown}
 use Rattle.macho_symbols.specs.declared.solved.TheConstants.{UNNUMBERED}
 use Rattle.macho_symbols.specs.steps.Solved.{IsNumbered, IsImportIn}
 use Rattle.std.proofs.lemmas.List.Elements.{All-nil}
@@ -49,7 +49,7 @@ invariant_of-result c = record {
 
 pub returns-clause-single : goal.returns-clause-single
 returns-clause-single c l keeps name =
-    let known : IsKnown c.deref-2.result.now c.take_files.new.self.heads.items c.take_files.new.self.entries.items
+    let known : IsKnown c.deref-2.result.now (heads_of c.take_files.new.self) c.take_files.new.self.entries.items
     (events c.deref-2.result.now) = c.in_ok-found.ensures.done in
     single_is l name
     (subst (λ (fs : List FileRows). length (filter (is_strong_of name) (events fs)) ≤ 1) (c.deref-2.ensures.value ∙ c.self.view_is
