@@ -7,6 +7,7 @@ So a small object may ask for much work, or for an image of gigabytes. A case fa
 takes more than the seconds (user and system) or the memory that stand with it: both have ample room, so that a slow machine passes.
 """
 import argparse
+import itertools
 import os
 import subprocess
 import sys
@@ -39,11 +40,12 @@ def object_of(sections, data, moved, symbols, names=None, commands=b"", count=0)
         where = (behind + table, number) if number else (0, 0)
         headers += section_header(name, segment, address, length, in_file, exponent, flags, 0, where)
         end = max(end, address + length)
-    rows, strings = b"", names or b"\0"
+    rows, strings = bytearray(), bytearray(names or b"\0")
     for symbol in symbols:
         place = symbol[0]
         if isinstance(place, bytes):
-            place, strings = len(strings), strings + place + b"\0"
+            place = len(strings)
+            strings += symbol[0] + b"\0"
         rows += pack("<IBBHQ", place, *symbol[1:])
     table = behind + len(moved)
     out = pack("<IIIIIIII", 0xFEEDFACF, 0x0100000C, 0, 1, 2 + count, size, 0, 0)
@@ -82,6 +84,34 @@ def sought():
     names = b"\0_main\0" + b"g" * 10_000_000 + b"\0"
     symbols = [(1, *MAIN[1:])] + [(7, 1, 0, 0, 0)] * 100_000
     return object_of([text_alone()], RETURN, b"", symbols, names)
+
+
+def bucket():
+    """524,286 undefined symbols, and one function: their hashes by FNV-1a, without a seed, leave one rest by 2^19, the number of rows
+    and one. A name's end is looked up by the low bits of the hash so far, which it brings to 0."""
+    prime, modulus = 0x100000001B3, 1 << 19
+    inverse = pow(prime, -1, modulus)
+    letters, ends = range(48, 112), {}
+    for end in itertools.product(letters, repeat=3):
+        low = 0
+        for byte in reversed(end):
+            low = low * inverse % modulus ^ byte
+        ends[low] = bytes(end)
+    symbols = [MAIN]
+    for front in itertools.product(letters, repeat=4):
+        low = 0xCBF29CE484222325 % modulus
+        for byte in (95, *front):
+            low = (low ^ byte) * prime % modulus
+        if low in ends:
+            symbols.append((b"_" + bytes(front) + ends[low], 1, 0, 0, 0))
+        if len(symbols) == modulus - 1:
+            return object_of([text_alone()], RETURN, b"", symbols)
+
+
+def alike():
+    """3,800 undefined symbols whose names of 4,104 bytes differ in the middle alone."""
+    symbols = [MAIN] + [(b"_" + b"a" * 2_050 + b"%04d" % number + b"a" * 2_049, 1, 0, 0, 0) for number in range(3_800)]
+    return object_of([text_alone()], RETURN, b"", symbols)
 
 
 def shared(sections, count, section=b"__data"):
@@ -144,6 +174,8 @@ CASES = {
     "tails": ("100,000 local symbols named by tails of one name of 10 MB", tails, "image too large", 20, 400),
     "offered": ("100,000 global functions named by tails of one name of 10 MB", offered, "memory", 20, 400),
     "sought": ("100,000 undefined symbols that share one name of 10 MB", sought, None, 20, 400),
+    "bucket": ("524,286 undefined symbols whose names share a bucket, were it chosen without a seed", bucket, None, 20, 400),
+    "alike": ("3,800 undefined symbols whose names of 4,104 bytes differ in the middle", alike, None, 20, 400),
     "overlap": ("2,000 sections that share one table of 100,000 relocations at one place", overlapping, "overlap", 60, 400),
     "branches": ("2,000 sections that share one table of 100,000 branches", lambda: branches(2_000), "out of range", 240, 3_000),
     "reach": ("320 sections that share one table of 100,000 branches", lambda: branches(320), None, 240, 3_000),

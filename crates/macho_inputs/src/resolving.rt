@@ -41,7 +41,7 @@ fn add_input<'data>(
     Ok(())
 }
 
-/// Resolves the symbols of the inputs. No import is noted yet.
+/// Resolves the symbols of the inputs. No import is noted yet. Names are looked for by hashes that begin with the seed.
 ///
 /// # Errors
 ///
@@ -49,6 +49,7 @@ fn add_input<'data>(
 pub fn resolve_inputs<'data>(
     alloc: Global,
     inputs: &'data [OwnedInput],
+    seed: u64,
 ) -> Result<Resolved<'data>, LinkError>
     requires rules { All (λ input. IsInput (input_of input)) inputs.now }
     requires few { length inputs.now < 2 ^ 32 }
@@ -57,7 +58,7 @@ pub fn resolve_inputs<'data>(
         → OnOk result ((name : List ℕ) (first second : ℕ) → IsDuplicate l name first second → ⊥) }
     ensures why { (l : Link) (counts : Counts) → l.inputs ≡ map input_of inputs.now → IfErr result (Stands l counts) }
 {
-    let mut resolver = Resolver::new(alloc);
+    let mut resolver = Resolver::new(alloc, seed);
     for input in inputs {
         add_input(alloc, &mut resolver, input)?;
     }

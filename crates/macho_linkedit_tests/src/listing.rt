@@ -100,7 +100,7 @@ fn resolve<'a>(alloc: Global, file: &File<'a>) -> Result<Resolved<'a>, Fail>
     requires { file.now.is_dynamic ≡ false }
     ensures { IfOk result (IsAlone file.now.bytes) }
 {
-    let mut resolver = Resolver::new(alloc);
+    let mut resolver = Resolver::new(alloc, 1);
     resolver.add_object(file)?;
     match resolver.resolve() {
         Ok(resolved) => Ok(resolved),

@@ -43,12 +43,21 @@ fn entry_name<'a>(asked: &LinkAsked<'a>) -> Option<&'a [u8]>
     }
 }
 
+/// What the hashes of names begin with: the first bytes of the UUID. It is a digest of the inputs, unless the user gives one, so no
+/// object can be made against it.
+fn seed_of(uuid: [u8; 16]) -> u64 {
+    u64::from_le_bytes([
+        uuid[0], uuid[1], uuid[2], uuid[3], uuid[4], uuid[5], uuid[6], uuid[7],
+    ])
+}
+
 /// Resolves the symbols of the inputs, and reads what the objects ask for.
 fn read_inputs<'a>(
     alloc: Global,
     asked: &LinkAsked<'a>,
     views: &[Option<File<'_>>],
     list: Option<&ExportList>,
+    seed: u64,
 ) -> Result<ReadLink<'a>, LinkError>
     requires given { IsGiven asked.now }
     requires views { views.now ≡ views_of (link_asked asked.now) }
@@ -58,7 +67,7 @@ fn read_inputs<'a>(
     ensures single { OnOk result (IsSingle (link_asked asked.now)) }
     ensures why { IfErr result (StandsAlways (link_asked asked.now)) }
 {
-    let resolved = resolve_inputs(alloc, asked.inputs)?;
+    let resolved = resolve_inputs(alloc, asked.inputs, seed)?;
     read_link(alloc, resolved, views, entry_name(asked), list)
 }
 
@@ -236,7 +245,8 @@ fn link_viewed(alloc: Global, viewed: &Viewed<'_>, uuid: [u8; 16]) -> Result<Lin
     ensures why { IfErr result (IsRefused (link_asked viewed.now.asked.now)) }
 {
     let asked = viewed.asked;
-    let read = read_inputs(alloc, asked, viewed.views, viewed.list)?;
+    let seed = seed_of(uuid);
+    let read = read_inputs(alloc, asked, viewed.views, viewed.list, seed)?;
     let symbols = &read.needs.resolved;
     let libraries = needed_libraries(alloc, symbols, asked.dead_strip_dylibs)?;
     link_read(alloc, viewed, read, libraries, uuid)

@@ -5,9 +5,9 @@ use Rattle.std.proofs.lemmas.List.Elements.{All-nil}
 use Rattle.macho_names.specs.steps.Events.{event_at, best_of}
 use Rattle.macho_names.specs.steps.Tables.{IsEmptyTable, IsThere, IsTagged, entry_name}
 
-pub empty_knows : (n : ℕ) → 1 ≤ n → IsEmptyTable (replicate n 0) []
+pub empty_knows : (seed n : ℕ) → 1 ≤ n → IsEmptyTable (record { seed = seed; items = replicate n 0 }) []
 unfolding best_of
-empty_knows n some = record {
+empty_knows seed n some = record {
   knows = λ files. record {
     table = record {
       chained = record {
@@ -21,7 +21,7 @@ empty_knows n some = record {
         onward = λ j k less h same. absurd (omega (arith, h));
       };
       there = All-nil (IsThere files);
-      tagged = All-nil (IsTagged files);
+      tagged = All-nil (IsTagged seed files);
       apart = λ j k less h same. absurd (omega (arith, h));
     };
     knows = record {

@@ -6,7 +6,7 @@ use Rattle.std.proofs.lemmas.List.{get_or-map, length-map}
 use Rattle.std.proofs.lemmas.Bool.{cases_lt}
 use Rattle.macho_names.specs.declared.table.Entry.{Entry}
 use Rattle.macho_names.specs.Kept.{FileRows}
-use Rattle.macho_names.specs.steps.Tables.{IsTable, IsAhead, bucket_of, entry_name, names_of, nexts_of}
+use Rattle.macho_names.specs.steps.Tables.{Heads, IsTable, IsAhead, bucket_of, entry_name, names_of, nexts_of}
 
 -- the name and the next of an entry, by its number
 pub name_of_entry : (files : List FileRows) (entries : List Entry) (i : ℕ) (d : Entry) → i < length entries
@@ -18,14 +18,14 @@ pub next_of_entry : (entries : List Entry) (i : ℕ) (d : Entry) → i < length 
 next_of_entry entries i d within = get_or-map (λ e. e.next) entries i d 0 within
 
 -- it begins at the newest entry
-pub ahead_first : (files : List FileRows) (heads : List ℕ) (entries : List Entry) (name : List ℕ) (at : ℕ) → IsTable files heads entries
-    → bucket_of heads name < length heads → at ≡ get_or heads (bucket_of heads name) 0 → IsAhead files heads entries name at
+pub ahead_first : (files : List FileRows) (heads : Heads) (entries : List Entry) (name : List ℕ) (at : ℕ) → IsTable files heads entries
+    → bucket_of heads name < length heads.items → at ≡ get_or heads.items (bucket_of heads name) 0 → IsAhead files heads entries name at
 ahead_first files heads entries name at table within is = record {
   within = omega (arith, table.chained.newest (bucket_of heads name) within, length-map entries (entry_name files));
   ahead = λ k h named.
-      let reached : k < get_or heads (bucket_of heads (get_or (names_of files entries) k [])) 0 = table.chained.reached k
+      let reached : k < get_or heads.items (bucket_of heads (get_or (names_of files entries) k [])) 0 = table.chained.reached k
       (omega (arith, length-map entries (entry_name files))) in
-      let here : k < get_or heads (bucket_of heads name) 0 = subst (λ (n : List ℕ). k < get_or heads (bucket_of heads n) 0) named reached in
+      let here : k < get_or heads.items (bucket_of heads name) 0 = subst (λ (n : List ℕ). k < get_or heads.items (bucket_of heads n) 0) named reached in
       omega arith;
   same = λ m e. table.chained.begins (bucket_of heads name) m within (sym is ∙ e);
 }
@@ -34,7 +34,7 @@ pub cases_eq : (k n : ℕ) → k ≤ n → (k ≡ n) ⊎ (k < n)
 cases_eq k n h = elim (cases_lt k n) [ inl less ↦ inr less | inr more ↦ inl (omega arith) ]
 
 -- it goes on to the next, where an entry is of another name
-pub ahead_next : (files : List FileRows) (heads : List ℕ) (entries : List Entry) (name : List ℕ) (at : ℕ) (e d : Entry)
+pub ahead_next : (files : List FileRows) (heads : Heads) (entries : List Entry) (name : List ℕ) (at : ℕ) (e d : Entry)
     → IsTable files heads entries
     → IsAhead files heads entries name at → 1 ≤ at → e ≡ get_or entries (at - 1) d → (entry_name files e ≡ name → ⊥)
     → IsAhead files heads entries name e.next
@@ -60,7 +60,7 @@ ahead_next files heads entries name at e d table here some is other =
     not_here k h is_name (inr before) named = before
 
 -- and the next is older
-pub next_smaller : (files : List FileRows) (heads : List ℕ) (entries : List Entry) (name : List ℕ) (at : ℕ) (e d : Entry)
+pub next_smaller : (files : List FileRows) (heads : Heads) (entries : List Entry) (name : List ℕ) (at : ℕ) (e d : Entry)
     → IsTable files heads entries
     → IsAhead files heads entries name at → 1 ≤ at → e ≡ get_or entries (at - 1) d → e.next < at
 next_smaller files heads entries name at e d table here some is =

@@ -5,7 +5,8 @@ use Rattle.std.proofs.lemmas.List.Elements.{All-set}
 use Rattle.macho_names.specs.declared.table.Entry.{Entry}
 use Rattle.macho_names.specs.Kept.{FileRows}
 use Rattle.macho_names.specs.steps.Events.{row_at, beats}
-use Rattle.macho_names.specs.steps.Tables.{IsTable, IsThere, IsTagged, IsImproved, hash_of, no_entry, row_of_entry, both_strong, entry_name, names_of}
+use Rattle.macho_names.specs.steps.Hashing.{hash_of}
+use Rattle.macho_names.specs.steps.Tables.{Heads, IsTable, IsThere, IsTagged, IsImproved, no_entry, row_of_entry, both_strong, entry_name, names_of}
 use Rattle.macho_names.proofs.Lists.{map_set_same}
 
 -- names and nexts stay where an entry leads to another row of its name
@@ -15,15 +16,15 @@ pub names_stay : (files : List FileRows) (entries : List Entry) (number : ℕ) (
 names_stay files entries number e same = map_set_same (entry_name files) entries number e no_entry same
 
 -- the table stays one
-pub table_stays : (files : List FileRows) (heads : List ℕ) (entries : List Entry) (number : ℕ) (e : Entry) → IsTable files heads entries
+pub table_stays : (files : List FileRows) (heads : Heads) (entries : List Entry) (number : ℕ) (e : Entry) → IsTable files heads entries
     → e.next ≡ (get_or entries number no_entry).next → entry_name files e ≡ entry_name files (get_or entries number no_entry)
     → IsThere files e → number < length entries → e.tag ≡ (get_or entries number no_entry).tag
     → IsTable files heads (set entries number e)
 table_stays files heads entries number e table next same there within tag = record {
   chained = rw (map_set_same (λ x. x.next) entries number e no_entry next, names_stay files entries number e same) table.chained;
   there = All-set (IsThere files) entries number e there table.there;
-  tagged = All-set (IsTagged files) entries number e
-      (tag ∙ table.tagged number no_entry within ∙ ap (λ n. hash_of n / 2 ^ 32) (sym same)) table.tagged;
+  tagged = All-set (IsTagged heads.seed files) entries number e
+      (tag ∙ table.tagged number no_entry within ∙ ap (λ n. hash_of heads.seed n / 2 ^ 32) (sym same)) table.tagged;
   apart = λ j k less h. rw (names_stay files entries number e same) (table.apart j k less (omega (arith, h, length-set entries number e)));
 }
 

@@ -10,7 +10,7 @@ use Rattle.macho_names.specs.declared.fault.SymbolFault.{SymbolFault}
 use Rattle.macho_names.specs.declared.fault.SymbolFault.TheVariants.{DuplicateSymbol, UndefinedSymbol, ExportListMissing, OutOfMemory}
 use Rattle.macho_names.specs.Kept.{FileRows}
 use Rattle.macho_names.specs.steps.Events.{Event, row_at, event_at, beats, strength, is_of, is_level, is_strong_of, better, best_of}
-use Rattle.macho_names.specs.steps.Tables.{Knows, IsTable, IsImproved, IsNowhere, IsEntryOf, IsClash, AreBothStrong, entry_name, names_of, no_entry, row_of_entry}
+use Rattle.macho_names.specs.steps.Tables.{Heads, Knows, IsTable, IsImproved, IsNowhere, IsEntryOf, IsClash, AreBothStrong, entry_name, names_of, no_entry, row_of_entry}
 use Rattle.macho_names.proofs.Lists.{filter_none, filter_one}
 use Rattle.macho_names.proofs.Chains.{name_of_entry}
 use Rattle.macho_names.proofs.ChainsMore.{same_or_not}
@@ -66,7 +66,7 @@ first_false true true e h = e
 first_false true false e h = absurd (false≢true h)
 
 -- two entries have two names
-pub apart_any : (files : List FileRows) (heads : List ℕ) (entries : List Entry) (j k : ℕ) → IsTable files heads entries
+pub apart_any : (files : List FileRows) (heads : Heads) (entries : List Entry) (j k : ℕ) → IsTable files heads entries
     → j < length entries → k < length entries → j ≢ k
     → get_or (names_of files entries) j [] ≡ get_or (names_of files entries) k [] → ⊥
 apart_any files heads entries j k table hj hk other same = elim (cases_lt j k) [
@@ -75,7 +75,7 @@ apart_any files heads entries j k table hj hk other same = elim (cases_lt j k) [
 ]
 
 -- What is known, with the entry of the event's name improved.
-pub knows_improved : (files : List FileRows) (heads : List ℕ) (es : List Event) (entries new : List Entry) (number file row : ℕ)
+pub knows_improved : (files : List FileRows) (heads : Heads) (es : List Event) (entries new : List Entry) (number file row : ℕ)
     → IsTable files heads entries
     → Knows files es entries → (row_at files file row).global ≡ true → IsEntryOf files entries (row_at files file row).name number
     → IsImproved files entries new number file row → Knows files (es ++ event_at files file row ∷ []) new

@@ -12,3 +12,4 @@ pub mod Noting
 pub mod Order
 pub mod Strings
 pub mod Taking
+pub mod Words

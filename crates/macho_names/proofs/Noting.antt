@@ -1,6 +1,6 @@
 -- Notes added one at a time. A note that is added stands for one row more, and the notes before it still stand for
 -- theirs: a note's name is inside the bytes, and bytes that are added stand behind them.
-use Rattle.std.proofs.Common.{◌≡◌, ℕ, ◌+◌, ◌<◌, ◌≤◌, true, false, List, [], ◌∷◌, ◌++◌, length, map, slice_range, take, refl, ap, sym, ◌∙◌, arith, append-nil, append_assoc, Bor, length-append, get_or}
+use Rattle.std.proofs.Common.{◌≡◌, ℕ, ◌+◌, ◌<◌, ◌≤◌, true, false, List, [], ◌∷◌, ◌++◌, length, map, slice_range, take, refl, ◌∙◌, arith, append-nil, append_assoc, Bor, length-append, get_or}
 use Rattle.std.specs.List.{range_with_len, filter}
 use Rattle.std.proofs.lemmas.List.{map-append, take_more}
 use Rattle.macho_stub_lines.specs.Lists.{texts}
@@ -12,8 +12,7 @@ use Rattle.std.proofs.lemmas.List.Elements.{All-push, All-nil}
 use Rattle.macho_names.specs.declared.notes.Note.{Note}
 use Rattle.macho_names.specs.Kept.{Row, row_of_symbol, rows_of_stub, is_offered, offered_row}
 use Rattle.macho_object.specs.Objects.{symbol_name}
-use Rattle.macho_names.specs.steps.Notes.{row_in, IsWithin, IsHashOf, CommonFits, AreNoted, IsString}
-use Rattle.macho_names.specs.steps.Tables.{hash_of}
+use Rattle.macho_names.specs.steps.Notes.{row_in, IsWithin, CommonFits, AreNoted, IsString}
 
 offered_fits : (n : Note) → n.sort ≡ Offered → CommonFits n.sort n.number n.value
 offered_fits n is = rw is tt
@@ -23,12 +22,11 @@ row_longer text more n within = rw (slice_front text more n.name.at (n.name.at +
 
 -- a note more
 pub noted_more : (text : List ℕ) (notes : List Note) (rows : List Row) (n : Note) (row : Row) → AreNoted text notes rows → IsWithin text n
-    → IsHashOf text n.name n.hash → CommonFits n.sort n.number n.value → row_in text n ≡ row
+    → CommonFits n.sort n.number n.value → row_in text n ≡ row
     → AreNoted text (notes ++ n ∷ []) (rows ++ row ∷ [])
-noted_more text notes rows n row noted within hashed small is = record {
+noted_more text notes rows n row noted within small is = record {
   held = record {
     within = All-push (IsWithin text) notes n noted.held.within within;
-    hashed = All-push (λ m. IsHashOf text m.name m.hash) notes n noted.held.hashed hashed;
     small = All-push (λ m. CommonFits m.sort m.number m.value) notes n noted.held.small small;
   };
   are = rw (map-append (row_in text) notes (n ∷ []), noted.are, is) refl;
@@ -37,17 +35,17 @@ noted_more text notes rows n row noted within hashed small is = record {
 -- rows of an object, one symbol more
 pub object_row_more : (b : List ℕ) (text : List ℕ) (notes : List Note) (k : ℕ) (n : Note)
     → AreNoted text notes (map (row_of_symbol b) (range_with_len 0 k))
-    → IsString text n.name → IsHashOf text n.name n.hash → CommonFits n.sort n.number n.value → row_in text n ≡ row_of_symbol b k
+    → IsString text n.name → CommonFits n.sort n.number n.value → row_in text n ≡ row_of_symbol b k
     → AreNoted text (notes ++ n ∷ []) (map (row_of_symbol b) (range_with_len 0 (k + 1)))
-object_row_more b text notes k n noted named hashed small is = rw (map-range_with_len_more (row_of_symbol b) 0 k k (omega arith))
-    (noted_more text notes _ n _ noted named.within hashed small is)
+object_row_more b text notes k n noted named small is = rw (map-range_with_len_more (row_of_symbol b) 0 k k (omega arith))
+    (noted_more text notes _ n _ noted named.within small is)
 
 -- what a dynamic library offers, one symbol more: it is offered, or it isn't
 pub offered_more : (b : List ℕ) (text : List ℕ) (notes : List Note) (k : ℕ) (n : Note)
     → AreNoted text notes (map (λ j. offered_row (symbol_name b j)) (filter (is_offered b) (range_with_len 0 k))) → is_offered b k ≡ true
-    → IsString text n.name → IsHashOf text n.name n.hash → n.sort ≡ Offered → row_in text n ≡ offered_row (symbol_name b k)
+    → IsString text n.name → n.sort ≡ Offered → row_in text n ≡ offered_row (symbol_name b k)
     → AreNoted text (notes ++ n ∷ []) (map (λ j. offered_row (symbol_name b j)) (filter (is_offered b) (range_with_len 0 (k + 1))))
-offered_more b text notes k n noted offered named hashed sort is =
+offered_more b text notes k n noted offered named sort is =
     let f : ℕ → Row = λ j. offered_row (symbol_name b j) in
     rw (
       range_push k,
@@ -56,7 +54,7 @@ offered_more b text notes k n noted offered named hashed sort is =
       map-append f
           (filter (is_offered b) (range_with_len 0 k)) (k ∷ []),
     )
-    (noted_more text notes _ n _ noted named.within hashed (offered_fits n sort) is)
+    (noted_more text notes _ n _ noted named.within (offered_fits n sort) is)
 
 pub not_offered_more : (b : List ℕ) (text : List ℕ) (notes : List Note) (k : ℕ)
     → AreNoted text notes (map (λ j. offered_row (symbol_name b j)) (filter (is_offered b) (range_with_len 0 k))) → is_offered b k ≡ false
@@ -76,10 +74,6 @@ pub noted_longer : (text more : List ℕ) (notes : List Note) (rows : List Row) 
 noted_longer text more notes rows noted = record {
   held = record {
     within = λ k d h. omega (arith, noted.held.within k d h, length-append text more);
-    hashed =
-        λ k d h. noted.held.hashed k d h
-        ∙ ap hash_of (sym (slice_front text more (get_or notes k d).name.at ((get_or notes k d).name.at + (get_or notes k d).name.length)
-        (noted.held.within k d h)));
     small = noted.held.small;
   };
   are = map_same (row_in (text ++ more)) (row_in text) notes (λ k d h. row_longer text more (get_or notes k d) (noted.held.within k d h))
@@ -89,22 +83,20 @@ noted_longer text more notes rows noted = record {
 -- a name that is added behind the others
 pub name_more : (text name : List ℕ) (notes : List Note) (rows : List Row) (n : Note) (at long : ℕ) → AreNoted text notes rows
     → at ≡ length text
-    → long ≡ length name → n.name ≡ record { at = at; length = long } → n.hash ≡ hash_of name → n.sort ≡ Offered
+    → long ≡ length name → n.name ≡ record { at = at; length = long } → n.sort ≡ Offered
     → ((t : List ℕ) → row_in t n ≡ offered_row (slice_range t at (at + long)))
     → AreNoted (text ++ name) (notes ++ n ∷ []) (rows ++ offered_row name ∷ [])
-name_more text name notes rows n at long noted first all place hashed sort is =
+name_more text name notes rows n at long noted first all place sort is =
     let inside : n.name.at + n.name.length ≤ length (text ++ name) = rw place (omega (arith, length-append text name)) in
     let row : row_in (text ++ name) n ≡ offered_row (slice_range (text ++ name) at (at + long)) = is (text ++ name) in
-    let own : slice_range (text ++ name) n.name.at (n.name.at + n.name.length) ≡ name = rw (place, first, all) (slice_behind text name) in
-    noted_more (text ++ name) notes rows n _ (noted_longer text name notes rows noted) inside (hashed ∙ ap hash_of (sym own))
-    (offered_fits n sort)
+    noted_more (text ++ name) notes rows n _ (noted_longer text name notes rows noted) inside (offered_fits n sort)
     (row ∙ rw (first, all, slice_behind text name) refl)
 
 -- no names yet
 pub none_noted : AreNoted [] [] []
 none_noted = record {
   held = record
-      { within = All-nil (IsWithin []); hashed = All-nil (λ n. IsHashOf [] n.name n.hash); small = All-nil (λ n. CommonFits n.sort n.number n.value) };
+      { within = All-nil (IsWithin []); small = All-nil (λ n. CommonFits n.sort n.number n.value) };
   are = refl;
 }
 

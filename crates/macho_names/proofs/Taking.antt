@@ -10,7 +10,7 @@ use Rattle.macho_names.specs.declared.fault.SymbolFault.{SymbolFault}
 use Rattle.macho_names.specs.declared.fault.SymbolFault.TheVariants.{DuplicateSymbol, UndefinedSymbol, ExportListMissing, OutOfMemory}
 use Rattle.macho_names.specs.Kept.{FileRows}
 use Rattle.macho_names.specs.steps.Events.{Event, row_at, row_count, event_at, events_of_file, events_of, is_strong_of}
-use Rattle.macho_names.specs.steps.Tables.{IsTable, IsKnown, IsClash, TakesIn, Refuses, IsNowhere, IsAdded, IsImproved, IsEntryOf, AreBothStrong, names_of}
+use Rattle.macho_names.specs.steps.Tables.{Heads, IsTable, IsKnown, IsClash, TakesIn, Refuses, IsNowhere, IsAdded, IsImproved, IsEntryOf, AreBothStrong, names_of}
 use Rattle.macho_names.proofs.Lists.{range_push}
 use Rattle.macho_names.proofs.Knowing.{knows_nameless, knows_added}
 use Rattle.macho_names.proofs.KnowingBetter.{knows_improved, clash_told}
@@ -30,32 +30,32 @@ clash_more es more (DuplicateSymbol name first second) clash = record {
 }
 
 -- nothing is taken in
-pub takes_none : (files : List FileRows) (heads : List ℕ) (entries : List Entry) → TakesIn files heads entries heads entries []
+pub takes_none : (files : List FileRows) (heads : Heads) (entries : List Entry) → TakesIn files heads entries heads entries []
 takes_none files heads entries = record { says = λ es known. rw (append-nil es) known }
 
 -- some events, and then others
-pub takes_both : (files : List FileRows) (heads : List ℕ) (entries : List Entry) (heads' : List ℕ) (entries' : List Entry)
-    (heads'' : List ℕ) (entries'' : List Entry)
+pub takes_both : (files : List FileRows) (heads : Heads) (entries : List Entry) (heads' : Heads) (entries' : List Entry)
+    (heads'' : Heads) (entries'' : List Entry)
     (some more : List Event) → TakesIn files heads entries heads' entries' some → TakesIn files heads' entries' heads'' entries'' more
     → TakesIn files heads entries heads'' entries'' (some ++ more)
 takes_both files heads entries heads' entries' heads'' entries'' some more first then =
     record { says = λ es known. rw (← append_assoc es some more) (then.says (es ++ some) (first.says es known)) }
 
 -- some events, and then a clash; and a clash that others follow
-pub refuses_then : (files : List FileRows) (heads : List ℕ) (entries : List Entry) (heads' : List ℕ) (entries' : List Entry)
+pub refuses_then : (files : List FileRows) (heads : Heads) (entries : List Entry) (heads' : Heads) (entries' : List Entry)
     (some more : List Event) (fault : SymbolFault)
     → TakesIn files heads entries heads' entries' some → Refuses files heads' entries' more fault
     → Refuses files heads entries (some ++ more) fault
 refuses_then files heads entries heads' entries' some more fault first then =
     record { says = λ es known. rw (← append_assoc es some more) (then.says (es ++ some) (first.says es known)) }
 
-pub refuses_more : (files : List FileRows) (heads : List ℕ) (entries : List Entry) (some more : List Event) (fault : SymbolFault)
+pub refuses_more : (files : List FileRows) (heads : Heads) (entries : List Entry) (some more : List Event) (fault : SymbolFault)
     → Refuses files heads entries some fault → Refuses files heads entries (some ++ more) fault
 refuses_more files heads entries some more fault first =
     record { says = λ es known. rw (← append_assoc es some more) (clash_more (es ++ some) more fault (first.says es known)) }
 
 -- one row
-pub takes_nameless : (files : List FileRows) (heads : List ℕ) (entries : List Entry) (file row : ℕ) → (row_at files file row).global ≡ false
+pub takes_nameless : (files : List FileRows) (heads : Heads) (entries : List Entry) (file row : ℕ) → (row_at files file row).global ≡ false
     → TakesIn files heads entries heads entries (event_at files file row ∷ [])
 takes_nameless files heads entries file row local =
     record {
@@ -66,7 +66,7 @@ takes_nameless files heads entries file row local =
       };
     }
 
-pub takes_new : (files : List FileRows) (heads : List ℕ) (entries : List Entry) (heads' : List ℕ) (entries' : List Entry) (file row : ℕ)
+pub takes_new : (files : List FileRows) (heads : Heads) (entries : List Entry) (heads' : Heads) (entries' : List Entry) (file row : ℕ)
     → (row_at files file row).global ≡ true
     → IsNowhere (row_at files file row).name (names_of files entries) → IsAdded entries entries' file row → IsTable files heads' entries'
     → TakesIn files heads entries heads' entries' (event_at files file row ∷ [])
@@ -76,7 +76,7 @@ takes_new files heads entries heads' entries' file row global nowhere added tabl
           { table = table; knows = knows_added files es entries entries' file row known.knows global nowhere added };
     }
 
-pub takes_better : (files : List FileRows) (heads : List ℕ) (entries : List Entry) (heads' : List ℕ) (entries' : List Entry)
+pub takes_better : (files : List FileRows) (heads : Heads) (entries : List Entry) (heads' : Heads) (entries' : List Entry)
     (number file row : ℕ) → (row_at files file row).global ≡ true
     → IsEntryOf files entries (row_at files file row).name number → IsImproved files entries entries' number file row
     → IsTable files heads' entries'
@@ -90,7 +90,7 @@ takes_better files heads entries heads' entries' number file row global of_name 
       };
     }
 
-pub refuses_row : (files : List FileRows) (heads : List ℕ) (entries : List Entry) (number file row : ℕ) (fault : SymbolFault)
+pub refuses_row : (files : List FileRows) (heads : Heads) (entries : List Entry) (number file row : ℕ) (fault : SymbolFault)
     → (row_at files file row).global ≡ true
     → IsEntryOf files entries (row_at files file row).name number → AreBothStrong files entries number file row fault
     → Refuses files heads entries (event_at files file row ∷ []) fault
@@ -134,7 +134,7 @@ files_split files few (suc more) =
     )
 
 -- a clash among the first rows, or the first files, is one among all
-pub refuses_file : (files : List FileRows) (heads : List ℕ) (entries : List Entry) (heads' : List ℕ) (entries' : List Entry)
+pub refuses_file : (files : List FileRows) (heads : Heads) (entries : List Entry) (heads' : Heads) (entries' : List Entry)
     (file row count : ℕ) (fault : SymbolFault) → row < count
     → TakesIn files heads entries heads' entries' (events_of_file files file row)
     → Refuses files heads' entries' (event_at files file row ∷ []) fault
@@ -145,7 +145,7 @@ refuses_file files heads entries heads' entries' file row count fault less taken
     ap (events_of_file files file) (omega arith) ∙ rest.1 ∙ ap (λ xs. xs ++ rest.0) (file_rows_more files file row) in
     rw all (refuses_more files heads entries _ rest.0 fault (refuses_then files heads entries heads' entries' _ _ fault taken refused))
 
-pub clash_in_files : (files : List FileRows) (heads : List ℕ) (entries : List Entry) (file count : ℕ) (fault : SymbolFault) → file < count
+pub clash_in_files : (files : List FileRows) (heads : Heads) (entries : List Entry) (file count : ℕ) (fault : SymbolFault) → file < count
     → IsKnown files heads entries (events_of files file)
     → Refuses files heads entries (events_of_file files file (row_count files file)) fault
     → IsClash (events_of files count) fault

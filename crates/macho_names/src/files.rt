@@ -8,14 +8,12 @@ ghost use Rattle.macho_object.specs.Symbols.{is_in_section, is_absolute};
 ghost use Rattle.macho_stub_lines.specs.Lists.{texts};
 ghost use Rattle.macho_names.specs.Kept.{Row, kept_object, kept_dylib, kept_stub, reading_of, rows_of_object, rows_of_dylib, offered_row, is_offered, no_row};
 ghost use Rattle.macho_names.specs.steps.Events.{library_text};
-ghost use Rattle.macho_names.specs.steps.Notes.{AreNoted, AreEnds, IsString, IsHashOf, CommonFits, row_in, named_row};
-ghost use Rattle.macho_names.specs.steps.Tables.{hash_of};
+ghost use Rattle.macho_names.specs.steps.Notes.{AreNoted, AreEnds, IsString, CommonFits, row_in, named_row};
 ghost use Rattle.macho_names.specs.steps.Texts.{bytes_of};
 
 use crate::ends::block_ends;
 use crate::kinds::{is_absolute, is_in_section};
-use crate::notes::{Name, Note, Sort, hash_in, name_at, note_of};
-use crate::table::hash;
+use crate::notes::{Name, Note, Sort, name_at, note_of};
 use macho_object::File;
 use macho_records::SymtabEntry;
 use macho_stub::DefinedStubLibrary;
@@ -90,7 +88,6 @@ fn offered_note(file: &File<'_>, ends: &[u32], index: u32) -> Option<Note>
     ensures offered { is_some result ≡ is_offered file.now.bytes index }
     ensures row { IfSome result (λ n. row_in (strings_of file.now.bytes) n ≡ offered_row (symbol_name file.now.bytes index)) }
     ensures held { IfSome result (λ n. IsString (strings_of file.now.bytes) n.name × (n.sort ≡ Sort.Offered)) }
-    ensures hashed { IfSome result (λ n. IsHashOf (strings_of file.now.bytes) n.name n.hash) }
 {
     let symbol = file.symbol(index)?;
     let _whole = file.is_dynamic();
@@ -98,7 +95,7 @@ fn offered_note(file: &File<'_>, ends: &[u32], index: u32) -> Option<Note>
         return None;
     }
     let name = name_at(file.strings(), ends, symbol.n_strx);
-    Some(offered(name, hash_in(file.strings(), name)))
+    Some(offered(name))
 }
 
 /// Whether a symbol is defined: in a section, or as a value of its own.
@@ -108,16 +105,14 @@ fn is_defined(symbol: SymtabEntry) -> bool
     is_in_section(symbol) || is_absolute(symbol)
 }
 
-/// The note of a name that a library offers, with its hash.
-fn offered(name: Name, hash: u64) -> Note
+/// The note of a name that a library offers.
+fn offered(name: Name) -> Note
     ensures row { (text : List ℕ) → row_in text result ≡ offered_row (slice_range text name.at (name.at + name.length)) }
     ensures name { result.name ≡ name }
-    ensures hash { result.hash ≡ hash }
     ensures sort { result.sort ≡ Sort.Offered }
 {
     Note {
         name,
-        hash,
         value: 0,
         sort: Sort::Offered,
         number: 0,
@@ -160,7 +155,7 @@ fn offer_names(text: &mut Vec<u8>, notes: &mut Vec<Note>, names: &[&str]) -> Res
             at: at as u32,
             length: length as u32,
         };
-        notes.push(offered(name, hash(bytes)))?;
+        notes.push(offered(name))?;
     }
     Ok(())
 }
@@ -241,6 +236,15 @@ impl<'data> FileNames<'data> {
         self.notes.len()
     }
 
+    /// How many rows are global, and so have a name that others may define.
+    pub fn count_global(&self) -> usize {
+        let mut count = 0usize;
+        for note in &self.notes {
+            count = count.saturating_add(usize::from(note.global));
+        }
+        count
+    }
+
     /// Whether it is an object.
     pub fn is_object(&self) -> bool
         ensures { result ≡ is_none self.now.library }
@@ -274,14 +278,6 @@ impl<'data> FileNames<'data> {
         ensures { result ≡ length (get_or self.now.rows row no_row).name }
     {
         self.notes[row].name.length
-    }
-
-    /// The hash of the name of a row.
-    pub(crate) fn hash(&self, row: usize) -> u64
-        requires { row < length self.now.rows }
-        ensures { result ≡ hash_of (get_or self.now.rows row no_row).name }
-    {
-        self.notes[row].hash
     }
 
     /// Whether two rows have one name, standing in one place.

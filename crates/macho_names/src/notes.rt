@@ -3,18 +3,17 @@
 //! Of `_main`, the second symbol of an object with the string table `00 5f 6d 61 69 6e 00`, that stands 16 bytes behind
 //! the start of the first section:
 //!
-//!     name 1, 5 bytes   hash of `_main`   sort Section   number 0   value 16   global, not weak, not hidden
+//!     name 1, 5 bytes   sort Section   number 0   value 16   global, not weak, not hidden
 ghost use Rattle.std.specs.Prelude.{◌≡◌, ◌+◌, ◌^◌, ◌<◌, ◌≤◌, true, false, ◌==◌, length, if◌then◌else◌};
 ghost use Rattle.macho_records.specs.Symbols.{is_common_of, common_of, common_size_of, common_exponent_of};
 ghost use Rattle.macho_object.specs.Symbols.{is_global};
 ghost use Rattle.macho_object.specs.Objects.{num_symbols, strings_of, symbol_at};
 ghost use Rattle.macho_names.specs.Kept.{in_carried, sort_of, number_of, value_of, row_of_symbol};
 ghost use Rattle.macho_names.specs.steps.Events.{strength_of, size_of_common};
-ghost use Rattle.macho_names.specs.steps.Notes.{row_in, AreEnds, IsString, IsHashOf, CommonFits};
+ghost use Rattle.macho_names.specs.steps.Notes.{row_in, AreEnds, IsString, CommonFits};
 
 use crate::ends::string_end;
 use crate::kinds::{is_absolute, is_global};
-use crate::table::hash;
 use macho_object::{File, is_carried};
 use macho_records::{CommonSymbol, SymtabEntry};
 
@@ -47,8 +46,6 @@ pub struct Name {
 pub struct Note {
     /// The name; empty of a local symbol.
     pub name: Name,
-    /// The hash of the name, made while its bytes were at hand.
-    pub hash: u64,
     /// The place in the section, the absolute value, or the common's size.
     pub value: u64,
     /// Where it leads by itself.
@@ -79,15 +76,6 @@ pub(crate) fn name_at(strings: &[u8], ends: &[u32], at: u32) -> Name
         at,
         length: (string_end(strings, ends, start) - start) as u32,
     }
-}
-
-/// The hash of a name that stands in some bytes.
-pub(crate) fn hash_in(text: &[u8], name: Name) -> u64
-    requires { name.at + name.length ≤ length text.now }
-    ensures { IsHashOf text.now name result }
-{
-    let at = name.at as usize;
-    hash(&text[at..at + name.length as usize])
 }
 
 /// Whether a symbol of an object stands in a carried section.
@@ -193,7 +181,6 @@ pub(crate) fn note_of(file: &File<'_>, ends: &[u32], index: u32) -> Note
     requires among { index < num_symbols file.now.bytes }
     requires ends { AreEnds (strings_of file.now.bytes) ends.now }
     ensures named { IsString (strings_of file.now.bytes) result.name }
-    ensures hashed { IsHashOf (strings_of file.now.bytes) result.name result.hash }
     ensures row { row_in (strings_of file.now.bytes) result ≡ row_of_symbol file.now.bytes index }
     ensures small { CommonFits result.sort result.number result.value }
 {
@@ -204,7 +191,6 @@ pub(crate) fn note_of(file: &File<'_>, ends: &[u32], index: u32) -> Note
     let name = name_of_symbol(file, ends, index, symbol);
     Note {
         name,
-        hash: hash_in(file.strings(), name),
         value: lead.value,
         sort: lead.sort,
         number: lead.number,

@@ -1,20 +1,22 @@
 //! The table of names: for each name that some row mentions, the best row so far.
 //!
-//! It holds no name of its own: an entry leads to a row, whose file holds the name. Names are found by a hash, whose
-//! buckets chain entries from the newest to the oldest. An entry keeps the high half of its name's hash, so that names
-//! which only share a bucket are told apart without a look at them:
+//! It holds no name of its own: an entry leads to a row, whose file holds the name. Names are found by a hash: its low bits
+//! tell the bucket, which chains its entries from the newest to the oldest. An entry keeps the high half of its name's hash,
+//! so that names which only share a bucket are told apart without a look at them:
 //!
 //!     heads     0  2  0  1             of four buckets, two hold one entry each
 //!     entries   { next 0, file 0, row 3, tag .. }  { next 0, file 1, row 0, tag .. }
-ghost use Rattle.std.specs.Prelude.{◌≡◌, ℕ, ◌+◌, ◌/◌, ◌%◌, ◌^◌, ◌<◌, ◌≤◌, length, IfSome, IfNone, IsSomeAnd, IfErr, IfOk, OnOk, get_or, true, false, [], ◌∷◌};
-ghost use Rattle.std.specs.List.{fold};
+ghost use Rattle.std.specs.Prelude.{◌≡◌, ℕ, ◌+◌, ◌-◌, ◌/◌, ◌^◌, ◌<◌, ◌≤◌, bit_and, length, IfSome, IfNone, IsSomeAnd, IfErr, IfOk, OnOk, get_or, true, false, [], ◌∷◌};
 ghost use Rattle.macho_names.specs.Kept.{no_file};
 ghost use Rattle.macho_names.specs.steps.Events.{row_at, row_count, event_at, beats};
+ghost use Rattle.macho_names.specs.steps.Found.{HaveGrown};
+ghost use Rattle.macho_names.specs.steps.Hashing.{hash_of};
 ghost use Rattle.macho_names.specs.steps.Notes.{named_row, CommonFits};
-ghost use Rattle.macho_names.specs.steps.Tables.{IsEmptyTable, hash_step, hash_of, IsPlaceOfName, IsTagged, entry_name, IsTable, IsEntryOf, IsNowhere, IsAdded, TakesIn, Refuses, IsThere, no_entry, both_strong, names_of};
+ghost use Rattle.macho_names.specs.steps.Tables.{heads_of, IsEmptyTable, IsPlaceOfName, IsTagged, entry_name, IsTable, IsEntryOf, IsNowhere, IsAdded, TakesIn, Refuses, IsThere, no_entry, both_strong, names_of};
 
 use crate::fault::SymbolFault;
 use crate::files::FileNames;
+use crate::hashing::hash;
 use crate::notes::Note;
 use std::alloc::{AllocError, Global};
 
@@ -31,41 +33,18 @@ pub struct Entry {
     pub tag: u32,
 }
 
-/// How many bytes of a long name's front and of its end are hashed.
-const HASHED: usize = 512;
+/// The most buckets that a table has: no table has more entries.
+const MOST_BUCKETS: usize = 1 << 32;
 
 /// The table of names.
 #[derive(Drop)]
 pub struct Table {
+    /// What the hashes of names begin with.
+    pub seed: u64,
     /// For each bucket, one more than the number of its newest entry, 0 for none.
     pub heads: Vec<u32>,
     /// For each name its entry, in the order in which rows first brought them.
     pub entries: Vec<Entry>,
-}
-
-/// The hash FNV-1a of some bytes behind others, of 64 bits.
-fn hash_behind(start: u64, bytes: &[u8]) -> u64
-    ensures { result ≡ fold hash_step start bytes.now }
-{
-    let mut hash = start;
-    for byte in bytes {
-        hash = (hash ^ u64::from(*byte)).wrapping_mul(1_099_511_628_211);
-    }
-    hash
-}
-
-/// The hash of a name. Of a long one its length, its front and its end are hashed, so that many symbols that share it, or
-/// tails of it, are looked for in a short time.
-#[tactic(auto, unfolding(crate::specs::steps::Tables::hash_of))]
-pub fn hash(name: &[u8]) -> u64
-    ensures { result ≡ hash_of name.now }
-{
-    let start = 14_695_981_039_346_656_037u64;
-    if name.len() <= 2 * HASHED {
-        return hash_behind(start, name);
-    }
-    let front = hash_behind(start.wrapping_add(name.len() as u64), &name[..HASHED]);
-    hash_behind(front, &name[name.len() - HASHED..])
 }
 
 /// The part of a hash that entries keep.
@@ -90,15 +69,6 @@ pub fn name_in<'a>(files: &'a [FileNames<'_>], file: u32, row: usize) -> &'a [u8
     ensures { result.now ≡ (row_at files.now file row).name }
 {
     files[file as usize].name(row)
-}
-
-/// The hash of the name of a row of some files.
-pub fn hash_of_row(files: &[FileNames<'_>], file: u32, row: usize) -> u64
-    requires file { file < length files.now }
-    requires row { row < row_count files.now file }
-    ensures { result ≡ hash_of (row_at files.now file row).name }
-{
-    files[file as usize].hash(row)
 }
 
 /// The note of a row of some files.
@@ -133,49 +103,68 @@ fn is_at(files: &[FileNames<'_>], entry: Entry, place: Option<Place>) -> bool
     }
 }
 
-/// Whether an entry is of a name: by its tag, and then by where it stands, or by its bytes.
-fn is_named(
-    files: &[FileNames<'_>],
-    entry: Entry,
-    name: &[u8],
-    hash: u64,
-    place: Option<Place>,
-) -> bool
-    requires entry { IsThere files.now entry }
-    requires tagged { IsTagged files.now entry }
-    requires hash { hash ≡ hash_of name.now }
-    requires place { IfSome place (IsPlaceOfName files.now name.now) }
-    ensures yes { result ≡ true → entry_name files.now entry ≡ name.now }
-    ensures no { result ≡ false → entry_name files.now entry ≡ name.now → ⊥ }
+/// How many buckets a table of so many names has: a power of two.
+fn buckets_for(names: usize) -> usize
+    ensures { 1 ≤ result }
 {
-    if entry.tag != tag(hash) {
-        return false;
-    }
-    is_at(files, entry, place) || name_in(files, entry.file, entry.row as usize) == name
+    names.clamp(1, MOST_BUCKETS).next_power_of_two()
 }
 
 impl Table {
-    /// A table without names, with room for some.
+    /// A table without names, with room for some, and the seed of their hashes.
     ///
     /// # Errors
     ///
     /// There is not enough memory.
-    pub fn new(alloc: Global, names: usize) -> Result<Table, AllocError>
-        ensures { IfOk result (λ t. IsEmptyTable t.heads.items t.entries.items) }
+    pub fn new(alloc: Global, names: usize, seed: u64) -> Result<Table, AllocError>
+        ensures { IfOk result (λ t. IsEmptyTable (heads_of t) t.entries.items) }
     {
         Ok(Table {
-            heads: vec![in alloc; 0u32; names.saturating_add(1)]?,
+            seed,
+            heads: vec![in alloc; 0u32; buckets_for(names)]?,
             entries: Vec::with_capacity(alloc, names)?,
         })
     }
 
-    /// The bucket of a name's hash.
+    /// The bucket of a name's hash, by its low bits.
+    #[tactic(auto, using(std::proofs::lemmas::Nat::and_le_r))]
     fn bucket(&self, hash: u64) -> usize
         requires { 1 ≤ length self.now.heads.items }
-        ensures bucket { result ≡ hash % length self.now.heads.items }
+        ensures bucket { result ≡ bit_and hash (length self.now.heads.items - 1) }
         ensures within { result < length self.now.heads.items }
     {
-        (hash % self.heads.len() as u64) as usize
+        (hash & (self.heads.len() as u64 - 1)) as usize
+    }
+
+    /// The hash of the name of a row of some files.
+    pub(crate) fn hash_of_row(&self, files: &[FileNames<'_>], file: u32, row: usize) -> u64
+        requires file { file < length files.now }
+        requires row { row < row_count files.now file }
+        ensures { result ≡ hash_of self.now.seed (row_at files.now file row).name }
+    {
+        hash(self.seed, name_in(files, file, row))
+    }
+
+    /// Whether an entry is of a name: by its tag, and then by where it stands, or by its bytes.
+    fn is_named(
+        &self,
+        files: &[FileNames<'_>],
+        entry: Entry,
+        name: &[u8],
+        hash: u64,
+        place: Option<Place>,
+    ) -> bool
+        requires entry { IsThere files.now entry }
+        requires tagged { IsTagged self.now.seed files.now entry }
+        requires hash { hash ≡ hash_of self.now.seed name.now }
+        requires place { IfSome place (IsPlaceOfName files.now name.now) }
+        ensures yes { result ≡ true → entry_name files.now entry ≡ name.now }
+        ensures no { result ≡ false → entry_name files.now entry ≡ name.now → ⊥ }
+    {
+        if entry.tag != tag(hash) {
+            return false;
+        }
+        is_at(files, entry, place) || name_in(files, entry.file, entry.row as usize) == name
     }
 
     /// The number of the entry of a name, of which the hash is given, and the row that brings it, if one does.
@@ -185,18 +174,18 @@ impl Table {
         name: &[u8],
         hash: u64,
         place: Option<Place>,
-    ) -> Option<usize>
-        requires table { IsTable files.now self.now.heads.items self.now.entries.items }
-        requires hash { hash ≡ hash_of name.now }
+    ) -> Option<u32>
+        requires table { IsTable files.now (heads_of self.now) self.now.entries.items }
+        requires hash { hash ≡ hash_of self.now.seed name.now }
         requires place { IfSome place (IsPlaceOfName files.now name.now) }
         ensures found { IfSome result (λ j. IsEntryOf files.now self.now.entries.items name.now j) }
         ensures none { IfNone result (IsNowhere name.now (names_of files.now self.now.entries.items)) }
     {
         let mut at = self.heads[self.bucket(hash)];
         while at != 0 {
-            let number = at as usize - 1;
-            let entry = self.entries[number];
-            if is_named(files, entry, name, hash, place) {
+            let number = at - 1;
+            let entry = self.entries[number as usize];
+            if self.is_named(files, entry, name, hash, place) {
                 return Some(number);
             }
             at = entry.next;
@@ -206,25 +195,28 @@ impl Table {
 
     /// The number of a name's entry.
     pub fn find(&self, files: &[FileNames<'_>], name: &[u8]) -> Option<usize>
-        requires { IsTable files.now self.now.heads.items self.now.entries.items }
+        requires { IsTable files.now (heads_of self.now) self.now.entries.items }
         ensures found { IfSome result (λ j. IsEntryOf files.now self.now.entries.items name.now j) }
         ensures none { IfNone result (IsNowhere name.now (names_of files.now self.now.entries.items)) }
     {
-        self.find_from(files, name, hash(name), None)
+        match self.find_from(files, name, hash(self.seed, name), None) {
+            Some(number) => Some(number as usize),
+            None => None,
+        }
     }
 
     /// The number of the entry of a row's name, of which the hash is given.
-    pub fn find_row(
+    pub(crate) fn find_row(
         &self,
         files: &[FileNames<'_>],
         file: u32,
         row: usize,
         hash: u64,
-    ) -> Option<usize>
+    ) -> Option<u32>
         requires file { file < length files.now }
         requires row { row < row_count files.now file }
-        requires table { IsTable files.now self.now.heads.items self.now.entries.items }
-        requires hash { hash ≡ hash_of (row_at files.now file row).name }
+        requires table { IsTable files.now (heads_of self.now) self.now.entries.items }
+        requires hash { hash ≡ hash_of self.now.seed (row_at files.now file row).name }
         ensures found { IfSome result (λ j. IsEntryOf files.now self.now.entries.items (row_at files.now file row).name j) }
         ensures none { IfNone result (IsNowhere (row_at files.now file row).name (names_of files.now self.now.entries.items)) }
     {
@@ -234,21 +226,22 @@ impl Table {
 }
 
 impl Table {
-    /// Adds a name, which a row brings.
+    /// Adds a name, which a row brings, and answers the number of its entry.
     pub(crate) fn add(
         &mut self,
         files: &[FileNames<'_>],
         file: u32,
         row: usize,
         hash: u64,
-    ) -> Result<(), AllocError>
-        requires hash { hash ≡ hash_of (row_at files.now file row).name }
+    ) -> Result<u32, AllocError>
+        requires hash { hash ≡ hash_of self.old.seed (row_at files.now file row).name }
         requires file { file < length files.now }
         requires row { row < row_count files.now file }
-        requires table { IsTable files.now self.old.heads.items self.old.entries.items }
+        requires table { IsTable files.now (heads_of self.old) self.old.entries.items }
         requires new { IsNowhere (row_at files.now file row).name (names_of files.now self.old.entries.items) }
-        ensures table { OnOk result (IsTable files.now self.new.heads.items self.new.entries.items) }
+        ensures table { OnOk result (IsTable files.now (heads_of self.new) self.new.entries.items) }
         ensures added { OnOk result (IsAdded self.old.entries.items self.new.entries.items file row) }
+        ensures number { IfOk result (λ number. number ≡ length self.old.entries.items) }
     {
         let bucket = self.bucket(hash);
         let next = self.heads[bucket];
@@ -264,8 +257,9 @@ impl Table {
             file,
             tag: tag(hash),
         })?;
-        self.heads[bucket] = number as u32 + 1;
-        Ok(())
+        let number = number as u32;
+        self.heads[bucket] = number + 1;
+        Ok(number)
     }
 }
 
@@ -323,12 +317,13 @@ impl Table {
     ) -> Result<(), SymbolFault>
         requires file { file < length files.now }
         requires row { row < row_count files.now file }
-        requires table { IsTable files.now self.old.heads.items self.old.entries.items }
+        requires table { IsTable files.now (heads_of self.old) self.old.entries.items }
         requires global { (row_at files.now file row).global ≡ true }
         requires entry { IsEntryOf files.now self.old.entries.items (row_at files.now file row).name number }
-        ensures table { OnOk result (IsTable files.now self.new.heads.items self.new.entries.items) }
-        ensures done { OnOk result (TakesIn files.now self.old.heads.items self.old.entries.items self.new.heads.items self.new.entries.items (event_at files.now file row ∷ [])) }
-        ensures why { IfErr result (Refuses files.now self.old.heads.items self.old.entries.items (event_at files.now file row ∷ [])) }
+        ensures table { OnOk result (IsTable files.now (heads_of self.new) self.new.entries.items) }
+        ensures grown { OnOk result (HaveGrown files.now self.old.entries.items self.new.entries.items) }
+        ensures done { OnOk result (TakesIn files.now (heads_of self.old) self.old.entries.items (heads_of self.new) self.new.entries.items (event_at files.now file row ∷ [])) }
+        ensures why { IfErr result (Refuses files.now (heads_of self.old) self.old.entries.items (event_at files.now file row ∷ [])) }
     {
         let entry = self.entry(number);
         if are_strong(files, file, row, entry) {

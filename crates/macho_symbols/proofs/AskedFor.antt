@@ -17,6 +17,7 @@ use Rattle.macho_names.specs.Kept.{FileRows, kept_of}
 use Rattle.macho_symbols.specs.Kept.{ResolvedRows, IsResolved}
 use Rattle.macho_symbols.specs.Told.{noting_name, noting_names, AreDefined, IsMissing}
 use Rattle.macho_names.specs.steps.Events.{events, best_of}
+use Rattle.macho_names.specs.steps.Tables.{heads_of}
 use Rattle.macho_symbols.specs.steps.Targets.{named_in, is_next, is_nothing, is_missing_in, noting_name_in, noting_names_in}
 use Rattle.macho_symbols.specs.steps.Solved.{IsSolved, IsUnchanged, HasGrown, HaveNoted, IsMissingIn, noted_of}
 use Rattle.macho_symbols.proofs.Defined.{definition_is}
@@ -167,7 +168,7 @@ missing_among files fs vs i v name (ExportListMissing n) within here is same tol
 
 -- what was noted is taken off
 pub taken_back : (a b c : Solved) (n : ℕ) → HasGrown a b → n ≡ length a.imports.items → c.files.items ≡ b.files.items
-    → c.table.heads.items ≡ b.table.heads.items → c.table.entries.items ≡ b.table.entries.items → c.found.items ≡ b.found.items → c.commons.items ≡ b.commons.items
+    → heads_of c.table ≡ heads_of b.table → c.table.entries.items ≡ b.table.entries.items → c.found.items ≡ b.found.items → c.commons.items ≡ b.commons.items
     → c.imports.items ≡ take n b.imports.items → c.numbers.items ≡ a.numbers.items → IsUnchanged a c
 taken_back a b c n grown long files heads entries found commons imports numbers = record {
   files = files ∙ grown.files;

@@ -10,7 +10,7 @@ use Rattle.macho_symbols.specs.declared.solved.Common.{Common}
 use Rattle.macho_names.specs.declared.table.Entry.{Entry}
 use Rattle.macho_names.specs.Kept.{FileRows}
 use Rattle.macho_names.specs.steps.Events.{Event, row_at, row_count, event_at, events_of_file, events_of, events, best_of}
-use Rattle.macho_names.specs.steps.Tables.{IsKnown, IsEntryOf, IsNowhere, names_of, entry_name, no_entry}
+use Rattle.macho_names.specs.steps.Tables.{Heads, IsKnown, IsEntryOf, IsNowhere, names_of, entry_name, no_entry}
 use Rattle.macho_symbols.specs.steps.Targets.{is_chosen_in, defines_in, definition_by, defined_as, image_base, is_of_object, id_of}
 use Rattle.macho_symbols.specs.steps.Solved.{common_told}
 use Rattle.macho_names.proofs.Lists.{filter_one, filter_none}
@@ -72,7 +72,7 @@ by_image name e = of (bytes_eq name DSO_HANDLE)
     of true = refl
     of false = refl
 
-pub defines_by_entry : (files : List FileRows) (heads : List ℕ) (entries : List Entry) (file row number : ℕ) (best : Entry) (sort : Sort)
+pub defines_by_entry : (files : List FileRows) (heads : Heads) (entries : List Entry) (file row number : ℕ) (best : Entry) (sort : Sort)
     → IsKnown files heads entries (events files)
     → (row_at files file row).global ≡ true → IsEntryOf files entries (row_at files file row).name number
     → best ≡ get_or entries number no_entry
@@ -93,7 +93,7 @@ defines_by_entry files heads entries file row number best sort known global of_n
     (defined_as (row_at files file row).name s (event_at files best.file best.row))) (sym same)
     ∙ symbol_by (row_at files file row).name sort (event_at files file row) (event_at files best.file best.row)
 
-pub defines_nothing : (files : List FileRows) (heads : List ℕ) (entries : List Entry) (file row : ℕ)
+pub defines_nothing : (files : List FileRows) (heads : Heads) (entries : List Entry) (file row : ℕ)
     → IsKnown files heads entries (events files)
     → IsNowhere (row_at files file row).name (names_of files entries) → defines_in files (event_at files file row) ≡ false
 defines_nothing files heads entries file row known nowhere =

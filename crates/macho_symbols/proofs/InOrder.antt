@@ -24,7 +24,7 @@ use Rattle.macho_names.specs.declared.table.Entry.{Entry}
 use Rattle.macho_names.specs.Kept.{FileRows}
 use Rattle.macho_symbols.specs.Exported.{AreRising}
 use Rattle.macho_symbols.specs.steps.Exporting.{IsToldIn, AreTold, IsPairIn, AreFound, AreInOrder, pair_names}
-use Rattle.macho_names.specs.steps.Tables.{IsTable, IsNowhere, names_of, entry_name}
+use Rattle.macho_names.specs.steps.Tables.{Heads, IsTable, IsNowhere, names_of, entry_name}
 
 -- gathering, one entry further
 pub found_none : (files : List FileRows) (entries : List Entry) (test : List ℕ → Bool) → AreFound files entries test 0 []
@@ -62,7 +62,7 @@ found_same files entries test k pairs found within fails =
     }
 
 -- names of different entries differ, also those that pass a test
-distinct_names : (files : List FileRows) (heads : List ℕ) (entries : List Entry) → IsTable files heads entries
+distinct_names : (files : List FileRows) (heads : Heads) (entries : List Entry) → IsTable files heads entries
     → IsDistinct bytes_eq (names_of files entries)
 distinct_names files heads entries table =
     let names = names_of files entries in
@@ -120,7 +120,7 @@ rising (p ∷ items) sorted differ k d within =
     ap (λ x. slice_cmp nat_cmp x (get_or (pair_names xs) (k + 1) d)) first ∙ ap (slice_cmp nat_cmp (get_or xs k p).0.now) second ∙ less
 
 -- all names that pass, sorted
-pub in_order : (files : List FileRows) (heads : List ℕ) (entries : List Entry) (test : List ℕ → Bool) (count : ℕ)
+pub in_order : (files : List FileRows) (heads : Heads) (entries : List Entry) (test : List ℕ → Bool) (count : ℕ)
     (was items : List (Bor (List ℕ) × ℕ))
     → IsTable files heads entries → ((name : List ℕ) → IsNowhere name (names_of files entries) → test name ≡ false) → length entries ≤ count
     → AreFound files entries test count was → IsPermutation was items → IsSorted pair_cmp items → AreInOrder test (pair_names items)

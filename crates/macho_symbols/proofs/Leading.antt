@@ -13,7 +13,7 @@ use Rattle.macho_names.specs.declared.notes.Sort.TheVariants.{Section, Absolute,
 use Rattle.macho_names.specs.declared.table.Entry.{Entry}
 use Rattle.macho_names.specs.Kept.{FileRows}
 use Rattle.macho_names.specs.steps.Events.{Event, row_at, event_at, events, best_of}
-use Rattle.macho_names.specs.steps.Tables.{IsEntryOf, IsKnown, IsNowhere, IsThere, names_of, entry_name, no_entry}
+use Rattle.macho_names.specs.steps.Tables.{Heads, heads_of, IsEntryOf, IsKnown, IsNowhere, IsThere, names_of, entry_name, no_entry}
 use Rattle.macho_symbols.specs.steps.Targets.{named_in, led_in, lead_in, own_in, chosen_in, id_of, defines_in, defined_as, definition_by, is_of_object}
 use Rattle.macho_symbols.specs.steps.Solved.{IsSolved, common_id, common_told, noted_of}
 use Rattle.macho_names.proofs.Chains.{name_of_entry}
@@ -57,7 +57,7 @@ common_ids s is = ap (map common_id) is.commons ∙ told (chosen_in s.files.item
     told (e ∷ es) = ap (λ xs. id_of e ∷ xs) (told es)
 
 -- the best event of a name is the row of its entry
-pub best_of_entry : (files : List FileRows) (heads : List ℕ) (entries : List Entry) (name : List ℕ) (j : ℕ)
+pub best_of_entry : (files : List FileRows) (heads : Heads) (entries : List Entry) (name : List ℕ) (j : ℕ)
     → IsKnown files heads entries (events files) → IsEntryOf files entries name j
     → best_of name (events files) ≡ Some (event_at files (get_or entries j no_entry).file (get_or entries j no_entry).row)
 best_of_entry files heads entries name j known of_name =
@@ -69,7 +69,7 @@ best_of_entry files heads entries name j known of_name =
 pub entry_best : (s : Solved) (name : List ℕ) (j : ℕ) → IsSolved s → IsEntryOf s.files.items s.table.entries.items name j
     → best_of name (events s.files.items) ≡ Some
     (event_at s.files.items (get_or s.table.entries.items j no_entry).file (get_or s.table.entries.items j no_entry).row)
-entry_best s name j is of_name = best_of_entry s.files.items s.table.heads.items s.table.entries.items name j is.known of_name
+entry_best s name j is of_name = best_of_entry s.files.items (heads_of s.table) s.table.entries.items name j is.known of_name
 
 -- a symbol defines its name if it stands where the entry of the name leads, which is a row of an object
 pub defined_by_best : (files : List FileRows) (e b : Event) → best_of e.row.name (events files) ≡ Some b
@@ -88,7 +88,7 @@ defined_by_best files e b best = ap (λ o. e.row.global && is_symbol (id_of e) (
     by_sort Offered = refl
     by_sort Nowhere = by_base (bytes_eq e.row.name DSO_HANDLE)
 
-pub defined_by_entry : (files : List FileRows) (heads : List ℕ) (entries : List Entry) (file row j : ℕ) (b : Entry)
+pub defined_by_entry : (files : List FileRows) (heads : Heads) (entries : List Entry) (file row j : ℕ) (b : Entry)
     → IsKnown files heads entries (events files) → IsEntryOf files entries (row_at files file row).name j → b ≡ get_or entries j no_entry
     → defines_in files (event_at files file row)
     ≡ ((row_at files file row).global && (is_of_object (row_at files b.file b.row).sort && ((file == b.file) && (row == b.row))))
@@ -98,7 +98,7 @@ defined_by_entry files heads entries file row j b known of_name is =
     ∙ ap (λ x. Some (event_at files x.file x.row)) (sym is))
 
 -- the row of an entry is there
-pub entry_is_there : (files : List FileRows) (heads : List ℕ) (entries : List Entry) (name : List ℕ) (j : ℕ) (b : Entry)
+pub entry_is_there : (files : List FileRows) (heads : Heads) (entries : List Entry) (name : List ℕ) (j : ℕ) (b : Entry)
     → IsKnown files heads entries (events files) → IsEntryOf files entries name j → b ≡ get_or entries j no_entry → IsThere files b
 entry_is_there files heads entries name j b known of_name is = subst (IsThere files) (sym is) (known.table.there j no_entry of_name.0)
 

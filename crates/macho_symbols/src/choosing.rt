@@ -2,12 +2,13 @@
 ghost use Rattle.std.specs.Prelude.{◌≡◌, ◌^◌, ◌<◌, ◌++◌, ◌&&◌, ◌==◌, map, filter, length, true, IfOk, IfErr, OnOk};
 ghost use Rattle.macho_bytes.specs.Numbers.{rounded_up};
 ghost use Rattle.macho_names.specs.steps.Events.{row_at, row_count, event_at, events, events_of_file, strength};
-ghost use Rattle.macho_names.specs.steps.Tables.{IsKnown, IsEntryOf};
+ghost use Rattle.macho_names.specs.steps.Found.{AreFound};
+ghost use Rattle.macho_names.specs.steps.Tables.{heads_of, IsKnown};
 ghost use Rattle.macho_symbols.specs.steps.Targets.{defines_in, is_chosen_in, is_of_object, chosen_in};
 ghost use Rattle.macho_symbols.specs.steps.Solved.{common_told};
 
 use crate::solved::Common;
-use macho_names::{FileNames, Sort, SymbolFault, Table, hash_of_row, note_in, rows_in};
+use macho_names::{FileNames, Sort, SymbolFault, Table, note_in, rows_in};
 use macho_records::rounded_up;
 use std::alloc::Global;
 
@@ -21,52 +22,44 @@ pub(crate) fn is_of_object(sort: Sort) -> bool
     }
 }
 
-/// Whether a row is the definition of its name, of which the entry's number is given.
+/// Whether a row is the definition of its name: one of an object to which the entry of its name leads.
 pub(crate) fn is_definition(
     files: &[FileNames<'_>],
     table: &Table,
-    number: usize,
+    found: &[Vec<u32>],
     file: u32,
     row: usize,
 ) -> bool
     requires file { file < length files.now }
     requires row { row < row_count files.now file }
-    requires entry { IsEntryOf files.now table.now.entries.items (row_at files.now file row).name number }
-    requires known { IsKnown files.now table.now.heads.items table.now.entries.items (events files.now) }
-    ensures { result ≡ defines_in files.now (event_at files.now file row) }
-{
-    let best = table.entry(number);
-    note_in(files, file, row).global
-        && is_of_object(note_in(files, best.file, best.row as usize).sort)
-        && best.file == file
-        && best.row as usize == row
-}
-
-/// Whether a row is the definition of its name.
-pub(crate) fn defines(files: &[FileNames<'_>], table: &Table, file: u32, row: usize) -> bool
-    requires file { file < length files.now }
-    requires row { row < row_count files.now file }
-    requires known { IsKnown files.now table.now.heads.items table.now.entries.items (events files.now) }
+    requires found { AreFound files.now table.now.entries.items (length files.now) found.now }
+    requires known { IsKnown files.now (heads_of table.now) table.now.entries.items (events files.now) }
     ensures { result ≡ defines_in files.now (event_at files.now file row) }
 {
     if !note_in(files, file, row).global {
         return false;
     }
-    let hash = hash_of_row(files, file, row);
-    let Some(number) = table.find_row(files, file, row, hash) else {
-        return false;
-    };
-    is_definition(files, table, number, file, row)
+    let best = table.entry(found[file as usize][row] as usize);
+    is_of_object(note_in(files, best.file, best.row as usize).sort)
+        && best.file == file
+        && best.row as usize == row
 }
 
 /// Whether a row is a common that defines its name.
-fn is_chosen(files: &[FileNames<'_>], table: &Table, file: u32, row: usize) -> bool
+fn is_chosen(
+    files: &[FileNames<'_>],
+    table: &Table,
+    found: &[Vec<u32>],
+    file: u32,
+    row: usize,
+) -> bool
     requires file { file < length files.now }
     requires row { row < row_count files.now file }
-    requires known { IsKnown files.now table.now.heads.items table.now.entries.items (events files.now) }
+    requires found { AreFound files.now table.now.entries.items (length files.now) found.now }
+    requires known { IsKnown files.now (heads_of table.now) table.now.entries.items (events files.now) }
     ensures { result ≡ is_chosen_in files.now (event_at files.now file row) }
 {
-    note_in(files, file, row).strength() == 2 && defines(files, table, file, row)
+    note_in(files, file, row).strength() == 2 && is_definition(files, table, found, file, row)
 }
 
 /// A chosen common, as it is told.
@@ -94,16 +87,18 @@ fn common_at(files: &[FileNames<'_>], file: u32, row: usize) -> Result<Common, S
 fn add_commons(
     files: &[FileNames<'_>],
     table: &Table,
+    found: &[Vec<u32>],
     file: u32,
     commons: &mut Vec<Common>,
 ) -> Result<(), SymbolFault>
     requires file { file < length files.now }
-    requires known { IsKnown files.now table.now.heads.items table.now.entries.items (events files.now) }
+    requires found { AreFound files.now table.now.entries.items (length files.now) found.now }
+    requires known { IsKnown files.now (heads_of table.now) table.now.entries.items (events files.now) }
     ensures added { OnOk result (commons.new.items ≡ commons.old.items ++ map common_told (filter (is_chosen_in files.now) (events_of_file files.now file (row_count files.now file)))) }
     ensures why { IfErr result (λ fault. fault ≡ SymbolFault.OutOfMemory) }
 {
     for row in 0..rows_in(files, file) {
-        if !is_chosen(files, table, file, row) {
+        if !is_chosen(files, table, found, file, row) {
             continue;
         }
         commons.push(common_at(files, file, row)?)?;
@@ -116,16 +111,18 @@ pub(crate) fn chosen_commons(
     alloc: Global,
     files: &[FileNames<'_>],
     table: &Table,
+    found: &[Vec<u32>],
 ) -> Result<Vec<Common>, SymbolFault>
     requires few { length files.now < 2 ^ 32 }
-    requires known { IsKnown files.now table.now.heads.items table.now.entries.items (events files.now) }
+    requires found { AreFound files.now table.now.entries.items (length files.now) found.now }
+    requires known { IsKnown files.now (heads_of table.now) table.now.entries.items (events files.now) }
     ensures commons { IfOk result (λ commons. commons.items ≡ map common_told (chosen_in files.now)) }
     ensures few { IfOk result (λ commons. length commons.items < 2 ^ 32) }
     ensures why { IfErr result (λ fault. fault ≡ SymbolFault.OutOfMemory) }
 {
     let mut commons = Vec::new(alloc);
     for file in 0..files.len() {
-        add_commons(files, table, file as u32, &mut commons)?;
+        add_commons(files, table, found, file as u32, &mut commons)?;
     }
     // Objects have fewer symbols than that together.
     if commons.len() >= u32::MAX as usize {

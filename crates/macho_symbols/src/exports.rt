@@ -14,7 +14,7 @@ use crate::choosing::is_of_object;
 use crate::solved::{Solved, UNNUMBERED, is_nothing};
 use macho_exports::ExportList;
 use macho_model::Target;
-use macho_names::{Note, Sort, SymbolFault, name_in, note_in};
+use macho_names::{Note, Sort, SymbolFault, note_in};
 use std::alloc::Global;
 
 /// A name that an image exports.
@@ -56,16 +56,6 @@ impl<'data> Solved<'data> {
         ensures { result ≡ list_any (bytes_eq (get_or (names_of self.now.files.items self.now.table.entries.items) number [])) (noted_of self.now.imports.items) }
     {
         self.numbers[number] != UNNUMBERED
-    }
-
-    /// The name of an entry.
-    fn entry_name(&self, number: usize) -> &[u8]
-        requires solved { IsSolved self.now }
-        requires entry { number < length self.now.table.entries.items }
-        ensures { result.now ≡ get_or (names_of self.now.files.items self.now.table.entries.items) number [] }
-    {
-        let entry = self.table.entry(number);
-        name_in(&self.files, entry.file, entry.row as usize)
     }
 
     /// Whether what defines the name of an entry lets it be exported: an object that shows it, or a library where it is
@@ -135,7 +125,7 @@ impl<'data> Solved<'data> {
         let note = note_in(&self.files, entry.file, entry.row as usize);
         Ok(ExportName {
             name: Vec::from_slice(alloc, name)?,
-            target: self.lead(number, name),
+            target: self.lead(number),
             weak: is_weak(note),
         })
     }

@@ -9,7 +9,7 @@ ghost use Rattle.macho_symbols.specs.Kept.{IsResolved};
 use crate::choosing::chosen_commons;
 use crate::resolved::Resolved;
 use crate::solved::{Solved, UNNUMBERED};
-use macho_names::{DefinedStubLibrary, File, FileNames, SymbolFault, Table, found_entries};
+use macho_names::{DefinedStubLibrary, File, FileNames, SymbolFault, Table};
 use std::alloc::{AllocError, Global};
 use std::marker::Model;
 
@@ -17,6 +17,7 @@ use std::marker::Model;
 #[derive(Drop)]
 pub struct Resolver<'data> {
     pub(crate) alloc: Global,
+    pub(crate) seed: u64,
     pub(crate) files: Vec<FileNames<'data>>,
 }
 
@@ -32,12 +33,14 @@ impl<'data> Model for Resolver<'data> {
 }
 
 impl<'data> Resolver<'data> {
-    /// A resolver without inputs. It takes no memory.
-    pub fn new(alloc: Global) -> Resolver<'data>
+    /// A resolver without inputs. It takes no memory. Names are looked for by hashes that begin with the seed: so if whoever makes
+    /// an object doesn't know it, no names can be chosen that make this slow.
+    pub fn new(alloc: Global, seed: u64) -> Resolver<'data>
         ensures { Keeps [] result }
     {
         Resolver {
             alloc,
+            seed,
             files: Vec::new(alloc),
         }
     }
@@ -115,11 +118,11 @@ impl<'data> Resolver<'data> {
         ensures why { (l : Link) → Keeps l.inputs self.entry → IfErr result (IsDuplicateOf l) }
     {
         let alloc = self.alloc;
+        let seed = self.seed;
         let files = self.files;
-        let mut table = Table::new(alloc, named_rows(&files))?;
-        table.take_files(&files)?;
-        let commons = chosen_commons(alloc, &files, &table)?;
-        let found = found_entries(alloc, &files, &table)?;
+        let mut table = Table::new(alloc, named_rows(&files), seed)?;
+        let found = table.take_files(&files)?;
+        let commons = chosen_commons(alloc, &files, &table, &found)?;
         let numbers = vec![in alloc; UNNUMBERED; table.entries.len()]?;
         Ok(Resolved {
             solved: Solved {
@@ -134,11 +137,11 @@ impl<'data> Resolver<'data> {
     }
 }
 
-/// How many rows may bring a name.
+/// How many rows bring a name. Only the number of buckets depends on it.
 fn named_rows(files: &[FileNames<'_>]) -> usize {
     let mut rows = 0usize;
     for file in files {
-        rows = rows.saturating_add(file.len());
+        rows = rows.saturating_add(file.count_global());
     }
     rows
 }

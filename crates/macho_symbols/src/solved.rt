@@ -1,16 +1,16 @@
 //! What is known once all rows were taken in: where names and symbols lead, and which imports are noted.
-ghost use Rattle.std.specs.Prelude.{◌≡◌, ◌^◌, ◌<◌, ◌++◌, ◌∷◌, [], length, map, IfSome, OnOk, OnErr, IfOk, IfErr};
+ghost use Rattle.std.specs.Prelude.{◌≡◌, ◌^◌, ◌<◌, ◌++◌, ◌∷◌, [], true, length, map, get_or, OnOk, OnErr, IfOk, IfErr};
 ghost use Rattle.macho_names.specs.steps.Events.{row_at, row_count, event_at};
-ghost use Rattle.macho_names.specs.steps.Tables.{IsEntryOf};
+ghost use Rattle.macho_names.specs.steps.Tables.{IsEntryOf, names_of};
 ghost use Rattle.macho_symbols.specs.steps.Targets.{named_in, target_in, own_in, base_target, defines_in, chosen_in, id_of, is_next, is_nothing, noting_in};
 ghost use Rattle.macho_symbols.specs.steps.Solved.{IsSolved, IsUnchanged, HasGrown, IsFoundIn, IsUndefinedIn, common_id, noted_of, library_in, is_before, AreAscending, IsPlaceOf};
 ghost use Rattle.std.specs.List.{position_or_len};
 ghost use Rattle.macho_model.specs.Resolution.{same_symbol};
 ghost use Rattle.macho_model.specs.Needs.{import_number};
 
-use crate::choosing::{defines, is_definition};
+use crate::choosing::is_definition;
 use macho_model::Target;
-use macho_names::{FileNames, NO_ENTRY, Sort, SymbolFault, Table, name_in, note_in};
+use macho_names::{FileNames, Sort, SymbolFault, Table, name_in, note_in};
 
 /// A symbol of a library that something of the link uses.
 #[derive(Drop)]
@@ -50,7 +50,7 @@ pub struct Common {
 pub(crate) struct Solved<'data> {
     pub(crate) files: Vec<FileNames<'data>>,
     pub(crate) table: Table,
-    /// For each file the entries of its rows, as far as they were looked for.
+    /// For each file the numbers of its rows' entries.
     pub(crate) found: Vec<Vec<u32>>,
     pub(crate) commons: Vec<Common>,
     pub(crate) imports: Vec<Import>,
@@ -151,11 +151,21 @@ fn base_target(name: &[u8]) -> Target
 }
 
 impl<'data> Solved<'data> {
-    /// The number of an entry's import, or the one that it would get.
-    fn number_of_import(&self, number: usize, name: &[u8]) -> u32
+    /// The name of an entry.
+    pub(crate) fn entry_name(&self, number: usize) -> &[u8]
         requires solved { IsSolved self.now }
-        requires entry { IsEntryOf self.now.files.items self.now.table.entries.items name.now number }
-        ensures { result ≡ import_number (noted_of self.now.imports.items) name.now }
+        requires entry { number < length self.now.table.entries.items }
+        ensures { result.now ≡ get_or (names_of self.now.files.items self.now.table.entries.items) number [] }
+    {
+        let entry = self.table.entry(number);
+        name_in(&self.files, entry.file, entry.row as usize)
+    }
+
+    /// The number of an entry's import, or the one that it would get.
+    fn number_of_import(&self, number: usize) -> u32
+        requires solved { IsSolved self.now }
+        requires entry { number < length self.now.table.entries.items }
+        ensures { result ≡ import_number (noted_of self.now.imports.items) (get_or (names_of self.now.files.items self.now.table.entries.items) number []) }
     {
         let id = self.numbers[number];
         if id == UNNUMBERED {
@@ -165,19 +175,19 @@ impl<'data> Solved<'data> {
         }
     }
 
-    /// Where the best row of a name leads.
+    /// Where the best row of an entry's name leads.
     #[inline(always)]
-    pub(crate) fn lead(&self, number: usize, name: &[u8]) -> Target
+    pub(crate) fn lead(&self, number: usize) -> Target
         requires solved { IsSolved self.now }
-        requires entry { IsEntryOf self.now.files.items self.now.table.entries.items name.now number }
-        ensures { result ≡ named_in self.now.files.items (noted_of self.now.imports.items) name.now }
+        requires entry { number < length self.now.table.entries.items }
+        ensures { result ≡ named_in self.now.files.items (noted_of self.now.imports.items) (get_or (names_of self.now.files.items self.now.table.entries.items) number []) }
     {
         let entry = self.table.entry(number);
         match note_in(&self.files, entry.file, entry.row as usize).sort {
             Sort::Offered => Target::Import {
-                id: self.number_of_import(number, name),
+                id: self.number_of_import(number),
             },
-            Sort::Nowhere => base_target(name),
+            Sort::Nowhere => base_target(self.entry_name(number)),
             _ => own_target(&self.files, &self.commons, entry.file, entry.row as usize),
         }
     }
@@ -188,42 +198,21 @@ impl<'data> Solved<'data> {
         ensures { result ≡ named_in self.now.files.items (noted_of self.now.imports.items) name.now }
     {
         match self.table.find(&self.files, name) {
-            Some(number) => self.lead(number, name),
+            Some(number) => self.lead(number),
             None => base_target(name),
         }
     }
 
-    /// The entry of a row's name, where it was looked for.
+    /// The number of the entry of a global row's name.
     #[inline(always)]
-    pub(crate) fn found_entry(&self, file: u32, row: usize) -> Option<usize>
-        requires { IsSolved self.now }
-        ensures { IfSome result (IsEntryOf self.now.files.items self.now.table.entries.items (row_at self.now.files.items file row).name) }
-    {
-        let file = file as usize;
-        if self.found.len() <= file || self.found[file].len() <= row {
-            return None;
-        }
-        let number = self.found[file][row];
-        if number == NO_ENTRY {
-            None
-        } else {
-            Some(number as usize)
-        }
-    }
-
-    /// Where the name of a row leads.
-    #[inline(always)]
-    fn named_row(&self, file: u32, row: usize) -> Target
+    fn entry_of(&self, file: u32, row: usize) -> usize
         requires file { file < length self.now.files.items }
         requires row { row < row_count self.now.files.items file }
+        requires global { (row_at self.now.files.items file row).global ≡ true }
         requires solved { IsSolved self.now }
-        ensures { result ≡ named_in self.now.files.items (noted_of self.now.imports.items) (row_at self.now.files.items file row).name }
+        ensures { IsEntryOf self.now.files.items self.now.table.entries.items (row_at self.now.files.items file row).name result }
     {
-        let name = name_in(&self.files, file, row);
-        match self.found_entry(file, row) {
-            Some(number) => self.lead(number, name),
-            None => self.named(name),
-        }
+        self.found[file as usize][row] as usize
     }
 
     /// Whether a symbol is the definition of its name.
@@ -233,10 +222,7 @@ impl<'data> Solved<'data> {
         requires solved { IsSolved self.now }
         ensures { result ≡ defines_in self.now.files.items (event_at self.now.files.items file row) }
     {
-        match self.found_entry(file, row) {
-            Some(number) => is_definition(&self.files, &self.table, number, file, row),
-            None => defines(&self.files, &self.table, file, row),
-        }
+        is_definition(&self.files, &self.table, &self.found, file, row)
     }
 
     /// Where a symbol leads.
@@ -248,7 +234,7 @@ impl<'data> Solved<'data> {
         ensures { result ≡ target_in self.now.files.items (noted_of self.now.imports.items) (event_at self.now.files.items file row) }
     {
         if note_in(&self.files, file, row).global {
-            self.named_row(file, row)
+            self.lead(self.entry_of(file, row))
         } else {
             own_target(&self.files, &self.commons, file, row)
         }

@@ -79,7 +79,7 @@ pub(crate) fn resolve<'a>(
 ) -> Result<Resolved<'a>, SymbolFault>
     ensures { IfOk result (IsFirst first.now.bytes) }
 {
-    let mut resolver = Resolver::new(alloc);
+    let mut resolver = Resolver::new(alloc, 1);
     if first.is_dynamic() || others.len() > 9 || libraries.len() > 9 {
         return Err(SymbolFault::OutOfMemory);
     }

@@ -1,21 +1,28 @@
--- The entries of rows: for some rows of a file the number of the entry of the row's name in the table.
-use Rattle.std.specs.Prelude.{◌≢◌, ℕ, ◌<◌, List, length, get_or}
+-- The entries of rows: for each row of each file one number, which for a global row is that of the entry of its name.
+use Rattle.std.specs.Prelude.{◌≡◌, ℕ, ◌<◌, ◌++◌, true, List, length, get_or}
 use Rattle.std.specs.declared.vec.Vec.{Vec}
 use Rattle.macho_names.specs.declared.table.Entry.{Entry}
-use Rattle.macho_names.specs.declared.found.TheConstants.{NO_ENTRY}
 use Rattle.macho_names.specs.Kept.{FileRows}
-use Rattle.macho_names.specs.steps.Events.{row_at}
-use Rattle.macho_names.specs.steps.Tables.{IsEntryOf}
+use Rattle.macho_names.specs.steps.Events.{row_at, row_count}
+use Rattle.macho_names.specs.steps.Tables.{IsEntryOf, names_of}
 
--- what is found of a row is the entry of its name, if anything is
+-- the number of a global row is that of the entry of its name
 abbrev pub IsFound : List FileRows → List Entry → ℕ → ℕ → ℕ → Type 0
-IsFound files entries file row number = number ≢ NO_ENTRY → IsEntryOf files entries (row_at files file row).name number
+IsFound files entries file row number =
+    (row_at files file row).global ≡ true → IsEntryOf files entries (row_at files file row).name number
 
--- of the first rows of a file
-abbrev pub AreFoundIn : List FileRows → List Entry → ℕ → List ℕ → Type 0
-AreFoundIn files entries file found = (row none : ℕ) → row < length found → IsFound files entries file row (get_or found row none)
+-- The first rows of a file have these numbers.
+pub record AreFoundIn (files : List FileRows) (entries : List Entry) (file count : ℕ) (found : List ℕ) : Type 0 where
+  pub long : length found ≡ count
+  pub each : (row none : ℕ) → row < count → IsFound files entries file row (get_or found row none)
 
--- of all files
-abbrev pub AreFound : {A : Type 0} → List FileRows → List Entry → List (Vec ℕ A) → Type 0
-AreFound {A} files entries found = (file : ℕ) (none : Vec ℕ A) → file < length found
-    → AreFoundIn files entries file (get_or found file none).items
+-- All rows of the first files have these numbers.
+pub record AreFound {A : Type 0} (files : List FileRows) (entries : List Entry) (count : ℕ) (found : List (Vec ℕ A)) : Type 0 where
+  pub long : length found ≡ count
+  pub each : (file : ℕ) (none : Vec ℕ A) → file < count
+      → AreFoundIn files entries file (row_count files file) (get_or found file none).items
+
+-- Entries keep their numbers and their names, and others come behind them.
+pub record HaveGrown (files : List FileRows) (old new : List Entry) : Type 0 where
+  pub more : List (List ℕ)
+  pub names : names_of files new ≡ names_of files old ++ more

@@ -7,7 +7,6 @@ use Rattle.macho_names.specs.declared.notes.Sort.TheVariants.{Section, Absolute,
 use Rattle.macho_names.specs.declared.notes.Note.{Note}
 use Rattle.macho_names.specs.declared.notes.Name.{Name}
 use Rattle.macho_names.specs.Kept.{Row}
-use Rattle.macho_names.specs.steps.Tables.{hash_of}
 
 -- the row that a note stands for, in the bytes with the names
 abbrev pub row_in : List ℕ → Note → Row
@@ -51,14 +50,9 @@ pub record IsString (strings : List ℕ) (n : Name) : Type 0 where
   pub within : n.at + n.length ≤ length strings
   pub is : slice_range strings n.at (n.at + n.length) ≡ string_at strings n.at
 
--- a number is the hash of a name that stands in the bytes
-abbrev pub IsHashOf : List ℕ → Name → ℕ → Type 0
-IsHashOf text n hash = hash ≡ hash_of (slice_range text n.at (n.at + n.length))
-
--- Notes stand for rows: their names stand in the bytes, their hashes are those of the names, and commons are small.
+-- Notes stand for rows: their names stand in the bytes, and commons are small.
 pub record IsHeld (text : List ℕ) (notes : List Note) : Type 0 where
   pub within : All (IsWithin text) notes
-  pub hashed : All (λ n. IsHashOf text n.name n.hash) notes
   pub small : All (λ n. CommonFits n.sort n.number n.value) notes
 
 -- The first of some rows are noted, in the order of their indexes.

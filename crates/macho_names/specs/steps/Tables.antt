@@ -3,38 +3,39 @@
 --
 --     heads    for each bucket, one more than the number of its newest entry, 0 for none
 --     next     one more than the number of the entry before in the bucket, 0 for none
-use Rattle.std.specs.Prelude.{◌≡◌, ℕ, ◌+◌, ◌*◌, ◌-◌, ◌/◌, ◌%◌, ◌^◌, ◌<◌, ◌≤◌, nat_le, if◌then◌else◌, take, drop, List, [], ◌∷◌, ◌++◌, length, map, filter, get_or, set, ◌==◌, ◌&&◌, true, false, Bool, bit_xor, Some, None, All}
-use Rattle.std.specs.List.{fold}
+use Rattle.std.specs.Prelude.{◌≡◌, ℕ, ◌+◌, ◌-◌, ◌/◌, ◌^◌, ◌<◌, ◌≤◌, List, [], ◌∷◌, ◌++◌, length, map, filter, get_or, set, ◌==◌, ◌&&◌, true, false, Bool, bit_and, Some, None, All}
 use Rattle.macho_names.specs.declared.table.Entry.{Entry}
 use Rattle.macho_names.specs.declared.table.Place.{Place}
+use Rattle.macho_names.specs.declared.table.Table.{Table}
 use Rattle.macho_names.specs.declared.fault.SymbolFault.{SymbolFault}
 use Rattle.macho_names.specs.declared.fault.SymbolFault.TheVariants.{DuplicateSymbol, UndefinedSymbol, ExportListMissing, OutOfMemory}
 use Rattle.macho_names.specs.Kept.{FileRows, Row}
+use Rattle.macho_names.specs.steps.Hashing.{hash_of}
 use Rattle.macho_names.specs.steps.Events.{Event, row_at, row_count, event_at, best_of, is_strong_of, beats, strength}
 
 abbrev pub no_entry : Entry
 no_entry = record { next = 0; row = 0; file = 0; tag = 0 }
 
--- the number that a name is looked for by: the hash FNV-1a of 64 bits; of a long name, of its length, its first bytes and
--- its last ones
-abbrev pub hash_step : ℕ → ℕ → ℕ
-hash_step hash byte = bit_xor hash byte * 1099511628211 % 2 ^ 64
+-- What names are found from: the seed of their hashes, and the heads of the buckets.
+pub record Heads : Type 0 where
+  pub seed : ℕ
+  pub items : List ℕ
 
-unfoldable pub hash_of : List ℕ → ℕ
-hash_of name = if nat_le (length name) 1024 then fold hash_step 14695981039346656037 name
-    else fold hash_step (fold hash_step ((14695981039346656037 + length name) % 2 ^ 64) (take 512 name)) (drop (length name - 512) name)
+abbrev pub heads_of : Table → Heads
+heads_of t = record { seed = t.seed; items = t.heads.items }
 
-abbrev pub bucket_of : List ℕ → List ℕ → ℕ
-bucket_of heads name = hash_of name % length heads
+-- the bucket of a name: by the low bits of its hash, since the number of buckets is a power of two
+abbrev pub bucket_of : Heads → List ℕ → ℕ
+bucket_of heads name = bit_and (hash_of heads.seed name) (length heads.items - 1)
 
 -- Entries with these names are found from the heads by their next: from a bucket's newest entry to its older ones, and
 -- no further than to entries of that bucket.
-pub record AreChained (heads nexts : List ℕ) (names : List (List ℕ)) : Type 0 where
-  pub some : 1 ≤ length heads
+pub record AreChained (heads : Heads) (nexts : List ℕ) (names : List (List ℕ)) : Type 0 where
+  pub some : 1 ≤ length heads.items
   pub long : length nexts ≡ length names
-  pub newest : (b : ℕ) → b < length heads → get_or heads b 0 ≤ length names
-  pub begins : (b m : ℕ) → b < length heads → get_or heads b 0 ≡ m + 1 → bucket_of heads (get_or names m []) ≡ b
-  pub reached : (k : ℕ) → k < length names → k < get_or heads (bucket_of heads (get_or names k [])) 0
+  pub newest : (b : ℕ) → b < length heads.items → get_or heads.items b 0 ≤ length names
+  pub begins : (b m : ℕ) → b < length heads.items → get_or heads.items b 0 ≡ m + 1 → bucket_of heads (get_or names m []) ≡ b
+  pub reached : (k : ℕ) → k < length names → k < get_or heads.items (bucket_of heads (get_or names k [])) 0
   pub older : (j : ℕ) → j < length names → get_or nexts j 0 ≤ j
   pub stays : (j m : ℕ) → j < length names → get_or nexts j 0 ≡ m + 1
       → bucket_of heads (get_or names m []) ≡ bucket_of heads (get_or names j [])
@@ -55,14 +56,14 @@ abbrev pub IsThere : List FileRows → Entry → Type 0
 IsThere files e = (e.file < length files) × (e.row < row_count files e.file)
 
 -- an entry keeps the high half of its name's hash
-abbrev pub IsTagged : List FileRows → Entry → Type 0
-IsTagged files e = e.tag ≡ hash_of (entry_name files e) / 2 ^ 32
+abbrev pub IsTagged : ℕ → List FileRows → Entry → Type 0
+IsTagged seed files e = e.tag ≡ hash_of seed (entry_name files e) / 2 ^ 32
 
 -- The table is whole.
-pub record IsTable (files : List FileRows) (heads : List ℕ) (entries : List Entry) : Type 0 where
+pub record IsTable (files : List FileRows) (heads : Heads) (entries : List Entry) : Type 0 where
   pub chained : AreChained heads (nexts_of entries) (names_of files entries)
   pub there : All (IsThere files) entries
-  pub tagged : All (IsTagged files) entries
+  pub tagged : All (IsTagged heads.seed files) entries
   pub apart : (j k : ℕ) → k < j → j < length entries → get_or (names_of files entries) j [] ≡ get_or (names_of files entries) k [] → ⊥
 
 -- a name has no entry
@@ -100,7 +101,7 @@ abbrev pub IsPlaceOfName : List FileRows → List ℕ → Place → Type 0
 IsPlaceOfName files name p = (p.file < length files) × (p.row < row_count files p.file) × ((row_at files p.file p.row).name ≡ name)
 
 -- Where a look-up of a name has come: all its entries are older than the one before this place, which is of its bucket.
-pub record IsAhead (files : List FileRows) (heads : List ℕ) (entries : List Entry) (name : List ℕ) (at : ℕ) : Type 0 where
+pub record IsAhead (files : List FileRows) (heads : Heads) (entries : List Entry) (name : List ℕ) (at : ℕ) : Type 0 where
   pub within : at ≤ length entries
   pub ahead : (k : ℕ) → k < length entries → get_or (names_of files entries) k [] ≡ name → k < at
   pub same : (m : ℕ) → at ≡ m + 1 → bucket_of heads (get_or (names_of files entries) m []) ≡ bucket_of heads name
@@ -141,19 +142,19 @@ abbrev pub IsNameless : Event → Type 0
 IsNameless e = e.row.global ≡ false
 
 -- the table is whole, and knows these events
-pub record IsKnown (files : List FileRows) (heads : List ℕ) (entries : List Entry) (es : List Event) : Type 0 where
+pub record IsKnown (files : List FileRows) (heads : Heads) (entries : List Entry) (es : List Event) : Type 0 where
   pub table : IsTable files heads entries
   pub knows : Knows files es entries
 
 -- The table takes more events in: whatever events it knew before, it now knows these behind them.
-pub record TakesIn (files : List FileRows) (heads : List ℕ) (entries : List Entry) (new_heads : List ℕ) (new_entries : List Entry)
+pub record TakesIn (files : List FileRows) (heads : Heads) (entries : List Entry) (new_heads : Heads) (new_entries : List Entry)
     (more : List Event) : Type 0 where
   pub says : (es : List Event) → IsKnown files heads entries es → IsKnown files new_heads new_entries (es ++ more)
 
 -- A refusal to take more events in is a clash among those and what the table knew.
-pub record Refuses (files : List FileRows) (heads : List ℕ) (entries : List Entry) (more : List Event) (fault : SymbolFault) : Type 0 where
+pub record Refuses (files : List FileRows) (heads : Heads) (entries : List Entry) (more : List Event) (fault : SymbolFault) : Type 0 where
   pub says : (es : List Event) → IsKnown files heads entries es → IsClash (es ++ more) fault
 
 -- a table without names: whatever the files, it knows of no event
-pub record IsEmptyTable (heads : List ℕ) (entries : List Entry) : Type 0 where
+pub record IsEmptyTable (heads : Heads) (entries : List Entry) : Type 0 where
   pub knows : (files : List FileRows) → IsKnown files heads entries []

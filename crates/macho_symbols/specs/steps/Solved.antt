@@ -10,7 +10,7 @@ use Rattle.macho_symbols.specs.declared.solved.Solved.{Solved}
 use Rattle.macho_symbols.specs.declared.solved.TheConstants.{UNNUMBERED}
 use Rattle.macho_names.specs.Kept.{FileRows, no_file}
 use Rattle.macho_names.specs.steps.Events.{Event, events, best_of, library_text}
-use Rattle.macho_names.specs.steps.Tables.{IsKnown, names_of}
+use Rattle.macho_names.specs.steps.Tables.{heads_of, IsKnown, names_of}
 use Rattle.macho_names.specs.steps.Found.{AreFound}
 use Rattle.macho_symbols.specs.steps.Targets.{chosen_in, definition_by, named_in, is_nothing, is_missing_in, noting_names_in}
 use Rattle.macho_names.specs.declared.fault.SymbolFault.{SymbolFault}
@@ -61,8 +61,8 @@ IsImportIn files i =
 
 -- all that is known
 pub record IsSolved (s : Solved) : Type 0 where
-  pub known : IsKnown s.files.items s.table.heads.items s.table.entries.items (events s.files.items)
-  pub found : AreFound s.files.items s.table.entries.items s.found.items
+  pub known : IsKnown s.files.items (heads_of s.table) s.table.entries.items (events s.files.items)
+  pub found : AreFound s.files.items s.table.entries.items (length s.files.items) s.found.items
   pub commons : s.commons.items ≡ map common_told (chosen_in s.files.items)
   pub few_commons : length s.commons.items < 2 ^ 32
   pub few_imports : length s.imports.items < UNNUMBERED + 1
@@ -74,7 +74,7 @@ pub record IsSolved (s : Solved) : Type 0 where
 -- no import was noted
 pub record IsUnchanged (old new : Solved) : Type 0 where
   pub files : new.files.items ≡ old.files.items
-  pub heads : new.table.heads.items ≡ old.table.heads.items
+  pub heads : heads_of new.table ≡ heads_of old.table
   pub entries : new.table.entries.items ≡ old.table.entries.items
   pub found : new.found.items ≡ old.found.items
   pub commons : new.commons.items ≡ old.commons.items
@@ -96,7 +96,7 @@ IsUndefinedIn files noted e OutOfMemory = Unit {0}
 -- some imports were noted, and nothing else changed but numbers
 pub record HasGrown (old new : Solved) : Type 0 where
   pub files : new.files.items ≡ old.files.items
-  pub heads : new.table.heads.items ≡ old.table.heads.items
+  pub heads : heads_of new.table ≡ heads_of old.table
   pub entries : new.table.entries.items ≡ old.table.entries.items
   pub found : new.found.items ≡ old.found.items
   pub commons : new.commons.items ≡ old.commons.items

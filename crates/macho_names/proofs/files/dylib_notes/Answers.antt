@@ -10,7 +10,7 @@ loop-index-preserved-in_default c = not_offered_more _ _ _ _ c.loop-index.invari
 pub loop-index-preserved : goal.loop-index-preserved
 loop-index-preserved c = rw c.in_ok-push.ensures.items
     (offered_more _ _ _ _ _ c.loop-index.invariant (sym c.in-Some.ensures.offered) c.in-Some.ensures.held.0
-    c.in-Some.ensures.hashed c.in-Some.ensures.held.1 c.in-Some.ensures.row)
+    c.in-Some.ensures.held.1 c.in-Some.ensures.row)
 
 pub returns : goal.returns
 unfolding rows_of_dylib

@@ -6,7 +6,7 @@ use Rattle.macho_names.proofs.files.object_notes.Goals as goal
 
 pub loop-index-preserved : goal.loop-index-preserved
 loop-index-preserved c = rw c.in_ok-push.ensures.items
-    (object_row_more _ _ _ _ _ c.loop-index.invariant c.note_of.ensures.named c.note_of.ensures.hashed c.note_of.ensures.small c.note_of.ensures.row)
+    (object_row_more _ _ _ _ _ c.loop-index.invariant c.note_of.ensures.named c.note_of.ensures.small c.note_of.ensures.row)
 
 pub returns : goal.returns
 unfolding rows_of_object

@@ -10,7 +10,7 @@ pub loop-name-preserved : goal.loop-name-preserved
 loop-name-preserved c rows noted =
     let first : c.len-at.result ≡ length c.loop-name.text.items = c.len-at.ensures ∙ omega arith in
     let next = name_more _ _ _ _ c.offered.result _ _ (c.loop-name.invariant rows noted) first refl c.offered.ensures.name
-    (c.offered.ensures.hash ∙ c.hash.ensures) c.offered.ensures.sort c.offered.ensures.row in
+    c.offered.ensures.sort c.offered.ensures.row in
     rw (
       c.in_ok-push.ensures.items,
       c.in_ok-extend_from_slice.ensures.items,

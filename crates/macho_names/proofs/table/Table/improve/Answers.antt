@@ -1,6 +1,7 @@
 use Rattle.std.proofs.Common.{ap, sym, ◌∙◌, refl}
 use Rattle.macho_names.proofs.Chains.{name_of_entry}
-use Rattle.macho_names.proofs.Improving.{stays_best, is_better, table_stays}
+use Rattle.macho_names.proofs.FoundRows.{same_grown}
+use Rattle.macho_names.proofs.Improving.{names_stay, stays_best, is_better, table_stays}
 use Rattle.macho_names.proofs.Taking.{takes_better, refuses_row}
 use Rattle.macho_names.proofs.table.Table.improve.Goals as goal
 
@@ -9,6 +10,13 @@ returns-then-not-beats-clause-done c =
     let entry = c.entry-entry.ensures in
     takes_better _ _ _ _ _ _ _ _ c.requires.global c.requires.entry
     (stays_best _ _ _ _ _ (rw (← entry) (sym c.if-not-beats.ensures)) (rw (← entry) (sym c.if-are_strong.ensures))) c.requires.table
+
+pub returns-then-not-beats-clause-grown : goal.returns-then-not-beats-clause-grown
+returns-then-not-beats-clause-grown c = same_grown _ _ _ refl
+
+pub returns-clause-grown : goal.returns-clause-grown
+returns-clause-grown c =
+    same_grown _ _ _ (names_stay _ _ _ _ (sym c.requires.entry.1 ∙ name_of_entry _ _ _ _ c.requires.entry.0))
 
 pub returns-clause-table : goal.returns-clause-table
 returns-clause-table c =

@@ -2,7 +2,7 @@ use Rattle.std.proofs.Common.{◌≡◌, ℕ, ◌<◌, ap, ◌∙◌, subst, ref
 use Rattle.std.proofs.lemmas.List.{get_or-replicate, length-replicate}
 use Rattle.macho_names.specs.Kept.{FileRows}
 use Rattle.macho_names.specs.steps.Events.{events, is_strong_of}
-use Rattle.macho_names.specs.steps.Tables.{IsClash, IsKnown}
+use Rattle.macho_names.specs.steps.Tables.{heads_of, IsClash, IsKnown}
 use Rattle.macho_symbols.specs.declared.solved.TheConstants.{UNNUMBERED}
 use Rattle.macho_symbols.specs.steps.Solved.{IsNumbered, IsImportIn}
 use Rattle.std.proofs.lemmas.List.Elements.{All-nil}
@@ -13,13 +13,13 @@ use Rattle.macho_symbols.proofs.resolver.Resolver.resolve.Goals as goal
 pub take_files-requires-clause-known : goal.take_files-requires-clause-known
 take_files-requires-clause-known c = c.in_ok-table.ensures.knows _
 
-pub returns-in_err-take_files-clause-why : goal.returns-in_err-take_files-clause-why
-returns-in_err-take_files-clause-why c l keeps =
-    let p = err_from_is_err_and c.from_residual-in_err-take_files.result c.from_residual-in_err-take_files.ensures.1 in
+pub returns-in_err-found-clause-why : goal.returns-in_err-found-clause-why
+returns-in_err-found-clause-why c l keeps =
+    let p = err_from_is_err_and c.from_residual-in_err-found.result c.from_residual-in_err-found.ensures.1 in
     rw (p.1, p.2)
     (clash_is l _
-    (subst (λ (fs : List FileRows). IsClash (events fs) c.in_err-take_files.field-0.0) (c.deref-2.ensures.value ∙ c.self.view_is
-    ∙ keeps.are) c.in_err-take_files.ensures.why))
+    (subst (λ (fs : List FileRows). IsClash (events fs) c.in_err-found.field-0.0) (c.deref-2.ensures.value ∙ c.self.view_is
+    ∙ keeps.are) c.in_err-found.ensures.why))
 
 vec_len_is : {X A : Type 0} (v : Vec X A) → vec_len v ≡ length v.items
 vec_len_is v = omega arith
@@ -35,8 +35,8 @@ unnumbered numbers n name j is within =
 
 pub invariant_of-result : goal.invariant_of-result
 invariant_of-result c = record {
-  known = rw (← c.deref-2.ensures.value) c.in_ok-take_files.ensures.done;
-  found = rw (← c.deref-4.ensures.value) c.in_ok-found.ensures;
+  known = rw (← c.deref-2.ensures.value) c.in_ok-found.ensures.done;
+  found = rw (← c.deref-2.ensures.value) c.in_ok-found.ensures.found;
   commons = rw (← c.deref-3.ensures.value) c.in_ok-commons.ensures.commons;
   few_commons = c.in_ok-commons.ensures.few;
   few_imports = omega (arith, ap length c.new-2.ensures.items);
@@ -49,8 +49,8 @@ invariant_of-result c = record {
 
 pub returns-clause-single : goal.returns-clause-single
 returns-clause-single c l keeps name =
-    let known : IsKnown c.deref-2.result.now c.take_files.new.self.heads.items c.take_files.new.self.entries.items
-    (events c.deref-2.result.now) = c.in_ok-take_files.ensures.done in
+    let known : IsKnown c.deref-2.result.now (heads_of c.take_files.new.self) c.take_files.new.self.entries.items
+    (events c.deref-2.result.now) = c.in_ok-found.ensures.done in
     single_is l name
     (subst (λ (fs : List FileRows). length (filter (is_strong_of name) (events fs)) ≤ 1) (c.deref-2.ensures.value ∙ c.self.view_is
     ∙ keeps.are) (known.knows.single name))

@@ -10,7 +10,7 @@ returns-clause-told c =
     let row = rw c.deref.ensures.value at c.note_in-note.ensures.row in
     let s = c.args.self.now in
     let name = sym c.in_ok-from_slice.ensures.items in (
-      c.lead.ensures ∙ ap (named_in s.files.items (noted_of s.imports.items)) name,
+      c.lead.ensures ∙ ap (named_in s.files.items (noted_of s.imports.items)) (c.requires.entry.1 ∙ name),
       c.is_weak.ensures
           ∙ weak_is s c.args.name.now c.args.number c.entry-entry.result _ _ c.requires.solved c.requires.entry c.entry-entry.ensures
           (ap (λ r. r.sort) row)

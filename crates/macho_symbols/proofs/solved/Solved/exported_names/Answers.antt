@@ -1,6 +1,7 @@
 use Rattle.std.proofs.Common.{sym, ◌∙◌, subst, arith, ◌+◌}
 use Rattle.std.specs.Option.{option_copied}
 use Rattle.std.proofs.lemmas.List.Sorted.{All-permutation}
+use Rattle.macho_names.specs.steps.Tables.{heads_of}
 use Rattle.macho_symbols.specs.steps.Exporting.{AreFound, IsPairIn, is_exported_in}
 use Rattle.macho_symbols.specs.steps.Solved.{noted_of}
 use Rattle.macho_symbols.proofs.InOrder.{found_none, found_more, found_same, in_order}
@@ -41,7 +42,7 @@ pub returns-clause-order : goal.returns-clause-order
 returns-clause-order c =
     let s = c.args.self.now in
     let test = is_exported_in s.files.items (noted_of s.imports.items) (option_copied c.args.list) in
-    in_order s.files.items s.table.heads.items s.table.entries.items test c.loop-number.number c.loop-number.names.items
+    in_order s.files.items (heads_of s.table) s.table.entries.items test c.loop-number.number c.loop-number.names.items
     c.sort.new.self.items
     c.requires.known.table (λ name. nowhere_closed s (option_copied c.args.list) name c.requires) (omega arith) c.loop-number.invariant
     c.in_ok-sort.ensures.permutation c.in_ok-sort.ensures.sorted

@@ -5,7 +5,7 @@ use Rattle.macho_symbols.specs.steps.Solved.{IsUnchanged, IsImportIn, noted_of, 
 use Rattle.macho_symbols.specs.declared.solved.Import.{Import}
 use Rattle.macho_symbols.specs.steps.Targets.{definition_by}
 use Rattle.macho_model.specs.Resolution.{Library}
-use Rattle.macho_names.specs.steps.Tables.{names_of, entry_name}
+use Rattle.macho_names.specs.steps.Tables.{heads_of, names_of, entry_name}
 use Rattle.macho_names.specs.steps.Events.{events, best_of}
 use Rattle.macho_names.proofs.KnowingBetter.{apart_any}
 use Rattle.macho_symbols.proofs.NotingUses.{import_known, import_offered, numbers_more}
@@ -61,7 +61,7 @@ returns-clause-solved c =
           (numbers_more (names_of s.files.items s.table.entries.items)
           (noted_of s.imports.items) s.numbers.items name c.in-Some.number c.len-id.result
           c.requires.solved.numbers (c.requires.solved.long ∙ sym long) (omega (arith, of_name.0, long)) of_name.1
-          (λ j h other same. apart_any s.files.items s.table.heads.items s.table.entries.items j c.in-Some.number
+          (λ j h other same. apart_any s.files.items (heads_of s.table) s.table.entries.items j c.in-Some.number
           c.requires.solved.known.table (omega (arith, h, long)) of_name.0 other same)
           offered.1 (next ∙ sym noted_long) (omega (arith, told, noted_long, c.if-len.false)));
     }
