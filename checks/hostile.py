@@ -34,7 +34,7 @@ def object_of(sections, data, moved, symbols, names=None, commands=b"", count=0)
     size = 72 + 80 * len(sections) + 24 + len(commands)
     start = 32 + size
     behind = start + len(data)
-    headers, end = b"", 0
+    headers, end = bytearray(), 0
     for segment, name, address, length, at, exponent, flags, table, number in sections:
         in_file = 0 if flags & 0xFF == 1 else start + at
         where = (behind + table, number) if number else (0, 0)
