@@ -9,11 +9,11 @@ The total counts all lines of the definitions. The goal, which the last line rep
 equations, fields and cases are told apart from comments and from types, which the checker compares with the equations. So that
 these don't grow unseen, there may be at most MOST_LINES of them.
 
-Refused are: more lines than these under the clauses of `run`, a file of specs/steps/ under the clauses of `run` or of a function that
-a table of sentences names (README.md and docs/PROVED.md have these), a file of specs/ that imports one of specs/steps/, and a row of
-such a table that names a function or clause that isn't there. (A crate may hand functions of its own steps to another crate's code, as
-macho_memory_walks does: these are in no row.) Refused is also a file of the reading list that isn't in just one row of the table of
-public sources (docs/THEOREMS.md), and a row of that table that names a file that isn't there, or no source.
+Refused are: more lines than these under the clauses of `run`, a file of specs/steps/ under a clause of a public function of any crate
+(or under what a public type or trait stands for), a file of specs/ that imports one of specs/steps/, and a row of a table of sentences
+(README.md and docs/PROVED.md have these) that names a function or clause that isn't there. Refused is also a file of the reading list
+that isn't in just one row of the table of public sources (docs/THEOREMS.md), and a row of that table that names a file that isn't
+there, or no source.
 """
 import os
 import re
@@ -273,9 +273,9 @@ def exported_of(crate):
 
 
 def owners_of(text):
-    """The impl and trait blocks of a file: (start, end, type, is public by itself)."""
+    """The impl, trait and struct blocks of a file: (start, end, type, is public by itself, words, kind)."""
     blocks = []
-    for head in re.finditer(r"^(?:pub(?:\([a-z]+\))? )?(impl|trait)\b([^{;]*)\{", text, re.M):
+    for head in re.finditer(r"^(?:pub(?:\([a-z]+\))? )?(impl|trait|struct)\b([^{;]*)\{", text, re.M):
         start = text.index("{", head.start())
         words = head.group(2)
         words = re.sub(r"^<[^>]*(?:<[^>]*>[^>]*)*>", "", words)
@@ -283,7 +283,7 @@ def owners_of(text):
         target = words.split(" for ")[-1] if is_trait_impl else words
         name = re.search(r"(\w+)", target.replace("&", "").replace("mut ", ""))
         blocks.append((start, block(text, start), name.group(1) if name else "", head.group(1) == "trait" or is_trait_impl,
-                       words))
+                       words, head.group(1)))
     return blocks
 
 
@@ -325,12 +325,14 @@ def functions_of(crate):
                 function = Function(crate, path, owner[2] if owner else None, name, is_public, clauses)
                 function.items, function.modules = items, used
                 functions.append(function)
-            for head in re.finditer(r"^[ \t]+ghost (\w+)\s*(?:=|:)\s*\{", text, re.M):
+            for head in re.finditer(r"^[ \t]+(pub )?ghost (\w+)\s*(?:=|:)\s*\{", text, re.M):
                 owner = next((b for b in blocks if b[0] < head.start() < b[1]), None)
                 start = text.index("{", head.start())
-                member = Function(crate, path, owner[2] if owner else None, head.group(1),
-                                  bool(owner) and owner[2] in exported and head.group(1) not in ("invariant", "from_gives"),
-                                  [("ghost", head.group(1), text[start + 1: block(text, start) - 1])])
+                # (what a struct keeps is for callers where its field is public)
+                name, is_seen = head.group(2), bool(owner) and (owner[5] != "struct" or head.group(1) is not None)
+                member = Function(crate, path, owner[2] if owner else None, name,
+                                  is_seen and owner[2] in exported and name not in ("invariant", "from_gives"),
+                                  [("ghost", name, text[start + 1: block(text, start) - 1])])
                 member.items, member.modules = items, used
                 functions.append(member)
     return functions
@@ -433,8 +435,7 @@ def print_run(world):
     believed = total - comments - types
     print(f"{believed:5}  lines of equations, fields and cases, of at most {MOST_LINES}; {comments} of comments, {types} of types")
     print(f"{total:5}  lines in {count} definitions of {len(files)} files, which have {whole} lines in all; the goal is {MOST_LINES}")
-    wrong = [f"{short(module)} is a file of steps, under `run`" for module in files if is_step(module)]
-    return wrong + ([f"{believed} equations, fields and cases under `run`, more than {MOST_LINES}"] if believed > MOST_LINES else [])
+    return ([f"{believed} equations, fields and cases under `run`, more than {MOST_LINES}"] if believed > MOST_LINES else [])
 
 
 def shares_of(world):
@@ -470,9 +471,20 @@ def wrong_imports(world):
     return sorted(set(wrong))
 
 
-def wrong_steps(world, function):
-    steps = {one[0] for one in world.closure(roots_of(world, [function])) if is_step(one[0])}
-    return [f"{function.crate} {function.name} rests on {short(module)}" for module in sorted(steps)]
+def steps_under(world, functions):
+    return sorted({one[0] for one in world.closure(roots_of(world, functions)) if is_step(one[0])})
+
+
+def wrong_steps(world, crates):
+    """The public functions, types and traits of all crates that rest on steps."""
+    wrong = []
+    for crate in crates:
+        public = [function for function in functions_of(crate) if function.is_public]
+        if steps_under(world, public):
+            for function in public:
+                name = f"{function.owner}::{function.name}" if function.owner else function.name
+                wrong += [f"{crate} {name} rests on {short(module)}" for module in steps_under(world, [function])]
+    return wrong
 
 
 def rows_of(page):
@@ -483,8 +495,8 @@ def rows_of(page):
     return rows
 
 
-def wrong_row(world, crates, row):
-    """What is wrong with a row: its function or clause isn't there, or rests on steps."""
+def wrong_row(crates, row):
+    """What is wrong with a row: its function or clause isn't there."""
     cells = [cell.strip() for cell in row.strip().strip("|").split(" | ")]
     if len(cells) != 3:
         return [f"a row of {len(cells)} cells: {row[:60]}"]
@@ -505,7 +517,6 @@ def wrong_row(world, crates, row):
             wrong.append(f"{crate} has no public '{function}'")
         for one in named:
             clauses |= {label or kind for kind, label, _ in one.clauses}
-            wrong += wrong_steps(world, one)
     for clause in re.findall(r"`([^`]+)`", cells[2]):
         if "/" in clause:
             if not os.path.exists(os.path.join(CRATES, clause + ".antt")):
@@ -515,12 +526,12 @@ def wrong_row(world, crates, row):
     return wrong
 
 
-def wrong_rows(world, crates):
+def wrong_rows(crates):
     """What is wrong with the rows of the tables of sentences, and whether a page has none."""
     wrong = []
     for page in TABLES:
         rows = rows_of(page)
-        wrong += [f"{page}: {it}" for row in rows for it in wrong_row(world, crates, row)]
+        wrong += [f"{page}: {it}" for row in rows for it in wrong_row(crates, row)]
         if not rows:
             wrong.append(f"{page} has no table of sentences")
     return wrong
@@ -637,7 +648,7 @@ def main():
         missing = write_lines(world)
         print("\n".join(missing) or "docs/THEOREMS.md: the lines are written")
         return 1 if missing else 0
-    wrong = print_run(world) + wrong_imports(world) + wrong_rows(world, crates) + wrong_sources(world)
+    wrong = print_run(world) + wrong_imports(world) + wrong_steps(world, crates) + wrong_rows(crates) + wrong_sources(world)
     for line in dict.fromkeys(wrong):
         print(f"believed: {line}", file=sys.stderr)
     return 1 if wrong else 0

@@ -17,7 +17,8 @@ use Rattle.macho_consumed.specs.declared.rows.UnwindEntry.{UnwindEntry}
 use Rattle.macho_consumed.specs.Rows.{entry_row}
 use Rattle.macho_consumed.specs.steps.Alone.{alone, own}
 use Rattle.macho_consumed.specs.steps.Entries.{named, at_place, read_entry, EntryFits, lies_from, rows_in, row_in}
-use Rattle.macho_consumed.specs.steps.Listed.{ref, is_of_kind, refs_in, refs_of_file, refs_of, bytes_in}
+use Rattle.macho_consumed.specs.steps.Listed.{ref, refs_in, refs_of_file, refs_of, bytes_in}
+use Rattle.macho_consumed.specs.Kinds.{is_of_kind}
 use Rattle.macho_consumed.specs.steps.Gathered.{all_of, entries_at}
 use Rattle.macho_consumed.proofs.Tests.{left_of, right_of}
 use Rattle.macho_consumed.proofs.Members.{in_map}

@@ -13,7 +13,8 @@ use Rattle.macho_model.specs.Objects.{num_sections, section_at}
 use Rattle.macho_symbols.specs.Kept.{ResolvedRows}
 use Rattle.macho_consumed.specs.declared.listing.Kind.{Kind}
 use Rattle.macho_consumed.specs.declared.listing.SectionRef.{SectionRef}
-use Rattle.macho_consumed.specs.steps.Listed.{is_of_kind, ref, refs_in, refs_of_file, refs_of, bytes_in, bytes_viewed}
+use Rattle.macho_consumed.specs.Kinds.{is_of_kind}
+use Rattle.macho_consumed.specs.steps.Listed.{ref, refs_in, refs_of_file, refs_of, bytes_in, bytes_viewed}
 use Rattle.macho_consumed.specs.declared.listing.Kind.TheVariants.{Initializers, Entries}
 use Rattle.macho_consumed.specs.declared.fault.ConsumedFault.{ConsumedFault}
 use Rattle.macho_consumed.specs.declared.fault.ConsumedFault.TheVariants.{BadInitializer, BadUnwind, OutOfMemory}

@@ -7,7 +7,8 @@ use Rattle.macho_object.specs.Views.{FileBytes, of_section, section_count}
 use Rattle.macho_model.specs.Objects.{section_at}
 use Rattle.macho_consumed.specs.declared.listing.Kind.{Kind}
 use Rattle.macho_consumed.specs.declared.listing.SectionRef.{SectionRef}
-use Rattle.macho_consumed.specs.steps.Listed.{is_of_kind, ref, refs_in, refs_of_file, refs_of}
+use Rattle.macho_consumed.specs.Kinds.{is_of_kind}
+use Rattle.macho_consumed.specs.steps.Listed.{ref, refs_in, refs_of_file, refs_of}
 use Rattle.macho_consumed.proofs.Ranges.{filter_range_more, flat_map_range_more}
 
 -- no section yet, one that is passed over, and one that is listed

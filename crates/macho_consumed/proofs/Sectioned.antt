@@ -13,7 +13,8 @@ use Rattle.macho_model.specs.Needs.{initializer_sections, unwind_sections}
 use Rattle.macho_consumed.specs.declared.listing.Kind.{Kind}
 use Rattle.macho_consumed.specs.declared.listing.Kind.TheVariants.{Initializers, Entries}
 use Rattle.macho_parts.specs.Views.{object_view, views_of}
-use Rattle.macho_consumed.specs.steps.Listed.{is_of_kind, ref, id_of_ref, refs_in, refs_of_file, refs_of}
+use Rattle.macho_consumed.specs.Kinds.{is_of_kind}
+use Rattle.macho_consumed.specs.steps.Listed.{ref, id_of_ref, refs_in, refs_of_file, refs_of}
 use Rattle.macho_consumed.specs.steps.Gathered.{all_of}
 use Rattle.macho_consumed.proofs.Members.{in_range}
 use Rattle.macho_consumed.proofs.Joined.{map_joined, filter_joined, joined_map, filter_mapped, joined_agree, filter_same, numbered}

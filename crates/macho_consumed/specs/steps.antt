@@ -1,5 +1,4 @@
--- The steps of the code: tables by place, and what each pass keeps so far. Of public functions only
--- `is_of_kind` cites one, which is handed to the code of `macho_reading`.
+-- The steps of the code: tables by place, and what each pass keeps so far.
 pub mod Alone
 pub mod Places
 pub mod Checked

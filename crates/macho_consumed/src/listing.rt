@@ -2,7 +2,8 @@
 ghost use Rattle.std.specs.Prelude.{◌≡◌, ℕ, ◌^◌, ◌<◌, ◌++◌, false, length, get_or, None, Some, IfOk, OnOk};
 ghost use Rattle.macho_object.specs.Views.{FileBytes};
 ghost use Rattle.macho_model.specs.Objects.{num_sections};
-ghost use Rattle.macho_consumed.specs.steps.Listed.{is_of_kind, refs_in, refs_of};
+ghost use Rattle.macho_consumed.specs.Kinds.{is_of_kind};
+ghost use Rattle.macho_consumed.specs.steps.Listed.{refs_in, refs_of};
 
 use macho_object::{File, view_of};
 use macho_records::{SectionHeader, name_bytes};

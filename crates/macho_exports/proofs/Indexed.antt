@@ -19,7 +19,7 @@ use Rattle.macho_model.specs.ExportLists.{matches}
 use Rattle.macho_exports.specs.declared.parts.PartTable.{PartTable}
 use Rattle.macho_exports.specs.declared.table.PatternTable.{PatternTable}
 use Rattle.macho_exports.specs.steps.Ends.{IsPart, first_place, last_place, has_many_places}
-use Rattle.macho_exports.specs.steps.Lists.{texts_of}
+use Rattle.macho_exports.specs.Entries.{texts_of}
 use Rattle.macho_exports.specs.steps.Tables.{numbers_at, numbers_of}
 use Rattle.macho_exports.specs.steps.Indexed.{IsNoted, IsNotedIn, KeepsTable, KeepsTables, IsIndexed}
 use Rattle.macho_exports.specs.steps.Indexed.{is_match_at, is_match_of, is_match_under, is_match_found, is_match_any, is_match_in}

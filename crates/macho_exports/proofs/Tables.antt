@@ -10,7 +10,7 @@ use Rattle.std.specs.List.{list_any}
 use Rattle.std.specs.Str.{bytes_eq}
 use Rattle.std.specs.HashMap.{HashMap, get_by, UpdatesBy}
 use Rattle.std.specs.declared.vec.Vec.{Vec}
-use Rattle.macho_exports.specs.steps.Lists.{texts_of}
+use Rattle.macho_exports.specs.Entries.{texts_of}
 use Rattle.macho_exports.specs.steps.Tables.{has, numbers_at, numbers_of, KeepsNumbers, KeepsGroups, KeepsParts}
 use Rattle.macho_exports.proofs.Places.{same, same_items, other_found}
 

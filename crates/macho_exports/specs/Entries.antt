@@ -1,8 +1,9 @@
 -- What an export list holds: of all entries of its texts the plain ones and the patterns, each in order.
-use Rattle.std.specs.Prelude.{◌≡◌, ℕ, ◌||◌, Bool, List, filter}
+use Rattle.std.specs.Prelude.{◌≡◌, ℕ, ◌||◌, Bool, List, filter, map}
 use Rattle.std.specs.List.{list_any}
 use Rattle.std.specs.Str.{bytes_eq}
 use Rattle.macho_model.specs.ExportLists.{is_pattern, matches, all_entries, plain_entries}
+use Rattle.std.specs.declared.vec.Vec.{Vec}
 
 pub record ListEntries : Type 0 where
   pub plain : List (List ℕ)
@@ -16,3 +17,6 @@ pub record IsListOf (texts : List (List ℕ)) (e : ListEntries) : Type 0 where
 -- a name is a plain entry, or matches a pattern
 abbrev pub is_within : ListEntries → List ℕ → Bool
 is_within e name = list_any (bytes_eq name) e.plain || list_any (λ p. matches p name) e.patterns
+
+abbrev pub texts_of : {A : Type 0} → List (Vec ℕ A) → List (List ℕ)
+texts_of vs = map (λ v. v.items) vs

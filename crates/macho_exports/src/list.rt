@@ -31,11 +31,11 @@ pub struct ExportList {
 }
 
 impl Model for ExportList {
-    ghost use Rattle.macho_exports.specs.Entries.{ListEntries};
+    ghost use Rattle.macho_exports.specs.Entries.{ListEntries, texts_of};
 
     ghost Value = { ListEntries };
 
-    ghost use Rattle.macho_exports.specs.steps.Lists.{texts_of, ArePlaces};
+    ghost use Rattle.macho_exports.specs.steps.Lists.{ArePlaces};
     ghost use Rattle.macho_exports.specs.steps.Indexed.{IsIndexed};
 
     ghost view = { λ l. record { plain = texts_of l.plain.items; patterns = texts_of l.patterns.items } };

@@ -2,7 +2,8 @@
 ghost use Rattle.std.specs.Prelude.{◌≡◌, [], ◌∷◌, ◌++◌, OnOk};
 ghost use Rattle.std.specs.List.{list_any};
 ghost use Rattle.std.specs.Str.{bytes_eq};
-ghost use Rattle.macho_exports.specs.steps.Lists.{texts_of, ArePlaces};
+ghost use Rattle.macho_exports.specs.Entries.{texts_of};
+ghost use Rattle.macho_exports.specs.steps.Lists.{ArePlaces};
 
 use std::alloc::{AllocError, Global};
 use std::collections::HashMap;

@@ -13,7 +13,7 @@
 //! `b_` and `_x` of that name are looked up, and `_ab`, `ab_` and `b_x`: both patterns are tried. Where the same bytes come
 //! again in a name, their patterns aren't tried again.
 ghost use Rattle.std.specs.Prelude.{◌≡◌, ◌<◌, ◌≤◌, ◌+◌, ℕ, true, List, [], length, get_or, OnOk, IfOk};
-ghost use Rattle.macho_exports.specs.steps.Lists.{texts_of};
+ghost use Rattle.macho_exports.specs.Entries.{texts_of};
 ghost use Rattle.macho_exports.specs.steps.Tables.{has, numbers_of, KeepsNumbers, KeepsGroups, KeepsParts, IsGroup};
 ghost use Rattle.macho_exports.specs.steps.Ends.{IsPart};
 ghost use Rattle.macho_exports.specs.steps.Indexed.{is_match_at, is_match_of, is_again, is_match_from, is_match_under};

@@ -13,7 +13,7 @@
 ghost use Rattle.std.specs.Prelude.{◌≡◌, [], ◌∷◌, ◌++◌, OnOk};
 ghost use Rattle.std.specs.List.{list_any};
 ghost use Rattle.macho_model.specs.ExportLists.{matches};
-ghost use Rattle.macho_exports.specs.steps.Lists.{texts_of};
+ghost use Rattle.macho_exports.specs.Entries.{texts_of};
 ghost use Rattle.macho_exports.specs.steps.Indexed.{IsNotedIn, KeepsTables, IsIndexed};
 
 use crate::chosen::part_for;

@@ -13,8 +13,8 @@ use Rattle.macho_model.specs.Placement.{Placed}
 use Rattle.macho_model.specs.Addresses.{section_address, common_address, slot_address, address_of}
 use Rattle.macho_model.specs.Stands.{IsAt, SlotAt, StubAt, CallIsAt, LoadIsAt}
 use Rattle.macho_model.proofs.EachBelow.{true_or_false}
-use Rattle.macho_fields.specs.Looks.{Look, TellsAddresses, IsThere, HasSlot, HasStub, IsPlacedOnce, stub_address}
-use Rattle.macho_fields.specs.steps.Fields.{address_in, call_in, load_in}
+use Rattle.macho_fields.specs.Looks.{Look, TellsAddresses, IsThere, HasSlot, HasStub, IsPlacedOnce, stub_address, address_in}
+use Rattle.macho_fields.specs.steps.Fields.{call_in, load_in}
 use Rattle.macho_fields.specs.steps.Kinds.{IsInImage, IsCallable, IsLoadable, direct, by_stub, by_slot}
 
 -- the address that is looked up is the placement's

@@ -25,8 +25,8 @@ use Rattle.macho_arm64.specs.Laws.{size_for}
 use Rattle.macho_arm64.specs.Relaxations.{IsMadeAdd, is_relaxable}
 use Rattle.macho_arm64.proofs.FieldLaws.{add_can_hold, slot_load_fits, slot_load_can_hold}
 use Rattle.macho_arm64.proofs.ReachLaws.{page_can_hold, offset_can_hold, offset_words}
-use Rattle.macho_fields.specs.Looks.{Look, TellsAddresses, IsPlacedOnce, HasSlot}
-use Rattle.macho_fields.specs.steps.Fields.{address_in, call_in, load_in, minus_in, write_in}
+use Rattle.macho_fields.specs.Looks.{Look, TellsAddresses, IsPlacedOnce, HasSlot, address_in}
+use Rattle.macho_fields.specs.steps.Fields.{call_in, load_in, minus_in, write_in}
 use Rattle.macho_fields.specs.steps.Filled.{place_in}
 use Rattle.macho_fields.specs.steps.Writes.{IsReady, HasField}
 use Rattle.macho_fields.specs.steps.Kinds.{KindFits, IsSubtracted, IsLoadable, direct, by_slot}

@@ -25,8 +25,8 @@ use Rattle.macho_arm64.specs.Fields.{Holds}
 use Rattle.macho_arm64.specs.Relaxations.{IsMadeAdd}
 use Rattle.macho_arm64.proofs.FieldLaws.{points_to, offsets_from, branches_to, pages_to, offsets_to, is_distance, loads_from, adds_to}
 use Rattle.macho_arm64.proofs.ReachLaws.{less_leads}
-use Rattle.macho_fields.specs.Looks.{Look, TellsAddresses, IsPlacedOnce}
-use Rattle.macho_fields.specs.steps.Fields.{address_in, call_in, load_in, minus_in, goes_straight, write_in}
+use Rattle.macho_fields.specs.Looks.{Look, TellsAddresses, IsPlacedOnce, address_in}
+use Rattle.macho_fields.specs.steps.Fields.{call_in, load_in, minus_in, goes_straight, write_in}
 use Rattle.macho_fields.specs.steps.Filled.{place_in}
 use Rattle.macho_fields.specs.steps.Writes.{IsPut}
 use Rattle.macho_fields.specs.steps.Kinds.{KindFits, IsSubtracted, IsLoadable, direct, by_slot}

@@ -1,6 +1,6 @@
 -- What filling a section looks up: what symbols lead to, and where things are. And what these look-ups have to tell of a
 -- link and a placement of it.
-use Rattle.std.specs.Prelude.{◌≡◌, ℕ, ◌<◌, ◌%◌, ◌==◌, true, false, Bool, filter, Option, Contains, IfSome, is_some}
+use Rattle.std.specs.Prelude.{◌≡◌, ℕ, ◌<◌, ◌%◌, ◌==◌, true, false, Bool, filter, Option, Contains, IfSome, is_some, ◌+◌, ◌^◌}
 use Rattle.macho_model.specs.declared.placed.PlacedSection.{PlacedSection}
 use Rattle.macho_model.specs.declared.placed.PlacedCommon.{PlacedCommon}
 use Rattle.macho_model.specs.declared.placed.Slot.{Slot}
@@ -34,6 +34,24 @@ pub record Look : Type 0 where
   pub stub : ℕ → ℕ
   -- the thread-local template
   pub template : Option Range64
+
+-- the address of a target by what is looked up, where it is in the image, or its value; 0 for an import, which is elsewhere
+abbrev pub address_in : Look → Target → ℕ
+address_in look (target.Section file section offset) = look.section file section + offset
+address_in look (target.Common id) = look.common id
+address_in look target.Base = look.base
+address_in look (target.Absolute value) = value
+address_in look (target.Import id) = 0
+address_in look target.None = 0
+
+-- the same as a number of 64 bits: of what is looked up only the sum may be more, which is taken modulo 2 ^ 64
+abbrev pub wrapped_in : Look → Target → ℕ
+wrapped_in look (target.Section file section offset) = (look.section file section + offset) % 2 ^ 64
+wrapped_in look (target.Common id) = look.common id
+wrapped_in look target.Base = look.base
+wrapped_in look (target.Absolute value) = value
+wrapped_in look (target.Import id) = 0
+wrapped_in look target.None = 0
 
 -- the address of the stub of an import, 0 where it has none
 unfoldable pub stub_address : Placed → ℕ → ℕ

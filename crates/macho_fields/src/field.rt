@@ -3,8 +3,7 @@ ghost use Rattle.std.specs.Prelude.{◌≡◌, ◌+◌, ◌-◌, ◌^◌, ◌<�
 ghost use Rattle.macho_bytes.specs.Numbers.{le_at, signed};
 ghost use Rattle.macho_model.specs.Objects.{num_sections, section_at, relocation_at};
 ghost use Rattle.macho_structs.specs.Relocations.{BitsFit};
-ghost use Rattle.macho_fields.specs.steps.Fields.{subtractor_in, addend_before, target_in, subtrahend_in, addend_in, small_addend_in};
-ghost use Rattle.macho_fields.specs.steps.Fields.{IsInFront, IsNear, IsRead};
+ghost use Rattle.macho_fields.specs.steps.Fields.{subtractor_in, addend_before, target_in, subtrahend_in, addend_in, small_addend_in, IsInFront, IsNear, IsRead};
 
 use crate::places::Places;
 use macho_arm64::{is_difference, is_with_addend};

@@ -4,8 +4,8 @@ ghost use Rattle.macho_bytes.specs.Numbers.{page, low};
 ghost use Rattle.macho_model.specs.Placement.{Placed};
 ghost use Rattle.macho_model.specs.Addresses.{address_of};
 ghost use Rattle.macho_model.specs.Values.{less};
-ghost use Rattle.macho_fields.specs.Looks.{TellsAddresses};
-ghost use Rattle.macho_fields.specs.steps.Fields.{address_in, wrapped_in, call_in, load_in, minus_in, goes_straight, relaxes, value_in, write_in, meaning, seen, kind_in};
+ghost use Rattle.macho_fields.specs.Looks.{TellsAddresses, address_in, wrapped_in};
+ghost use Rattle.macho_fields.specs.steps.Fields.{call_in, load_in, minus_in, goes_straight, relaxes, value_in, write_in, meaning, seen, kind_in};
 
 use crate::field::Field;
 use crate::kinds::{FieldKind, kind_of, size_of};

@@ -1,9 +1,9 @@
 -- What a linker takes.
 --
 -- An input more is behind those before it: all are what their kinds say, and there is one more. A text that was read as a stub is
--- one, and says what its reading says, since the reading is determined; a text that was refused is none, since what is in the
--- grammar is read.
-use Rattle.std.proofs.Common.{◌≡◌, ℕ, ◌<◌, arith, refl, ap, sym, subst, List, [], ◌∷◌, ◌++◌, length, map, All, Bool, ◌||◌, String, Ok}
+-- one, and says what was read and nothing else, since the reading is determined; a text that was refused is none, since what is in
+-- the grammar is read.
+use Rattle.std.proofs.Common.{◌≡◌, ℕ, ◌<◌, arith, refl, ap, sym, ◌∙◌, subst, List, [], ◌∷◌, ◌++◌, length, map, All, Bool, ◌||◌, String, Ok}
 use Rattle.std.specs.Prelude.{IsUtf8}
 use Rattle.std.specs.List.{list_any}
 use Rattle.std.specs.String.{string_bytes}
@@ -16,11 +16,17 @@ use Rattle.macho_stub_lines.specs.Faults.{Fails, broken}
 use Rattle.macho_stub.specs.Answer.{IsStub, IsToldOfText}
 use Rattle.macho_stub.specs.Library.{LibraryFields}
 use Rattle.macho_stub.proofs.Answered.{answer_only}
-use Rattle.macho_promise.specs.Inputs.{IsStubInput}
+use Rattle.macho_stub_lines.proofs.Bind.{same_ok}
+use Rattle.macho_promise.specs.Inputs.{IsInput, IsStubInput, reading_of}
+use Rattle.macho_model.specs.Links.{StubReading}
 use Rattle.macho_linking.specs.OwnedInput.{OwnedInput}
-use Rattle.macho_linking.specs.Owned.{input_of, says_of, reading_in}
+use Rattle.macho_linking.specs.OwnedInput.TheVariants as owned
+use Rattle.macho_linking.specs.StubText.{StubText}
+use Rattle.macho_linking.specs.Owned.{input_of}
+use Rattle.macho_linking.specs.Readings.{SaysOneThing}
+use Rattle.macho_linking.specs.OneReading.{one_thing}
 use Rattle.macho_image.specs.Refusals.{StubRefused}
-use Rattle.macho_image.specs.steps.StubRefusals.{stub_refusal}
+use Rattle.macho_image.specs.steps.StubRefusals.{stub_refusal, IsReadStub}
 
 -- an input more, and all are what P says
 pub taken_more : (P : OwnedInput → Type 0) (xs next : List OwnedInput) (x : OwnedInput) (inputs : List Input) → next ≡ xs ++ x ∷ []
@@ -32,15 +38,29 @@ taken_more P xs next x inputs is all this mapped few = (
       (arith, few, ap length is, length-append xs (x ∷ []), ap length mapped, length-map xs input_of),
 )
 
--- a text that was read is a stub, and says what its reading says
-pub stub_read : (text : List ℕ) (library : LibraryFields) → IsUtf8 text → IsStub text library → IsStubInput text (says_of text)
-stub_read text library utf8 stub = record {
-  utf8 = utf8;
-  library = library;
-  in_grammar = stub;
-  is = ap reading_in
-      (answer_only text library stub);
-}
+-- a text that was read is a stub, and says what was read, and nothing else
+pub stub_read : (text : List ℕ) (library : LibraryFields) → IsUtf8 text → IsStub text library → IsReadStub text
+stub_read text library utf8 stub = record { one = (reading_of library, (∣ is ∣₁, only)); stub = is }
+  where
+    is : IsStubInput text (reading_of library)
+    is = record { utf8 = utf8; library = library; in_grammar = stub; is = refl }
+
+    only : (other : StubReading) → IsStubInput text other → reading_of library ≡ other
+    only other too =
+        ap reading_of (same_ok library too.library (sym (answer_only text library stub) ∙ answer_only text too.library too.in_grammar))
+        ∙ sym too.is
+
+-- the text that is kept is a stub by what it says
+pub kept_stub : (text : List ℕ) → IsReadStub text → (one : SaysOneThing text) → IsStubInput text one.0
+kept_stub text read one = subst (λ (it : SaysOneThing text). IsStubInput text it.0) (one_thing text read.one one) read.stub
+
+-- a stub more, whose text was read
+pub taken_stub : (xs next : List OwnedInput) (stub : StubText) (inputs : List Input) → next ≡ xs ++ owned.Stub stub ∷ []
+    → All (λ i. IsInput (input_of i)) xs → IsReadStub (string_bytes stub.text) → map input_of xs ≡ inputs → length inputs < 4294967295
+    → All (λ i. IsInput (input_of i)) next × (length next < 4294967296)
+taken_stub xs next stub inputs is all read mapped few =
+    taken_more (λ (i : OwnedInput). IsInput (input_of i)) xs next (owned.Stub stub) inputs is all
+    (kept_stub (string_bytes stub.text) read stub.reading) mapped few
 
 -- a text that was refused is no stub
 pub stub_refused : (text : List ℕ) (f : StubFault) → IsUtf8 text → IsToldOfText text f

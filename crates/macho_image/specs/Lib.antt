@@ -1,3 +1,4 @@
+pub mod Held
 pub mod Linkers
 pub mod Refusals
 pub mod Shown

@@ -6,7 +6,7 @@ ghost use Rattle.macho_model.specs.Valid.{IsValid};
 ghost use Rattle.macho_promise.specs.Sizes.{AreCounts};
 ghost use Rattle.macho_faults.specs.declared.fault.LinkError.TheVariants.{OutOfMemory};
 ghost use Rattle.macho_linked.specs.Linked.{IsImageOf, IsRefused};
-ghost use Rattle.macho_linking.specs.steps.Linking.{link_asked, IsGiven};
+ghost use Rattle.macho_linking.specs.Linking.{link_asked, IsGiven};
 ghost use Rattle.macho_image.specs.Refusals.{RefusalStands};
 
 use crate::linker::Linker;

@@ -9,17 +9,17 @@ ghost use Rattle.macho_model.specs.Grammar.{IsObject, IsDylib};
 ghost use Rattle.macho_model.specs.Faults.{bad_name, has_zero};
 ghost use Rattle.macho_model.specs.LinkLaws.{with_input};
 ghost use Rattle.macho_image.specs.Linkers.{link_of, with_export_list, TakesStub};
-ghost use Rattle.macho_promise.specs.Inputs.{IsInput, IsStubInput};
-ghost use Rattle.macho_linking.specs.Owned.{input_of, says_of};
+ghost use Rattle.macho_promise.specs.Inputs.{IsInput};
+ghost use Rattle.macho_linking.specs.Owned.{input_of};
 ghost use Rattle.macho_faults.specs.declared.fault.LinkError.TheVariants.{OutOfMemory};
 ghost use Rattle.macho_image.specs.Shown.{Shows, ShowsInput, ShowsBytes};
-ghost use Rattle.macho_image.specs.steps.StubRefusals.{stub_refusal};
+ghost use Rattle.macho_image.specs.steps.StubRefusals.{stub_refusal, IsReadStub};
 ghost use Rattle.macho_image.specs.Refusals.{ArgsRefused, ObjectRefused, DylibRefused, StubRefused};
 
 use crate::paths::{has_no_file_name, has_nul};
 use macho_args::{MachOArgs, PlatformVersion};
 use macho_faults::{InputFault, LinkError};
-use macho_linking::OwnedInput;
+use macho_linking::{OwnedInput, StubText};
 use macho_object::File;
 use macho_stub::{StubFault, parse_defined_library};
 use std::alloc::{AllocError, Global};
@@ -46,7 +46,7 @@ impl Model for Linker {
     ghost use Rattle.macho_model.specs.Faults.{bad_name};
     ghost use Rattle.macho_promise.specs.Inputs.{IsInput};
     ghost use Rattle.macho_linking.specs.Owned.{input_of};
-    ghost use Rattle.macho_image.specs.steps.Held.{held_link};
+    ghost use Rattle.macho_image.specs.Held.{held_link};
 
     ghost Value = { Link };
 
@@ -111,7 +111,7 @@ fn refusal_of_stub(fault: StubFault) -> LinkError
 
 /// Refuses a text that is no stub.
 fn check_stub(alloc: Global, text: &str) -> Result<(), LinkError>
-    ensures found { OnOk result (IsStubInput text.now (says_of text.now)) }
+    ensures found { OnOk result (IsReadStub text.now) }
     ensures why { IfErr result (StubRefused text.now) }
 {
     if let Err(fault) = parse_defined_library(alloc, text) {
@@ -128,7 +128,7 @@ fn view_of(input: &OwnedInput) -> InputView<'_>
     match input {
         OwnedInput::Object(bytes) => InputView::Object(File::of_valid(bytes, false)),
         OwnedInput::Dylib(bytes) => InputView::Dylib(File::of_valid(bytes, true)),
-        OwnedInput::Stub(text) => InputView::Stub(text.as_str()),
+        OwnedInput::Stub(stub) => InputView::Stub(stub.text.as_str()),
     }
 }
 
@@ -225,7 +225,7 @@ impl Linker {
     {
         check_stub(*self.inputs.allocator(), text.as_str())?;
         let file = self.num_inputs();
-        self.inputs.push(OwnedInput::Stub(text))?;
+        self.inputs.push(OwnedInput::Stub(StubText { text }))?;
         Ok(file)
     }
 
@@ -268,7 +268,7 @@ impl Linker {
         match self.inputs.get(index as usize) {
             Some(OwnedInput::Object(bytes)) => Some(bytes.as_slice()),
             Some(OwnedInput::Dylib(bytes)) => Some(bytes.as_slice()),
-            Some(OwnedInput::Stub(text)) => Some(text.as_bytes()),
+            Some(OwnedInput::Stub(stub)) => Some(stub.text.as_bytes()),
             None => None,
         }
     }

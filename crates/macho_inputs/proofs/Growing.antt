@@ -12,7 +12,7 @@ use Rattle.macho_names.specs.Kept.{FileRows, Keeps}
 use Rattle.macho_linkedit.specs.Listing.{object_in}
 use Rattle.macho_inputs.specs.declared.owned.OwnedInput.{OwnedInput}
 use Rattle.macho_inputs.specs.declared.owned.OwnedInput.TheVariants as owned
-use Rattle.macho_inputs.specs.steps.Owned.{input_of}
+use Rattle.macho_inputs.specs.Owned.{input_of}
 
 -- the inputs with one more
 pub inputs_more : (xs : List OwnedInput) (i : ℕ) (x : OwnedInput) → i < length xs → x ≡ get_or xs i x → map input_of (take (i + 1) xs)

@@ -1,4 +1,4 @@
-pub mod Known
+pub mod OneReading
 pub mod Growing
 pub mod Naming
 pub mod Duplicates

@@ -13,7 +13,7 @@ use Rattle.std.proofs.lemmas.Slice.Eq.{bytes_eq-Decides}
 use Rattle.indexmap.specs.IndexSet.{insert_key}
 use Rattle.macho_layout.proofs.Distinct.{distinct_push}
 use Rattle.macho_layout.proofs.Named.{any_agree, any_distinct, any_map}
-use Rattle.macho_linkedit.specs.steps.Libraries.{same_text}
+use Rattle.macho_linkedit.specs.Libraries.{same_text}
 use Rattle.macho_model.specs.Links.{Link, Input}
 use Rattle.macho_model.specs.Needs.{distinct, import_library, imports_of, is_needed, libraries_needed, library_file}
 use Rattle.macho_model.specs.Resolution.{Definition, library_name, library_of_input}

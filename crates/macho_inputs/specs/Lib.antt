@@ -1,1 +1,3 @@
+pub mod Owned
+pub mod Readings
 pub mod steps

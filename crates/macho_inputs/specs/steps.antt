@@ -1,3 +1,3 @@
--- An input as it is owned, and the steps of the code.
-pub mod Owned
+-- The steps of the code: which libraries are kept, and that a text says one thing in one way.
 pub mod Libraries
+pub mod OneReading

@@ -10,6 +10,6 @@ mod views;
 
 pub use libraries::needed_libraries;
 pub use objects::list_objects;
-pub use owned::OwnedInput;
+pub use owned::{OwnedInput, StubText};
 pub use resolving::resolve_inputs;
 pub use views::view_inputs;

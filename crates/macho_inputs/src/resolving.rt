@@ -7,7 +7,7 @@ ghost use Rattle.macho_promise.specs.Inputs.{IsInput};
 ghost use Rattle.macho_names.specs.Kept.{Keeps};
 ghost use Rattle.macho_symbols.specs.Kept.{IsResolved};
 ghost use Rattle.macho_faults.specs.Standing.{Stands};
-ghost use Rattle.macho_inputs.specs.steps.Owned.{input_of};
+ghost use Rattle.macho_inputs.specs.Owned.{input_of};
 
 use crate::owned::OwnedInput;
 use crate::stubs::library_of;
@@ -33,8 +33,8 @@ fn add_input<'data>(
         OwnedInput::Dylib(bytes) => {
             resolver.add_dylib(&File::of_valid(bytes, true))?;
         }
-        OwnedInput::Stub(text) => {
-            let library = library_of(alloc, text.as_str())?;
+        OwnedInput::Stub(stub) => {
+            let library = library_of(alloc, stub)?;
             resolver.add_stub(&library)?;
         }
     }

@@ -2,7 +2,7 @@
 ghost use Rattle.std.specs.Prelude.{◌≡◌, map, All, IfOk};
 ghost use Rattle.macho_promise.specs.Inputs.{IsInput};
 ghost use Rattle.macho_parts.specs.Views.{object_view, ViewsObject};
-ghost use Rattle.macho_inputs.specs.steps.Owned.{input_of};
+ghost use Rattle.macho_inputs.specs.Owned.{input_of};
 
 use crate::owned::OwnedInput;
 use macho_object::File;

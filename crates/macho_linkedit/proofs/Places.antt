@@ -13,7 +13,7 @@ use Rattle.std.proofs.lemmas.List.Folds.{position_or_len_push}
 use Rattle.std.proofs.lemmas.List.Sums.{prefix_len-le-length}
 use Rattle.std.proofs.lemmas.Slice.Eq.{bytes_eq-Decides}
 use Rattle.macho_linkedit.specs.Imports.{texts}
-use Rattle.macho_linkedit.specs.steps.Libraries.{same_text, FindsPlaces}
+use Rattle.macho_linkedit.specs.Libraries.{same_text, FindsPlaces}
 
 -- the numbers alone
 numbers : (n L : ℕ) (b : Bool) → n ≤ L

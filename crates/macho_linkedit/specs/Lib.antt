@@ -1,3 +1,4 @@
+pub mod Libraries
 pub mod Runs
 pub mod Imports
 pub mod Tries

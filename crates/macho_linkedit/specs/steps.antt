@@ -1,6 +1,4 @@
--- The code's own steps: what private functions say, and what loops keep. Of public functions only those that look up the number of a
--- library cite one.
-pub mod Libraries
+-- The code's own steps: what private functions say, and what loops keep. No clause of a public function cites them.
 pub mod Entries
 pub mod Values
 pub mod Names

@@ -12,7 +12,7 @@ ghost use Rattle.macho_model.specs.Links.{Link};
 ghost use Rattle.macho_model.specs.Values.{fits_signed};
 ghost use Rattle.macho_fixups.specs.Calls.{AreEntries};
 ghost use Rattle.macho_linkedit.specs.Imports.{FitTable, AreOfLink, IsImportTable, texts, name_bytes};
-ghost use Rattle.macho_linkedit.specs.steps.Libraries.{same_text, FindsPlaces};
+ghost use Rattle.macho_linkedit.specs.Libraries.{same_text, FindsPlaces};
 ghost use Rattle.macho_linkedit.specs.steps.Entries.{name_text, plain_entry, HavePlain, HaveOwn};
 
 use crate::libraries::{library_number, library_places};

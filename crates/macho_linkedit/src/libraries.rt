@@ -4,7 +4,7 @@ ghost use Rattle.std.specs.Str.{bytes_eq};
 ghost use Rattle.std.specs.HashMap.{get};
 ghost use Rattle.std.specs.List.{position_or_len};
 ghost use Rattle.macho_linkedit.specs.Imports.{texts};
-ghost use Rattle.macho_linkedit.specs.steps.Libraries.{same_text, FindsPlaces};
+ghost use Rattle.macho_linkedit.specs.Libraries.{same_text, FindsPlaces};
 
 use indexmap::IndexMap;
 use std::alloc::{AllocError, Global};

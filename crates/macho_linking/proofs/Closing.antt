@@ -46,7 +46,7 @@ use Rattle.macho_linking.specs.steps.Planned.{IsPlanned, AreInputs}
 use Rattle.macho_linking.specs.steps.Unwritten.{UnwrittenStands, refusal_of}
 use Rattle.macho_linking.specs.steps.Imaged.{StandsAlways, IsToSize, HasSizes, IsToAnswer}
 use Rattle.macho_linking.specs.declared.asked.LinkAsked.{LinkAsked}
-use Rattle.macho_linking.specs.steps.Linking.{link_asked, IsGiven}
+use Rattle.macho_linking.specs.Linking.{link_asked, IsGiven}
 use Rattle.macho_linking.proofs.Given.{inputs_given}
 
 -- What holds of every link that is asked for: its objects are objects, made of bytes, and its names can be written.

@@ -21,9 +21,9 @@ use Rattle.macho_faults.specs.declared.fault.LinkError.{LinkError}
 use Rattle.macho_faults.specs.declared.fault.LinkError.TheVariants as error
 use Rattle.macho_faults.specs.Standing.{Stands}
 use Rattle.macho_answers.specs.Read.{IsLinkOf, entry_of}
-use Rattle.macho_inputs.specs.steps.Owned.{input_of}
+use Rattle.macho_inputs.specs.Owned.{input_of}
 use Rattle.macho_linking.specs.declared.asked.LinkAsked.{LinkAsked}
-use Rattle.macho_linking.specs.steps.Linking.{link_asked, IsGiven}
+use Rattle.macho_linking.specs.Linking.{link_asked, IsGiven}
 use Rattle.macho_linking.specs.steps.Lists.{AreListsOf}
 use Rattle.macho_linking.specs.steps.Imaged.{StandsAlways}
 

@@ -1,6 +1,4 @@
--- The steps of the link: a link that is planned, what each pass writes, and why an image isn't written. Of public functions only `link`
--- cites some, for `macho_image`.
-pub mod Linking
+-- The steps of the link: a link that is planned, what each pass writes, and why an image isn't written.
 pub mod Paths
 pub mod Lists
 pub mod Planned

@@ -1,6 +1,6 @@
 //! That the bytes of inputs are numbers below 256: functions that read nothing, for their contracts alone.
 ghost use Rattle.std.specs.Prelude.{◌<◌, All, map};
-ghost use Rattle.macho_inputs.specs.steps.Owned.{input_of};
+ghost use Rattle.macho_inputs.specs.Owned.{input_of};
 ghost use Rattle.macho_answers.specs.Inputs.{HasBytes};
 
 use macho_inputs::OwnedInput;

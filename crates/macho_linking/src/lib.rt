@@ -21,6 +21,6 @@ mod tables;
 mod write;
 
 pub use asked::LinkAsked;
-pub use macho_inputs::OwnedInput;
+pub use macho_inputs::{OwnedInput, StubText};
 pub use passes::link;
 pub use paths::last_part;

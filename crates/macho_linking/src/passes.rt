@@ -10,7 +10,7 @@ ghost use Rattle.macho_faults.specs.declared.fault.LinkError.TheVariants.{OutOfM
 ghost use Rattle.macho_answers.specs.Inputs.{HasBytes};
 ghost use Rattle.macho_answers.specs.Read.{IsReadOf, AreKnown, entry_of};
 ghost use Rattle.macho_linked.specs.Linked.{IsImageOf, IsRefused};
-ghost use Rattle.macho_linking.specs.steps.Linking.{link_asked, IsGiven};
+ghost use Rattle.macho_linking.specs.Linking.{link_asked, IsGiven};
 ghost use Rattle.macho_linking.specs.steps.Imaged.{IsSingle, StandsAlways, IsToSize, HasSizes, IsMade, IsToAnswer};
 
 use crate::asked::LinkAsked;

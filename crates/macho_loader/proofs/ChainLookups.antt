@@ -14,8 +14,8 @@ use Rattle.macho_model.specs.Chain.{chain_segments, next_of, STRIDE, OnChainOf, 
 use Rattle.macho_model.specs.Needs.{POINTER_SIZE}
 use Rattle.macho_model.specs.Loader.{IsAccepted, WordFits, is_bind, ordinal_of}
 use Rattle.macho_memory_walks.specs.declared.walk.Listed.TheVariants as list
-use Rattle.macho_memory_walks.specs.Readings.{IsNth, HasWord, listed, segment_there, table_there}
-use Rattle.macho_memory_walks.specs.steps.Walks.{Leads, starts_of, chain_segment_at}
+use Rattle.macho_memory_walks.specs.Readings.{IsNth, HasWord, listed, segment_there, table_there, starts_of}
+use Rattle.macho_memory_walks.specs.steps.Walks.{Leads, chain_segment_at}
 use Rattle.macho_model_walks.specs.steps.WordTests.{address_in, FitFrom}
 use Rattle.macho_model.proofs.Apart.{EndsBefore}
 use Rattle.macho_memory_walks.proofs.ChainSets.{page_has_start}

@@ -20,9 +20,9 @@ use Rattle.macho_model.specs.Needs.{POINTER_SIZE}
 use Rattle.macho_model.specs.LoadRules.{segment_in, begins_behind}
 use Rattle.macho_model.specs.Loader.{WordFits, is_bind, ordinal_of, is_writable, import_count}
 use Rattle.macho_memory_walks.specs.declared.walk.Listed.TheVariants as list
-use Rattle.macho_memory_walks.specs.Readings.{command_at, IsNth, HasWord, segment_there, table_there, starts_in}
+use Rattle.macho_memory_walks.specs.Readings.{command_at, IsNth, HasWord, segment_there, table_there, starts_in, starts_of}
 use Rattle.macho_model_walks.specs.Tests.{page_holds}
-use Rattle.macho_memory_walks.specs.steps.Walks.{Leads, starts_of}
+use Rattle.macho_memory_walks.specs.steps.Walks.{Leads}
 use Rattle.macho_memory_walks.specs.steps.Walks as walks
 use Rattle.macho_model_walks.specs.steps.WordTests.{address_in, FitFrom, UnfitFrom}
 use Rattle.macho_model.proofs.Apart.{EndsBefore, Holds_address, one_holds}

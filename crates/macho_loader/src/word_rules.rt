@@ -6,8 +6,7 @@
 ghost use Rattle.std.specs.Prelude.{◌≡◌, ◌+◌, ◌*◌, ◌<◌, ◌^◌, ℕ, length, Some, None};
 ghost use Rattle.macho_model.specs.Chain.{STRIDE, next_of};
 ghost use Rattle.macho_model.specs.Loader.{WordFits, WordFails};
-ghost use Rattle.macho_memory_walks.specs.Readings.{IsNth, segment_there};
-ghost use Rattle.macho_memory_walks.specs.steps.Walks.{starts_of};
+ghost use Rattle.macho_memory_walks.specs.Readings.{IsNth, segment_there, starts_of};
 ghost use Rattle.macho_model_walks.specs.steps.WordTests.{address_in, UnfitFrom, FitFrom, UnfitOnPage, FitOnPage, EachWordFits};
 ghost use Rattle.macho_memory_walks.specs.declared.walk.Listed.TheVariants as list;
 ghost use Rattle.macho_loader.specs.steps.Words.{StandApart, IsChained, IsFittingWord};

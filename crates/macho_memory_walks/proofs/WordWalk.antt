@@ -18,8 +18,8 @@ use Rattle.macho_model.specs.LoadRules.{segment_in}
 use Rattle.macho_model.specs.Chain.{ChainSegment, chain_segments, starts_in_tables, IsFileWord, next_of, STRIDE}
 use Rattle.macho_model.specs.Chain.{OnChain, OnPageChain}
 use Rattle.macho_model.specs.Chain as chain
-use Rattle.macho_memory_walks.specs.Readings.{command_at, listed, IsNth, HasWord, table_there, starts_in}
-use Rattle.macho_memory_walks.specs.steps.Walks.{StepOf, StepIn, Leads, starts_of, chain_segment_at}
+use Rattle.macho_memory_walks.specs.Readings.{command_at, listed, IsNth, HasWord, table_there, starts_in, StepOf, StepIn, starts_of}
+use Rattle.macho_memory_walks.specs.steps.Walks.{Leads, chain_segment_at}
 use Rattle.macho_memory_walks.specs.steps.Walks as walks
 use Rattle.macho_model.proofs.PageChains.{page_on_chain}
 use Rattle.macho_memory_walks.proofs.ListedLaws.{tables_are}

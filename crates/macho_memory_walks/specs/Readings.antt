@@ -1,20 +1,20 @@
 -- What one record of a file says, as the walks read it: a load command at its place, a segment, a fixup table, a word.
-use Rattle.std.specs.Prelude.{◌≡◌, ℕ, ◌+◌, ◌-◌, ◌*◌, ◌^◌, ◌<◌, ◌≤◌, ◌==◌, nat_le, nat_lt, if◌then◌else◌, ◌&&◌, not, Bool, true, List, [], length, get_or, filter}
+use Rattle.std.specs.Prelude.{◌≡◌, ℕ, ◌+◌, ◌-◌, ◌*◌, ◌^◌, ◌<◌, ◌≤◌, ◌==◌, nat_lt, if◌then◌else◌, ◌&&◌, not, Bool, true, List, [], length, get_or, filter}
 use Rattle.macho_bytes.specs.Numbers.{le_at}
 use Rattle.macho_bytes.specs.Layouts.{reading}
 use Rattle.macho_records.specs.Layouts.{load_command}
 use Rattle.macho_records.specs.declared.header.SegmentCommand.{SegmentCommand}
 use Rattle.macho_records.specs.declared.constants.TheConstants.{LC_DYLD_CHAINED_FIXUPS, LC_LOAD_DYLIB, LC_SEGMENT_64}
-use Rattle.macho_model.specs.Commands.{Command, commands_of, command_fits}
+use Rattle.macho_model.specs.Commands.{Command, commands_of}
 use Rattle.macho_model.specs.Segments.{PAGEZERO, TEXT}
-use Rattle.macho_model.specs.Images.{is_named, Table, table_of_command, fixups_header, starts_count, page_starts}
-use Rattle.macho_model.specs.LoadRules.{needed_in_image, segment_in, protections_fit, file_part_inside, segment_is_paged, segment_ends, text_holds_commands, table_fits}
+use Rattle.macho_model.specs.Images.{is_named, Table, table_of_command, fixups_header, starts_count, page_starts, tables_of}
+use Rattle.macho_model.specs.LoadRules.{segment_in}
 use Rattle.macho_model.specs.Needs.{POINTER_SIZE}
-use Rattle.macho_model.specs.Loader.{is_writable}
 use Rattle.macho_memory_walks.specs.declared.segments.SegmentNumbers.{SegmentNumbers}
 use Rattle.macho_memory_walks.specs.declared.tables.FixupTable.{FixupTable}
 use Rattle.macho_memory_walks.specs.declared.walk.Listed.{Listed}
 use Rattle.macho_memory_walks.specs.declared.walk.Listed.TheVariants as list
+use Rattle.macho_model.specs.Chain.{starts_in_tables, next_of, STRIDE}
 
 -- the command that stands at a place
 abbrev pub command_at : List ℕ → ℕ → Command
@@ -76,3 +76,20 @@ pub record HasWord (b : List ℕ) (s : SegmentCommand) (a word : ℕ) : Type 0 w
 -- the page starts of a segment in a table
 abbrev pub starts_in : List ℕ → Table → ℕ → List ℕ
 starts_in b t k = if nat_lt k (starts_count b t) then page_starts b t k else []
+
+-- the segment of a command has a word at an address that leads on by so many bytes
+pub record StepOf (b : List ℕ) (place a n : ℕ) : Type 0 where
+  pub word : ℕ
+  pub has : HasWord b (segment_in b (command_at b place)) a word
+  pub goes : 1 ≤ next_of word
+  pub is : n ≡ STRIDE * next_of word
+
+-- and a segment by its number
+pub record StepIn (b : List ℕ) (number a n : ℕ) : Type 0 where
+  pub place : ℕ
+  pub nth : IsNth list.Segments b number place
+  pub step : StepOf b place a n
+
+-- the page starts of a segment by its number, in the first table of a file
+abbrev pub starts_of : List ℕ → ℕ → List ℕ
+starts_of b k = starts_in_tables b (tables_of b) k

@@ -1,3 +1,3 @@
--- The walks' own steps: no clause of `memory_byte`, `segment_byte` or `is_on_chain` cites them.
+-- The walks' own steps: no clause of a public function cites them.
 pub mod Walks
 pub mod Made

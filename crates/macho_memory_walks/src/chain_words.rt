@@ -6,8 +6,8 @@
 ghost use Rattle.std.specs.Prelude.{◌≡◌, ◌≤◌, ◌<◌, ◌+◌, ◌*◌, ◌-◌, ℕ, true, false, length, slice_index, Some, None};
 ghost use Rattle.macho_bytes.specs.Numbers.{bits};
 ghost use Rattle.macho_model.specs.Chain.{next_of, OnChainOf};
-ghost use Rattle.macho_memory_walks.specs.Readings.{segment_there, IsNth, HasWord, starts_in, table_there};
-ghost use Rattle.macho_memory_walks.specs.steps.Walks.{StepOf, StepIn, Leads, starts_of, IsOnPage, IsOffSegment};
+ghost use Rattle.macho_memory_walks.specs.Readings.{segment_there, IsNth, HasWord, starts_in, table_there, StepOf, StepIn, starts_of};
+ghost use Rattle.macho_memory_walks.specs.steps.Walks.{Leads, IsOnPage, IsOffSegment};
 ghost use Rattle.macho_memory_walks.specs.declared.walk.Listed.TheVariants as list;
 
 use crate::reads::u64_from;

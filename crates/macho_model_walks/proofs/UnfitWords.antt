@@ -16,8 +16,8 @@ use Rattle.macho_records.specs.declared.header.SegmentCommand.{SegmentCommand}
 use Rattle.macho_records.specs.declared.constants.TheConstants.{LC_SEGMENT_64}
 use Rattle.macho_model.specs.Chain.{next_of, STRIDE, OnPageChain, chain_segment, chain_segments}
 use Rattle.macho_model.specs.Loader.{WordFits, WordFails}
-use Rattle.macho_memory_walks.specs.Readings.{command_at, listed, IsNth, segment_there}
-use Rattle.macho_memory_walks.specs.steps.Walks.{StepIn, Leads, starts_of, chain_segment_at}
+use Rattle.macho_memory_walks.specs.Readings.{command_at, listed, IsNth, segment_there, StepIn, starts_of}
+use Rattle.macho_memory_walks.specs.steps.Walks.{Leads, chain_segment_at}
 use Rattle.macho_memory_walks.specs.steps.Walks as walks
 use Rattle.macho_model_walks.specs.steps.WordTests.{word_fits_test, address_in, UnfitFrom, FitFrom, UnfitOnPage, FitOnPage, FitOnNth}
 use Rattle.macho_model_walks.specs.steps.WordTests.{EachWordFits}

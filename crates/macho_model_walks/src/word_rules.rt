@@ -8,9 +8,9 @@ ghost use Rattle.macho_model.specs.Chain.{chain_segments};
 ghost use Rattle.macho_model.specs.Loader.{import_count, WordFails};
 ghost use Rattle.macho_model.specs.Grammar.{EachCommand};
 ghost use Rattle.macho_model.specs.Commands.{numbered};
-ghost use Rattle.macho_memory_walks.specs.Readings.{command_at, IsNth, segment_there};
+ghost use Rattle.macho_memory_walks.specs.Readings.{command_at, IsNth, segment_there, starts_of};
 ghost use Rattle.macho_model_walks.specs.Tests.{page_holds};
-ghost use Rattle.macho_memory_walks.specs.steps.Walks.{starts_of, chain_segment_at};
+ghost use Rattle.macho_memory_walks.specs.steps.Walks.{chain_segment_at};
 ghost use Rattle.macho_model_walks.specs.steps.WordTests.{import_exists, word_fits_test, NthImportExists, UnfitFrom, FitFrom, UnfitOnPage, FitOnPage, FitOnNth, EachWordFits};
 ghost use Rattle.macho_memory_walks.specs.declared.walk.Listed.TheVariants as list;
 

@@ -2,8 +2,8 @@
 use Rattle.std.proofs.Common.{◌≡◌, ℕ, ◌<◌, ◌≤◌, [], length, get_or, replicate, Some, refl, arith}
 use Rattle.std.proofs.lemmas.List.{get_or-replicate, length-replicate}
 use Rattle.std.proofs.lemmas.List.Elements.{All-nil}
-use Rattle.macho_names.specs.steps.Events.{event_at, best_of}
-use Rattle.macho_names.specs.steps.Tables.{IsEmptyTable, IsThere, IsTagged, entry_name}
+use Rattle.macho_names.specs.Events.{event_at, best_of}
+use Rattle.macho_names.specs.Tables.{IsEmptyTable, IsThere, IsTagged, entry_name}
 
 pub empty_knows : (seed n : ℕ) → 1 ≤ n → IsEmptyTable (record { seed = seed; items = replicate n 0 }) []
 unfolding best_of

@@ -5,7 +5,8 @@ use Rattle.std.specs.List.{fold}
 use Rattle.std.proofs.lemmas.List.Sums.{fold_push}
 use Rattle.std.proofs.lemmas.List.Elements.{All-nil, All-cons}
 use Rattle.std.proofs.lemmas.Bool.{false≢true}
-use Rattle.macho_names.specs.steps.Events.{Event, beats, ties, is_of, is_level, with_event, better, best_of}
+use Rattle.macho_names.specs.Events.{Event, beats, is_of, with_event, better, best_of}
+use Rattle.macho_names.specs.steps.Levels.{ties, is_level}
 use Rattle.macho_names.proofs.Order.{beats_itself, beats_beats, not_beats_not_beats, beats_apart, ties_itself, ties_beats}
 
 -- one event more

@@ -6,7 +6,8 @@ use Rattle.std.proofs.lemmas.List.{get_or-map, length-map}
 use Rattle.std.proofs.lemmas.Bool.{cases_lt}
 use Rattle.macho_names.specs.declared.table.Entry.{Entry}
 use Rattle.macho_names.specs.Kept.{FileRows}
-use Rattle.macho_names.specs.steps.Tables.{Heads, IsTable, IsAhead, bucket_of, entry_name, names_of, nexts_of}
+use Rattle.macho_names.specs.Tables.{Heads, IsTable, bucket_of, entry_name, names_of, nexts_of}
+use Rattle.macho_names.specs.steps.Tables.{IsAhead}
 
 -- the name and the next of an entry, by its number
 pub name_of_entry : (files : List FileRows) (entries : List Entry) (i : ℕ) (d : Entry) → i < length entries

@@ -6,8 +6,8 @@ use Rattle.std.proofs.Math.Seq.{get_or-append_seam}
 use Rattle.std.proofs.lemmas.Bool.{cases_lt}
 use Rattle.macho_names.specs.declared.table.Entry.{Entry}
 use Rattle.macho_names.specs.Kept.{FileRows}
-use Rattle.macho_names.specs.steps.Hashing.{hash_of}
-use Rattle.macho_names.specs.steps.Tables.{Heads, IsTable, IsThere, IsTagged, IsNowhere, AreChained, bucket_of, entry_name, names_of, nexts_of}
+use Rattle.macho_names.specs.Hashing.{hash_of}
+use Rattle.macho_names.specs.Tables.{Heads, IsTable, IsThere, IsTagged, IsNowhere, AreChained, bucket_of, entry_name, names_of, nexts_of}
 
 -- a number below that of a longer list is one of the shorter, or the last
 pub below_more : (k n : ℕ) → k < n + 1 → (k < n) ⊎ (k ≡ n)

@@ -5,9 +5,11 @@ use Rattle.std.proofs.lemmas.List.{get_or_append_left, length-map, map-append}
 use Rattle.std.proofs.Math.Seq.{get_or-append_seam}
 use Rattle.macho_names.specs.declared.table.Entry.{Entry}
 use Rattle.macho_names.specs.Kept.{FileRows}
-use Rattle.macho_names.specs.steps.Events.{row_at, row_count}
-use Rattle.macho_names.specs.steps.Found.{IsFound, AreFoundIn, AreFound, HaveGrown}
-use Rattle.macho_names.specs.steps.Tables.{IsAdded, IsEntryOf, entry_name, names_of}
+use Rattle.macho_names.specs.Events.{row_at, row_count}
+use Rattle.macho_names.specs.Found.{IsFound, AreFoundIn, AreFound}
+use Rattle.macho_names.specs.steps.Tables.{HaveGrown}
+use Rattle.macho_names.specs.steps.Tables.{IsAdded}
+use Rattle.macho_names.specs.Tables.{IsEntryOf, entry_name, names_of}
 use Rattle.macho_names.proofs.ChainsMore.{below_more}
 
 -- entries whose names are the same, and some, and then others

@@ -4,9 +4,10 @@ use Rattle.std.proofs.lemmas.Bool.{false≢true}
 use Rattle.std.proofs.lemmas.List.Elements.{All-set}
 use Rattle.macho_names.specs.declared.table.Entry.{Entry}
 use Rattle.macho_names.specs.Kept.{FileRows}
-use Rattle.macho_names.specs.steps.Events.{row_at, beats}
-use Rattle.macho_names.specs.steps.Hashing.{hash_of}
-use Rattle.macho_names.specs.steps.Tables.{Heads, IsTable, IsThere, IsTagged, IsImproved, no_entry, row_of_entry, both_strong, entry_name, names_of}
+use Rattle.macho_names.specs.Events.{row_at, beats}
+use Rattle.macho_names.specs.Hashing.{hash_of}
+use Rattle.macho_names.specs.Tables.{Heads, IsTable, IsThere, IsTagged, no_entry, entry_name, names_of}
+use Rattle.macho_names.specs.steps.Tables.{IsImproved, row_of_entry, both_strong}
 use Rattle.macho_names.proofs.Lists.{map_set_same}
 
 -- names and nexts stay where an entry leads to another row of its name

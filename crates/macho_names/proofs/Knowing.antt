@@ -9,8 +9,9 @@ use Rattle.std.proofs.Math.Seq.{get_or-append_seam}
 use Rattle.macho_stub_lines.proofs.Bind.{bytes_same, bytes_differ, same_bytes}
 use Rattle.macho_names.specs.declared.table.Entry.{Entry}
 use Rattle.macho_names.specs.Kept.{FileRows}
-use Rattle.macho_names.specs.steps.Events.{Event, row_at, event_at, strength, is_of, is_strong_of, better, best_of}
-use Rattle.macho_names.specs.steps.Tables.{Knows, IsAdded, IsNowhere, IsNameless, entry_name, names_of}
+use Rattle.macho_names.specs.Events.{Event, row_at, event_at, strength, is_of, is_strong_of, better, best_of}
+use Rattle.macho_names.specs.Tables.{Knows, IsNowhere, entry_name, names_of}
+use Rattle.macho_names.specs.steps.Tables.{IsAdded, IsNameless}
 use Rattle.macho_names.proofs.Lists.{filter_none, filter_one}
 use Rattle.macho_names.proofs.Best.{best_push, with_other, with_own, none_of, and_false}
 

@@ -9,8 +9,10 @@ use Rattle.macho_names.specs.declared.table.Entry.{Entry}
 use Rattle.macho_names.specs.declared.fault.SymbolFault.{SymbolFault}
 use Rattle.macho_names.specs.declared.fault.SymbolFault.TheVariants.{DuplicateSymbol, UndefinedSymbol, ExportListMissing, OutOfMemory}
 use Rattle.macho_names.specs.Kept.{FileRows}
-use Rattle.macho_names.specs.steps.Events.{Event, row_at, event_at, beats, strength, is_of, is_level, is_strong_of, better, best_of}
-use Rattle.macho_names.specs.steps.Tables.{Heads, Knows, IsTable, IsImproved, IsNowhere, IsEntryOf, IsClash, AreBothStrong, entry_name, names_of, no_entry, row_of_entry}
+use Rattle.macho_names.specs.Events.{Event, row_at, event_at, beats, strength, is_of, is_strong_of, better, best_of}
+use Rattle.macho_names.specs.steps.Levels.{is_level}
+use Rattle.macho_names.specs.Tables.{Heads, Knows, IsTable, IsNowhere, IsEntryOf, IsClash, entry_name, names_of, no_entry}
+use Rattle.macho_names.specs.steps.Tables.{IsImproved, AreBothStrong, row_of_entry}
 use Rattle.macho_names.proofs.Lists.{filter_none, filter_one}
 use Rattle.macho_names.proofs.Chains.{name_of_entry}
 use Rattle.macho_names.proofs.ChainsMore.{same_or_not}

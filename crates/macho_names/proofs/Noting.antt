@@ -12,7 +12,8 @@ use Rattle.std.proofs.lemmas.List.Elements.{All-push, All-nil}
 use Rattle.macho_names.specs.declared.notes.Note.{Note}
 use Rattle.macho_names.specs.Kept.{Row, row_of_symbol, rows_of_stub, is_offered, offered_row}
 use Rattle.macho_object.specs.Objects.{symbol_name}
-use Rattle.macho_names.specs.steps.Notes.{row_in, IsWithin, CommonFits, AreNoted, IsString}
+use Rattle.macho_names.specs.Notes.{row_in, CommonFits}
+use Rattle.macho_names.specs.steps.Notes.{IsWithin, AreNoted, IsString}
 
 offered_fits : (n : Note) → n.sort ≡ Offered → CommonFits n.sort n.number n.value
 offered_fits n is = rw is tt

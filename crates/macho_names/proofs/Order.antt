@@ -4,7 +4,8 @@ use Rattle.std.proofs.Common.{◌≡◌, ℕ, ◌<◌, ◌≤◌, Bool, true, fa
 use Rattle.std.proofs.lemmas.Bool.{false≢true}
 use Rattle.std.proofs.lemmas.Bool.Decides.{nat_tests}
 use Rattle.macho_names.specs.Kept.{Row}
-use Rattle.macho_names.specs.steps.Events.{beats, strength, strength_of, common_size, size_of_common, ties}
+use Rattle.macho_names.specs.Events.{beats, strength, strength_of, common_size, size_of_common}
+use Rattle.macho_names.specs.steps.Levels.{ties}
 use Rattle.macho_names.specs.declared.notes.Sort.{Sort}
 use Rattle.macho_names.specs.declared.notes.Sort.TheVariants.{Section, Absolute, Common, Offered, Nowhere}
 

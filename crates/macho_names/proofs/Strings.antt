@@ -6,7 +6,7 @@ use Rattle.std.proofs.lemmas.Bool.{cases_lt}
 use Rattle.std.proofs.lemmas.List.{get_or-take, get_or-drop, length-take, length-drop, take_all}
 use Rattle.std.proofs.lemmas.List.Sums.{position_or_len_is, passes_at_first, fails_before_first}
 use Rattle.macho_bytes.specs.Texts.{name_of}
-use Rattle.macho_names.specs.steps.Notes.{end_at}
+use Rattle.macho_names.specs.Notes.{end_at}
 
 abbrev long : List ℕ → ℕ
 long xs = length (name_of xs)

@@ -9,8 +9,9 @@ use Rattle.macho_names.specs.declared.table.Entry.{Entry}
 use Rattle.macho_names.specs.declared.fault.SymbolFault.{SymbolFault}
 use Rattle.macho_names.specs.declared.fault.SymbolFault.TheVariants.{DuplicateSymbol, UndefinedSymbol, ExportListMissing, OutOfMemory}
 use Rattle.macho_names.specs.Kept.{FileRows}
-use Rattle.macho_names.specs.steps.Events.{Event, row_at, row_count, event_at, events_of_file, events_of, is_strong_of}
-use Rattle.macho_names.specs.steps.Tables.{Heads, IsTable, IsKnown, IsClash, TakesIn, Refuses, IsNowhere, IsAdded, IsImproved, IsEntryOf, AreBothStrong, names_of}
+use Rattle.macho_names.specs.Events.{Event, row_at, row_count, event_at, events_of_file, events_of, is_strong_of}
+use Rattle.macho_names.specs.Tables.{Heads, IsTable, IsKnown, IsClash, IsNowhere, IsEntryOf, names_of}
+use Rattle.macho_names.specs.steps.Tables.{TakesIn, Refuses, IsAdded, IsImproved, AreBothStrong}
 use Rattle.macho_names.proofs.Lists.{range_push}
 use Rattle.macho_names.proofs.Knowing.{knows_nameless, knows_added}
 use Rattle.macho_names.proofs.KnowingBetter.{knows_improved, clash_told}

@@ -5,7 +5,7 @@ use Rattle.std.specs.List.{fold, range_with_len}
 use Rattle.std.proofs.lemmas.List.FromFn.{map-range_with_len_more}
 use Rattle.std.proofs.lemmas.List.Sums.{fold-append}
 use Rattle.macho_bytes.specs.Numbers.{le_at}
-use Rattle.macho_names.specs.steps.Hashing.{hash_step, hash_words}
+use Rattle.macho_names.specs.Hashing.{hash_step, hash_words}
 
 -- no word, and one word more
 pub words_none : (start : ℕ) (bytes : List ℕ) → hash_words start bytes 0 ≡ start

@@ -1,7 +1,4 @@
--- The steps of the table of names: how it holds what is kept, and the order in which it takes rows.
-pub mod Events
-pub mod Found
-pub mod Hashing
+-- The steps of the table of names: how notes are made, and how rows are taken in.
+pub mod Levels
 pub mod Notes
 pub mod Tables
-pub mod Texts

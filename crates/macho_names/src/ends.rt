@@ -6,7 +6,7 @@
 //!     blocks   00 5f 66 00   5f 6d 61 69   6e 00
 //!     ends     0             9             9
 ghost use Rattle.std.specs.Prelude.{◌≡◌, ◌^◌, ◌<◌, ◌≤◌, length, IfOk};
-ghost use Rattle.macho_names.specs.steps.Notes.{AreEnds, end_at};
+ghost use Rattle.macho_names.specs.Notes.{AreEnds, end_at};
 
 use macho_records::name_bytes;
 use std::alloc::{AllocError, Global};

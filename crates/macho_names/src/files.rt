@@ -7,9 +7,10 @@ ghost use Rattle.macho_object.specs.Objects.{num_symbols, strings_of, symbol_nam
 ghost use Rattle.macho_object.specs.Symbols.{is_in_section, is_absolute};
 ghost use Rattle.macho_stub_lines.specs.Lists.{texts};
 ghost use Rattle.macho_names.specs.Kept.{Row, kept_object, kept_dylib, kept_stub, reading_of, rows_of_object, rows_of_dylib, offered_row, is_offered, no_row};
-ghost use Rattle.macho_names.specs.steps.Events.{library_text};
-ghost use Rattle.macho_names.specs.steps.Notes.{AreNoted, AreEnds, IsString, CommonFits, row_in, named_row};
-ghost use Rattle.macho_names.specs.steps.Texts.{bytes_of};
+ghost use Rattle.macho_names.specs.Events.{library_text};
+ghost use Rattle.macho_names.specs.steps.Notes.{AreNoted, IsString};
+ghost use Rattle.macho_names.specs.Notes.{AreEnds, CommonFits, row_in, named_row};
+ghost use Rattle.macho_names.specs.Texts.{bytes_of};
 
 use crate::ends::block_ends;
 use crate::kinds::{is_absolute, is_in_section};
@@ -57,8 +58,9 @@ impl<'data> Model for FileNames<'data> {
     ghost Value = { FileRows };
 
     ghost use Rattle.std.specs.Prelude.{map, option_copied};
-    ghost use Rattle.macho_names.specs.steps.Notes.{IsHeld, row_in};
-    ghost use Rattle.macho_names.specs.steps.Texts.{bytes_of};
+    ghost use Rattle.macho_names.specs.steps.Notes.{IsHeld};
+    ghost use Rattle.macho_names.specs.Notes.{row_in};
+    ghost use Rattle.macho_names.specs.Texts.{bytes_of};
 
     ghost view = { λ f. record { library = option_copied f.library; rows = map (row_in (bytes_of f.text)) f.notes.items } };
 
@@ -237,7 +239,7 @@ impl<'data> FileNames<'data> {
     }
 
     /// How many rows are global, and so have a name that others may define.
-    pub fn count_global(&self) -> usize {
+    pub(crate) fn count_global(&self) -> usize {
         let mut count = 0usize;
         for note in &self.notes {
             count = count.saturating_add(usize::from(note.global));

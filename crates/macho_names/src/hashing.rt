@@ -8,7 +8,7 @@
 ghost use Rattle.std.specs.Prelude.{◌≡◌, ◌+◌, ◌*◌, ◌≤◌, length};
 ghost use Rattle.std.specs.List.{fold};
 ghost use Rattle.macho_bytes.specs.Numbers.{le_at};
-ghost use Rattle.macho_names.specs.steps.Hashing.{folded, hash_step, hash_behind, hash_of, last_word, word_step};
+ghost use Rattle.macho_names.specs.Hashing.{folded, hash_step, hash_behind, hash_of, last_word, word_step};
 
 use byteorder::{ByteOrder, LittleEndian};
 
@@ -55,7 +55,7 @@ fn short_word(bytes: &[u8]) -> u64
 }
 
 /// The last 8 bytes as one word, or all, if there are fewer.
-#[tactic(auto, unfolding(crate::specs::steps::Hashing::last_word))]
+#[tactic(auto, unfolding(crate::specs::Hashing::last_word))]
 fn last_word(bytes: &[u8]) -> u64
     ensures { result ≡ last_word bytes.now }
 {
@@ -79,7 +79,7 @@ fn hash_behind(start: u64, bytes: &[u8]) -> u64
 
 /// The hash of a name. Of a long one its length, its front and its end are hashed, so that many symbols that share it, or
 /// tails of it, are looked for in a short time.
-#[tactic(auto, unfolding(crate::specs::steps::Hashing::hash_of))]
+#[tactic(auto, unfolding(crate::specs::Hashing::hash_of))]
 pub(crate) fn hash(seed: u64, name: &[u8]) -> u64
     ensures { result ≡ hash_of seed name.now }
 {

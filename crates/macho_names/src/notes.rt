@@ -9,8 +9,9 @@ ghost use Rattle.macho_records.specs.Symbols.{is_common_of, common_of, common_si
 ghost use Rattle.macho_object.specs.Symbols.{is_global};
 ghost use Rattle.macho_object.specs.Objects.{num_symbols, strings_of, symbol_at};
 ghost use Rattle.macho_names.specs.Kept.{in_carried, sort_of, number_of, value_of, row_of_symbol};
-ghost use Rattle.macho_names.specs.steps.Events.{strength_of, size_of_common};
-ghost use Rattle.macho_names.specs.steps.Notes.{row_in, AreEnds, IsString, CommonFits};
+ghost use Rattle.macho_names.specs.Events.{strength_of, size_of_common};
+ghost use Rattle.macho_names.specs.Notes.{row_in, AreEnds, CommonFits};
+ghost use Rattle.macho_names.specs.steps.Notes.{IsString};
 
 use crate::ends::string_end;
 use crate::kinds::{is_absolute, is_global};

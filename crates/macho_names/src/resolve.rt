@@ -7,9 +7,11 @@
 //!     entries   _main, _f, _g
 //!     found     0: 0, 1        1: 1, none, 2
 ghost use Rattle.std.specs.Prelude.{◌≡◌, ◌^◌, ◌<◌, [], ◌∷◌, length, IfOk, OnOk, IfErr};
-ghost use Rattle.macho_names.specs.steps.Events.{row_at, row_count, event_at, events_of_file, events};
-ghost use Rattle.macho_names.specs.steps.Found.{IsFound, AreFoundIn, AreFound, HaveGrown};
-ghost use Rattle.macho_names.specs.steps.Tables.{heads_of, IsTable, IsKnown, IsClash, TakesIn, Refuses};
+ghost use Rattle.macho_names.specs.Events.{row_at, row_count, event_at, events_of_file, events};
+ghost use Rattle.macho_names.specs.Found.{IsFound, AreFoundIn, AreFound};
+ghost use Rattle.macho_names.specs.steps.Tables.{HaveGrown};
+ghost use Rattle.macho_names.specs.Tables.{heads_of, IsTable, IsKnown, IsClash};
+ghost use Rattle.macho_names.specs.steps.Tables.{TakesIn, Refuses};
 
 use crate::fault::SymbolFault;
 use crate::files::FileNames;

@@ -8,11 +8,12 @@
 //!     entries   { next 0, file 0, row 3, tag .. }  { next 0, file 1, row 0, tag .. }
 ghost use Rattle.std.specs.Prelude.{◌≡◌, ℕ, ◌+◌, ◌-◌, ◌/◌, ◌^◌, ◌<◌, ◌≤◌, bit_and, length, IfSome, IfNone, IsSomeAnd, IfErr, IfOk, OnOk, get_or, true, false, [], ◌∷◌};
 ghost use Rattle.macho_names.specs.Kept.{no_file};
-ghost use Rattle.macho_names.specs.steps.Events.{row_at, row_count, event_at, beats};
-ghost use Rattle.macho_names.specs.steps.Found.{HaveGrown};
-ghost use Rattle.macho_names.specs.steps.Hashing.{hash_of};
-ghost use Rattle.macho_names.specs.steps.Notes.{named_row, CommonFits};
-ghost use Rattle.macho_names.specs.steps.Tables.{heads_of, IsEmptyTable, IsPlaceOfName, IsTagged, entry_name, IsTable, IsEntryOf, IsNowhere, IsAdded, TakesIn, Refuses, IsThere, no_entry, both_strong, names_of};
+ghost use Rattle.macho_names.specs.Events.{row_at, row_count, event_at, beats};
+ghost use Rattle.macho_names.specs.steps.Tables.{HaveGrown};
+ghost use Rattle.macho_names.specs.Hashing.{hash_of};
+ghost use Rattle.macho_names.specs.Notes.{named_row, CommonFits};
+ghost use Rattle.macho_names.specs.Tables.{heads_of, IsEmptyTable, IsTagged, entry_name, IsTable, IsEntryOf, IsNowhere, IsThere, no_entry, names_of};
+ghost use Rattle.macho_names.specs.steps.Tables.{IsPlaceOfName, IsAdded, TakesIn, Refuses, both_strong};
 
 use crate::fault::SymbolFault;
 use crate::files::FileNames;
@@ -110,15 +111,25 @@ fn buckets_for(names: usize) -> usize
     names.clamp(1, MOST_BUCKETS).next_power_of_two()
 }
 
+/// How many rows of some files bring a name. Only the number of buckets depends on it.
+fn named_rows(files: &[FileNames<'_>]) -> usize {
+    let mut rows = 0usize;
+    for file in files {
+        rows = rows.saturating_add(file.count_global());
+    }
+    rows
+}
+
 impl Table {
-    /// A table without names, with room for some, and the seed of their hashes.
+    /// A table without names, with room for those of some files, and the seed of their hashes.
     ///
     /// # Errors
     ///
     /// There is not enough memory.
-    pub fn new(alloc: Global, names: usize, seed: u64) -> Result<Table, AllocError>
+    pub fn new(alloc: Global, files: &[FileNames<'_>], seed: u64) -> Result<Table, AllocError>
         ensures { IfOk result (λ t. IsEmptyTable (heads_of t) t.entries.items) }
     {
+        let names = named_rows(files);
         Ok(Table {
             seed,
             heads: vec![in alloc; 0u32; buckets_for(names)]?,

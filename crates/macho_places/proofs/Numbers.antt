@@ -13,7 +13,7 @@ use Rattle.std.proofs.lemmas.List.{get_or_past, length-map, get_or-map, length-a
 use Rattle.std.proofs.lemmas.List.Sums.{position_or_len_is}
 use Rattle.std.proofs.lemmas.List.FromFn.{get_or-range_with_len, length-range_with_len}
 use Rattle.macho_model.specs.Fixups.{EntryOfImport, same_entry}
-use Rattle.macho_places.specs.steps.Looked.{numbered, number_behind, entry_number}
+use Rattle.macho_places.specs.Looked.{numbered, number_behind, entry_number}
 
 place_bound : {X : Type 0} (test : X → Bool) (xs : List X) → position_or_len test xs ≤ length xs
 place_bound test [] = omega arith

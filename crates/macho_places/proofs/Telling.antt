@@ -41,7 +41,7 @@ use Rattle.macho_symbols.proofs.Targeted.{target_here}
 use Rattle.macho_needs.specs.declared.needs.Needs.{Needs}
 use Rattle.macho_fields.specs.Looks.{stub_address, Tells}
 use Rattle.macho_places.specs.Places.{AreOfLink}
-use Rattle.macho_places.specs.steps.Looked.{look_of, template_in, numbered}
+use Rattle.macho_places.specs.Looked.{look_of, template_in, numbered}
 use Rattle.macho_places.proofs.Numbers.{numbered_is, entry_is, plain}
 
 -- the first number that a filter keeps stands where the test first passes

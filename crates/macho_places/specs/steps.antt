@@ -1,3 +1,3 @@
--- The steps of looking up: what is told of the parts of a link, by its lists.
+-- The steps of looking up.
 pub mod Looked
 pub mod Segments

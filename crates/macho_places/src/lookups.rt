@@ -6,7 +6,7 @@ ghost use Rattle.macho_layout.specs.Placements.{placed_of};
 ghost use Rattle.macho_symbols.specs.Kept.{IsResolved, HasSymbol};
 ghost use Rattle.macho_fields.specs.Looks.{Tells};
 ghost use Rattle.macho_places.specs.Places.{AreOfLink};
-ghost use Rattle.macho_places.specs.steps.Looked.{template_in, numbered, entry_number};
+ghost use Rattle.macho_places.specs.Looked.{template_in, numbered, entry_number};
 
 use macho_addresses::Addresses;
 use macho_fields::Places;
@@ -146,7 +146,7 @@ fn entry_number(imports: usize, tables: &Tables, import: u32, addend: u64) -> u3
 
 impl<'a, 'data> Places for LinkPlaces<'a, 'data> {
     ghost use Rattle.macho_places.specs.Places.{IsKnown};
-    ghost use Rattle.macho_places.specs.steps.Looked.{look_of};
+    ghost use Rattle.macho_places.specs.Looked.{look_of};
 
     ghost look = { look_of };
 

@@ -32,7 +32,7 @@ use Rattle.macho_consumed.proofs.Tests.{left_of, right_of, both}
 use Rattle.macho_consumed.specs.declared.listing.Kind.{Kind}
 use Rattle.macho_consumed.specs.declared.listing.Kind.TheVariants.{Initializers, Entries}
 use Rattle.macho_reading.specs.steps.Rows.{IsSymbolPointer}
-use Rattle.macho_consumed.specs.steps.Listed.{is_of_kind}
+use Rattle.macho_consumed.specs.Kinds.{is_of_kind}
 use Rattle.macho_reading.specs.steps.Uses.{is_placed, is_use, use_of, IsSection}
 
 -- a link of which rows of symbols are kept is resolved, with what is noted

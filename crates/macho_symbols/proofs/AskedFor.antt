@@ -9,17 +9,18 @@ use Rattle.macho_model.specs.declared.targets.Target.{Target}
 use Rattle.macho_model.specs.declared.targets.Target.TheVariants as target
 use Rattle.macho_model.specs.Links.{Link}
 use Rattle.macho_model.specs.Resolution.{definition_of}
-use Rattle.macho_exports.specs.steps.Lists.{texts_of}
+use Rattle.macho_exports.specs.Entries.{texts_of}
 use Rattle.macho_names.specs.declared.fault.SymbolFault.{SymbolFault}
 use Rattle.macho_names.specs.declared.fault.SymbolFault.TheVariants.{DuplicateSymbol, UndefinedSymbol, ExportListMissing, OutOfMemory}
 use Rattle.macho_symbols.specs.declared.solved.Solved.{Solved}
 use Rattle.macho_names.specs.Kept.{FileRows, kept_of}
-use Rattle.macho_symbols.specs.Kept.{ResolvedRows, IsResolved}
+use Rattle.macho_symbols.specs.Kept.{ResolvedRows, IsResolved, noted_of}
 use Rattle.macho_symbols.specs.Told.{noting_name, noting_names, AreDefined, IsMissing}
-use Rattle.macho_names.specs.steps.Events.{events, best_of}
-use Rattle.macho_names.specs.steps.Tables.{heads_of}
-use Rattle.macho_symbols.specs.steps.Targets.{named_in, is_next, is_nothing, is_missing_in, noting_name_in, noting_names_in}
-use Rattle.macho_symbols.specs.steps.Solved.{IsSolved, IsUnchanged, HasGrown, HaveNoted, IsMissingIn, noted_of}
+use Rattle.macho_names.specs.Events.{events, best_of}
+use Rattle.macho_names.specs.Tables.{heads_of}
+use Rattle.macho_symbols.specs.Targets.{named_in}
+use Rattle.macho_symbols.specs.steps.Targets.{is_next, is_nothing, is_missing_in, noting_name_in, noting_names_in}
+use Rattle.macho_symbols.specs.steps.Solved.{IsSolved, IsUnchanged, HasGrown, HaveNoted, IsMissingIn}
 use Rattle.macho_symbols.proofs.Defined.{definition_is}
 use Rattle.macho_symbols.proofs.UsesHere.{nothing_by, next_is}
 

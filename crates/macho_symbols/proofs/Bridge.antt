@@ -9,7 +9,7 @@ use Rattle.macho_model.specs.Links.{Input, Object, Dylib, Stub, StubReading, Lin
 use Rattle.macho_model.specs.Objects.{num_symbols, symbol_name}
 use Rattle.macho_model.specs.Resolution.{SymbolId, symbols_of, symbols_of_file}
 use Rattle.macho_names.specs.Kept.{Row, no_file, no_row, kept_of, row_of_symbol, rows_of_object, rows_of_dylib, rows_of_stub, offered_row, is_offered}
-use Rattle.macho_names.specs.steps.Events.{Event, row_at, row_count, event_at, events_of_file, events_of, events}
+use Rattle.macho_names.specs.Events.{Event, row_at, row_count, event_at, events_of_file, events_of, events}
 use Rattle.macho_symbols.specs.steps.Targets.{row_of, event_of}
 use Rattle.macho_symbols.proofs.ListsMore.{enumerated, flat_map-map, filter-flat_map, map-flat_map, flat_map_same, filter_made, filter_nothing}
 

@@ -13,7 +13,7 @@ use Rattle.macho_model.specs.Resolution.{SymbolId, symbols_of, strong_of, weak_o
 use Rattle.macho_names.specs.declared.notes.Sort.{Sort}
 use Rattle.macho_names.specs.declared.notes.Sort.TheVariants.{Section, Absolute, Common, Nowhere}
 use Rattle.macho_names.specs.Kept.{Row, kept_of, row_of_symbol, in_carried}
-use Rattle.macho_names.specs.steps.Events.{strength, strength_of, is_of, events}
+use Rattle.macho_names.specs.Events.{strength, strength_of, is_of, events}
 use Rattle.macho_symbols.specs.steps.Targets.{row_of, event_of}
 use Rattle.macho_names.proofs.Best.{and_false}
 use Rattle.macho_symbols.proofs.Bridge.{passing, PassesNone}

@@ -8,8 +8,10 @@ use Rattle.macho_model.specs.Resolution.{SymbolId, Definition, Symbol, Library, 
 use Rattle.macho_names.specs.declared.notes.Sort.{Sort}
 use Rattle.macho_names.specs.declared.notes.Sort.TheVariants.{Section, Absolute, Common, Offered, Nowhere}
 use Rattle.macho_names.specs.Kept.{kept_of}
-use Rattle.macho_names.specs.steps.Events.{Event, strength, strength_of, beats, is_of, is_level, events, best_of}
-use Rattle.macho_symbols.specs.steps.Targets.{event_of, id_of, image_base, defined_as, definition_by}
+use Rattle.macho_names.specs.Events.{Event, strength, strength_of, beats, is_of, events, best_of}
+use Rattle.macho_names.specs.steps.Levels.{is_level}
+use Rattle.macho_symbols.specs.steps.Targets.{event_of}
+use Rattle.macho_symbols.specs.Targets.{id_of, image_base, defined_as, definition_by}
 use Rattle.macho_names.proofs.Order.{equal_by_test, stronger_beats, ties_strength}
 use Rattle.macho_names.proofs.Best.{best_is, IsBest, none_of, and_false}
 use Rattle.macho_symbols.proofs.Classes.{strong_class, weak_class, common_class}

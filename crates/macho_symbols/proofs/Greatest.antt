@@ -10,8 +10,10 @@ use Rattle.macho_model.specs.Links.{Link, object_of}
 use Rattle.macho_model.specs.Resolution.{SymbolId, symbols_of, commons_of, greatest_of, entry_at, has_name}
 use Rattle.macho_names.specs.declared.notes.Sort.TheVariants.{Common}
 use Rattle.macho_names.specs.Kept.{Row, kept_of, row_of_symbol, sort_of, value_of}
-use Rattle.macho_names.specs.steps.Events.{Event, strength, beats, common_size, size_of_common, is_of, is_level, events}
-use Rattle.macho_symbols.specs.steps.Targets.{row_of, event_of, id_of}
+use Rattle.macho_names.specs.Events.{Event, strength, beats, common_size, size_of_common, is_of, events}
+use Rattle.macho_names.specs.steps.Levels.{is_level}
+use Rattle.macho_symbols.specs.steps.Targets.{row_of, event_of}
+use Rattle.macho_symbols.specs.Targets.{id_of}
 use Rattle.macho_names.proofs.Order.{equal_by_test}
 use Rattle.macho_names.proofs.Best.{IsBest}
 use Rattle.macho_symbols.proofs.Classes.{common_class, common_alone}

@@ -24,7 +24,7 @@ use Rattle.macho_names.specs.declared.table.Entry.{Entry}
 use Rattle.macho_names.specs.Kept.{FileRows}
 use Rattle.macho_symbols.specs.Exported.{AreRising}
 use Rattle.macho_symbols.specs.steps.Exporting.{IsToldIn, AreTold, IsPairIn, AreFound, AreInOrder, pair_names}
-use Rattle.macho_names.specs.steps.Tables.{Heads, IsTable, IsNowhere, names_of, entry_name}
+use Rattle.macho_names.specs.Tables.{Heads, IsTable, IsNowhere, names_of, entry_name}
 
 -- gathering, one entry further
 pub found_none : (files : List FileRows) (entries : List Entry) (test : List ℕ → Bool) → AreFound files entries test 0 []

@@ -1,21 +1,21 @@
 -- Where names and symbols lead, by what the table knows: the entry of a name leads to its best row, and what has no entry
 -- is of no event.
-use Rattle.std.proofs.Common.{◌≡◌, ℕ, ◌+◌, ◌<◌, ◌==◌, ◌&&◌, if◌then◌else◌, inl, inr, Bool, true, false, Some, None, List, [], ◌∷◌, length, map, get_or, refl, ap, subst, sym, ◌∙◌, arith}
+use Rattle.std.proofs.Common.{◌≡◌, ℕ, ◌+◌, ◌<◌, inl, inr, true, false, Some, None, List, [], ◌∷◌, length, map, get_or, refl, ap, subst, sym, ◌∙◌, arith}
 use Rattle.std.specs.List.{position_or_len}
 use Rattle.std.proofs.lemmas.List.{get_or-map, length-map, get_or_default}
 use Rattle.std.proofs.lemmas.List.Sums.{position_or_len_is}
-use Rattle.std.specs.Str.{bytes_eq}
-use Rattle.macho_model.specs.Resolution.{SymbolId, ImageBase, DSO_HANDLE, is_symbol, same_symbol}
+use Rattle.macho_model.specs.Resolution.{SymbolId, same_symbol}
 use Rattle.macho_symbols.specs.declared.solved.Common.{Common}
 use Rattle.macho_symbols.specs.declared.solved.Solved.{Solved}
 use Rattle.macho_names.specs.declared.notes.Sort.{Sort}
 use Rattle.macho_names.specs.declared.notes.Sort.TheVariants.{Section, Absolute, Common as CommonSort, Offered, Nowhere}
 use Rattle.macho_names.specs.declared.table.Entry.{Entry}
 use Rattle.macho_names.specs.Kept.{FileRows}
-use Rattle.macho_names.specs.steps.Events.{Event, row_at, event_at, events, best_of}
-use Rattle.macho_names.specs.steps.Tables.{Heads, heads_of, IsEntryOf, IsKnown, IsNowhere, IsThere, names_of, entry_name, no_entry}
-use Rattle.macho_symbols.specs.steps.Targets.{named_in, led_in, lead_in, own_in, chosen_in, id_of, defines_in, defined_as, definition_by, is_of_object}
-use Rattle.macho_symbols.specs.steps.Solved.{IsSolved, common_id, common_told, noted_of}
+use Rattle.macho_names.specs.Events.{Event, row_at, event_at, events, best_of}
+use Rattle.macho_names.specs.Tables.{Heads, heads_of, IsEntryOf, IsKnown, IsNowhere, names_of, entry_name, no_entry}
+use Rattle.macho_symbols.specs.Targets.{named_in, led_in, lead_in, own_in, chosen_in, id_of}
+use Rattle.macho_symbols.specs.steps.Solved.{IsSolved, common_id, common_told}
+use Rattle.macho_symbols.specs.Kept.{noted_of}
 use Rattle.macho_names.proofs.Chains.{name_of_entry}
 use Rattle.macho_names.proofs.ChainsMore.{below_more}
 
@@ -70,37 +70,6 @@ pub entry_best : (s : Solved) (name : List ℕ) (j : ℕ) → IsSolved s → IsE
     → best_of name (events s.files.items) ≡ Some
     (event_at s.files.items (get_or s.table.entries.items j no_entry).file (get_or s.table.entries.items j no_entry).row)
 entry_best s name j is of_name = best_of_entry s.files.items (heads_of s.table) s.table.entries.items name j is.known of_name
-
--- a symbol defines its name if it stands where the entry of the name leads, which is a row of an object
-pub defined_by_best : (files : List FileRows) (e b : Event) → best_of e.row.name (events files) ≡ Some b
-    → defines_in files e ≡ (e.row.global && (is_of_object b.row.sort && same_symbol (id_of e) (id_of b)))
-defined_by_best files e b best = ap (λ o. e.row.global && is_symbol (id_of e) (definition_by e.row.name o)) best
-    ∙ ap (λ d. e.row.global && d) (by_sort b.row.sort)
-  where
-    by_base : (at : Bool) → is_symbol (id_of e) (if at then Some ImageBase else None) ≡ false
-    by_base true = refl
-    by_base false = refl
-
-    by_sort : (sort : Sort) → is_symbol (id_of e) (defined_as e.row.name sort b) ≡ (is_of_object sort && same_symbol (id_of e) (id_of b))
-    by_sort Section = refl
-    by_sort Absolute = refl
-    by_sort CommonSort = refl
-    by_sort Offered = refl
-    by_sort Nowhere = by_base (bytes_eq e.row.name DSO_HANDLE)
-
-pub defined_by_entry : (files : List FileRows) (heads : Heads) (entries : List Entry) (file row j : ℕ) (b : Entry)
-    → IsKnown files heads entries (events files) → IsEntryOf files entries (row_at files file row).name j → b ≡ get_or entries j no_entry
-    → defines_in files (event_at files file row)
-    ≡ ((row_at files file row).global && (is_of_object (row_at files b.file b.row).sort && ((file == b.file) && (row == b.row))))
-defined_by_entry files heads entries file row j b known of_name is =
-    defined_by_best files (event_at files file row) (event_at files b.file b.row)
-    (best_of_entry files heads entries (row_at files file row).name j known of_name
-    ∙ ap (λ x. Some (event_at files x.file x.row)) (sym is))
-
--- the row of an entry is there
-pub entry_is_there : (files : List FileRows) (heads : Heads) (entries : List Entry) (name : List ℕ) (j : ℕ) (b : Entry)
-    → IsKnown files heads entries (events files) → IsEntryOf files entries name j → b ≡ get_or entries j no_entry → IsThere files b
-entry_is_there files heads entries name j b known of_name is = subst (IsThere files) (sym is) (known.table.there j no_entry of_name.0)
 
 -- so the name leads where that row does
 pub leads : (s : Solved) (name : List ℕ) (j : ℕ) (e : Entry) (sort : Sort) → IsSolved s

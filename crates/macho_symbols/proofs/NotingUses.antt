@@ -14,10 +14,11 @@ use Rattle.macho_names.specs.declared.notes.Sort.TheVariants.{Section, Absolute,
 use Rattle.macho_symbols.specs.declared.solved.Solved.{Solved}
 use Rattle.macho_symbols.specs.declared.solved.TheConstants.{UNNUMBERED}
 use Rattle.macho_names.specs.Kept.{FileRows}
-use Rattle.macho_names.specs.steps.Events.{Event, events, best_of}
-use Rattle.macho_names.specs.steps.Tables.{IsEntryOf, IsNowhere, names_of, no_entry}
-use Rattle.macho_symbols.specs.steps.Targets.{named_in, lead_in, image_base, definition_by, defined_as}
-use Rattle.macho_symbols.specs.steps.Solved.{IsSolved, IsNumbered, noted_of}
+use Rattle.macho_names.specs.Events.{Event, events, best_of}
+use Rattle.macho_names.specs.Tables.{IsEntryOf, IsNowhere, names_of, no_entry}
+use Rattle.macho_symbols.specs.Targets.{named_in, lead_in, image_base, definition_by, defined_as}
+use Rattle.macho_symbols.specs.steps.Solved.{IsSolved, IsNumbered}
+use Rattle.macho_symbols.specs.Kept.{noted_of}
 use Rattle.macho_symbols.proofs.Leading.{entry_best, leads_nowhere}
 use Rattle.macho_names.proofs.ChainsMore.{same_or_not}
 

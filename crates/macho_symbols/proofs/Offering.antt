@@ -11,7 +11,7 @@ use Rattle.macho_model.specs.Objects.{num_symbols, symbol_name, symbol_at}
 use Rattle.macho_model.specs.Resolution.{offers, libraries_with}
 use Rattle.macho_names.specs.declared.notes.Sort.TheVariants.{Section, Absolute, Common, Nowhere}
 use Rattle.macho_names.specs.Kept.{FileRows, no_file, no_row, kept_of, row_of_symbol, rows_of_dylib, rows_of_stub, offered_row, is_offered, sort_of, in_carried}
-use Rattle.macho_names.specs.steps.Events.{Event, row_at, row_count, event_at, events_of_file, events_of, events, strength, strength_of, is_of}
+use Rattle.macho_names.specs.Events.{Event, row_at, row_count, event_at, events_of_file, events_of, events, strength, strength_of, is_of}
 use Rattle.macho_records.specs.declared.symbols.SymtabEntry.{SymtabEntry}
 use Rattle.macho_records.specs.Symbols.{is_common_of, is_weak_of}
 use Rattle.macho_model.specs.Symbols.{is_absolute}

@@ -10,10 +10,11 @@ use Rattle.macho_names.specs.declared.notes.Sort.TheVariants.{Section, Absolute,
 use Rattle.macho_symbols.specs.declared.solved.Solved.{Solved}
 use Rattle.macho_symbols.specs.declared.solved.TheConstants.{UNNUMBERED}
 use Rattle.macho_names.specs.declared.table.Entry.{Entry}
-use Rattle.macho_names.specs.steps.Events.{Event, row_at, event_at}
+use Rattle.macho_names.specs.Events.{Event, row_at, event_at}
 use Rattle.macho_symbols.specs.steps.Exporting.{open_by, open_of, is_open_in, is_exported_in, is_listed_in, weak_of, weak_in}
-use Rattle.macho_symbols.specs.steps.Solved.{IsSolved, IsNumbered, noted_of}
-use Rattle.macho_names.specs.steps.Tables.{IsEntryOf, IsNowhere, names_of, no_entry}
+use Rattle.macho_symbols.specs.steps.Solved.{IsSolved, IsNumbered}
+use Rattle.macho_symbols.specs.Kept.{noted_of}
+use Rattle.macho_names.specs.Tables.{IsEntryOf, IsNowhere, names_of, no_entry}
 use Rattle.macho_symbols.specs.steps.Targets.{is_of_object}
 use Rattle.macho_names.specs.Kept.{FileRows}
 use Rattle.macho_symbols.proofs.Leading.{entry_best}

@@ -16,7 +16,7 @@ use Rattle.macho_model.specs.Resolution.{SymbolId, ImageBase, DSO_HANDLE, symbol
 use Rattle.macho_model.specs.Faults.{IsDuplicate}
 use Rattle.macho_names.specs.declared.fault.SymbolFault.{SymbolFault}
 use Rattle.macho_names.specs.declared.fault.SymbolFault.TheVariants.{DuplicateSymbol, UndefinedSymbol, ExportListMissing, OutOfMemory}
-use Rattle.macho_names.specs.steps.Tables.{IsClash}
+use Rattle.macho_names.specs.Tables.{IsClash}
 use Rattle.macho_model.specs.Targets.{own_target, definition_target, target_with}
 use Rattle.macho_names.specs.declared.notes.Sort.{Sort}
 use Rattle.macho_names.specs.declared.notes.Sort.TheVariants.{Section, Absolute, Common, Offered, Nowhere}
@@ -24,8 +24,10 @@ use Rattle.macho_names.specs.Kept.{kept_of, row_of_symbol, sort_of, in_carried, 
 use Rattle.macho_symbols.specs.Kept.{ResolvedRows, IsResolved, HasSymbol, symbol_id}
 use Rattle.macho_symbols.specs.Told.{common_of, IsDuplicateOf}
 use Rattle.macho_symbols.specs.steps.Solved.{common_told}
-use Rattle.macho_names.specs.steps.Events.{Event, event_at, row_count, events, strength, strength_of, best_of, is_level, is_strong_of}
-use Rattle.macho_symbols.specs.steps.Targets.{row_of, event_of, id_of, image_base, defined_as, definition_by, is_of_object, defines_in, chosen_in, own_in, base_target, lead_in, led_in, named_in, target_in}
+use Rattle.macho_names.specs.Events.{Event, event_at, row_count, events, strength, strength_of, best_of, is_strong_of}
+use Rattle.macho_names.specs.steps.Levels.{is_level}
+use Rattle.macho_symbols.specs.steps.Targets.{row_of, event_of, is_of_object}
+use Rattle.macho_symbols.specs.Targets.{id_of, image_base, defined_as, definition_by, defines_in, chosen_in, own_in, base_target, lead_in, led_in, named_in, target_in}
 use Rattle.macho_names.proofs.Best.{best_is, IsBest}
 use Rattle.macho_symbols.proofs.Bridge.{passing, row_kept, count_kept, file_at}
 use Rattle.macho_symbols.proofs.Classes.{common_alone, strong_class}

@@ -18,12 +18,13 @@ use Rattle.macho_names.specs.declared.notes.Sort.TheVariants.{Section, Absolute,
 use Rattle.macho_names.specs.declared.fault.SymbolFault.{SymbolFault}
 use Rattle.macho_names.specs.declared.fault.SymbolFault.TheVariants.{DuplicateSymbol, UndefinedSymbol, ExportListMissing, OutOfMemory}
 use Rattle.macho_names.specs.Kept.{FileRows, kept_of, kept_name, row_of_symbol, no_file}
-use Rattle.macho_symbols.specs.Kept.{ResolvedRows, IsResolved, HasSymbol, symbol_id}
+use Rattle.macho_symbols.specs.Kept.{ResolvedRows, IsResolved, HasSymbol, symbol_id, noted_of}
 use Rattle.macho_symbols.specs.Told.{noting, IsDefined, IsUndefined, ImportsAre}
 use Rattle.macho_symbols.specs.declared.solved.Import.{Import}
-use Rattle.macho_names.specs.steps.Events.{Event, event_at, events, best_of, library_text}
-use Rattle.macho_symbols.specs.steps.Targets.{event_of, defined_as, definition_by, lead_in, led_in, named_in, is_next, is_nothing, noting_in}
-use Rattle.macho_symbols.specs.steps.Solved.{IsFoundIn, IsUndefinedIn, IsImportIn, noted_of, library_in}
+use Rattle.macho_names.specs.Events.{Event, event_at, events, best_of, library_text}
+use Rattle.macho_symbols.specs.steps.Targets.{event_of, is_next, is_nothing, noting_in}
+use Rattle.macho_symbols.specs.Targets.{defined_as, definition_by, lead_in, led_in, named_in}
+use Rattle.macho_symbols.specs.steps.Solved.{IsFoundIn, IsUndefinedIn, IsImportIn, library_in}
 use Rattle.macho_symbols.proofs.Defined.{definition_is}
 use Rattle.macho_symbols.proofs.Targeted.{symbol_kept}
 use Rattle.macho_symbols.proofs.Bridge.{file_at}

@@ -3,6 +3,7 @@ use Rattle.std.specs.Prelude.{◌≡◌, ℕ, ◌<◌, true, List, length, map, 
 use Rattle.macho_model.specs.Links.{Link}
 use Rattle.macho_model.specs.Resolution.{SymbolId}
 use Rattle.macho_names.specs.Kept.{FileRows, kept_of, no_file}
+use Rattle.macho_symbols.specs.declared.solved.Import.{Import}
 
 -- What resolved symbols keep: the rows of the files, and the names of the imports noted so far.
 pub record ResolvedRows : Type 0 where
@@ -21,3 +22,7 @@ symbol_id file symbol = record { file = file; symbol = symbol }
 abbrev pub HasSymbol : ResolvedRows → ℕ → ℕ → Type 0
 HasSymbol r file symbol =
     (file < length r.files) × (is_none (get_or r.files file no_file).library ≡ true) × (symbol < length (get_or r.files file no_file).rows)
+
+-- the names of the imports that are noted
+abbrev pub noted_of : List Import → List (List ℕ)
+noted_of imports = map (λ i. i.name.items) imports

@@ -1,6 +1,7 @@
 pub mod Entries
 pub mod Exported
 pub mod Kept
+pub mod Targets
 pub mod Told
 pub mod steps
 -- why symbols are refused, of the crate below

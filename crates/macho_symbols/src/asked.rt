@@ -1,7 +1,8 @@
 //! Names that export lists ask for: each is to be defined, and each that a library defines is an import.
 ghost use Rattle.std.specs.Prelude.{◌≡◌, OnOk, OnErr, IfErr, All, [], ◌∷◌};
-ghost use Rattle.macho_exports.specs.steps.Lists.{texts_of};
-ghost use Rattle.macho_symbols.specs.steps.Solved.{IsSolved, IsUnchanged, HasGrown, HaveNoted, IsMissingIn, noted_of};
+ghost use Rattle.macho_exports.specs.Entries.{texts_of};
+ghost use Rattle.macho_symbols.specs.steps.Solved.{IsSolved, IsUnchanged, HasGrown, HaveNoted, IsMissingIn};
+ghost use Rattle.macho_symbols.specs.Kept.{noted_of};
 
 use crate::solved::{Solved, is_import, is_nothing};
 use macho_names::SymbolFault;
@@ -24,7 +25,10 @@ impl<'data> Solved<'data> {
         if !is_import(target, self.imports.len()) {
             return Ok(());
         }
-        self.note(Vec::from_slice(alloc, name)?)?;
+        let Some(number) = self.table.find(&self.files, name) else {
+            unreachable!()
+        };
+        self.note(number, Vec::from_slice(alloc, name)?)?;
         Ok(())
     }
 

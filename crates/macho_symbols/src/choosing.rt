@@ -1,10 +1,11 @@
 //! Which symbols define their names, and the commons among them.
 ghost use Rattle.std.specs.Prelude.{◌≡◌, ◌^◌, ◌<◌, ◌++◌, ◌&&◌, ◌==◌, map, filter, length, true, IfOk, IfErr, OnOk};
 ghost use Rattle.macho_bytes.specs.Numbers.{rounded_up};
-ghost use Rattle.macho_names.specs.steps.Events.{row_at, row_count, event_at, events, events_of_file, strength};
-ghost use Rattle.macho_names.specs.steps.Found.{AreFound};
-ghost use Rattle.macho_names.specs.steps.Tables.{heads_of, IsKnown};
-ghost use Rattle.macho_symbols.specs.steps.Targets.{defines_in, is_chosen_in, is_of_object, chosen_in};
+ghost use Rattle.macho_names.specs.Events.{row_at, row_count, event_at, events, events_of_file, strength};
+ghost use Rattle.macho_names.specs.Found.{AreFound};
+ghost use Rattle.macho_names.specs.Tables.{heads_of, IsKnown};
+ghost use Rattle.macho_symbols.specs.Targets.{defines_in, chosen_in};
+ghost use Rattle.macho_symbols.specs.steps.Targets.{is_chosen_in, is_of_object};
 ghost use Rattle.macho_symbols.specs.steps.Solved.{common_told};
 
 use crate::solved::Common;

@@ -3,10 +3,11 @@ ghost use Rattle.std.specs.Prelude.{◌≡◌, ◌<◌, ℕ, List, All, IfOk, If
 ghost use Rattle.std.specs.List.{list_any};
 ghost use Rattle.std.specs.Str.{bytes_eq};
 ghost use Rattle.std.specs.Option.{option_copied};
-ghost use Rattle.macho_exports.specs.steps.Lists.{texts_of};
+ghost use Rattle.macho_exports.specs.Entries.{texts_of};
 ghost use Rattle.macho_symbols.specs.steps.Exporting.{is_listed_in, is_open_in, is_exported_in, IsToldIn, IsPairIn, AreInOrder, AreTold, pair_names, required_in};
-ghost use Rattle.macho_symbols.specs.steps.Solved.{IsSolved, IsMissingIn, noted_of};
-ghost use Rattle.macho_names.specs.steps.Tables.{names_of, IsEntryOf};
+ghost use Rattle.macho_symbols.specs.steps.Solved.{IsSolved, IsMissingIn};
+ghost use Rattle.macho_symbols.specs.Kept.{noted_of};
+ghost use Rattle.macho_names.specs.Tables.{names_of, IsEntryOf};
 ghost use Rattle.macho_symbols.specs.steps.Targets.{is_missing_in, is_of_object};
 ghost use Rattle.macho_symbols.specs.Exported.{export_names};
 

@@ -27,11 +27,11 @@ pub struct Resolved<'data> {
 }
 
 impl<'data> Model for Resolved<'data> {
-    ghost use Rattle.macho_symbols.specs.Kept.{ResolvedRows};
+    ghost use Rattle.macho_symbols.specs.Kept.{ResolvedRows, noted_of};
 
     ghost Value = { ResolvedRows };
 
-    ghost use Rattle.macho_symbols.specs.steps.Solved.{noted_of, IsSolved};
+    ghost use Rattle.macho_symbols.specs.steps.Solved.{IsSolved};
 
     ghost view = { λ r. record { files = r.solved.files.items; noted = noted_of r.solved.imports.items } };
 

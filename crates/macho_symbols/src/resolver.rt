@@ -120,7 +120,7 @@ impl<'data> Resolver<'data> {
         let alloc = self.alloc;
         let seed = self.seed;
         let files = self.files;
-        let mut table = Table::new(alloc, named_rows(&files), seed)?;
+        let mut table = Table::new(alloc, &files, seed)?;
         let found = table.take_files(&files)?;
         let commons = chosen_commons(alloc, &files, &table, &found)?;
         let numbers = vec![in alloc; UNNUMBERED; table.entries.len()]?;
@@ -135,13 +135,4 @@ impl<'data> Resolver<'data> {
             },
         })
     }
-}
-
-/// How many rows bring a name. Only the number of buckets depends on it.
-fn named_rows(files: &[FileNames<'_>]) -> usize {
-    let mut rows = 0usize;
-    for file in files {
-        rows = rows.saturating_add(file.count_global());
-    }
-    rows
 }

@@ -1,9 +1,11 @@
 //! What is known once all rows were taken in: where names and symbols lead, and which imports are noted.
 ghost use Rattle.std.specs.Prelude.{◌≡◌, ◌^◌, ◌<◌, ◌++◌, ◌∷◌, [], true, length, map, get_or, OnOk, OnErr, IfOk, IfErr};
-ghost use Rattle.macho_names.specs.steps.Events.{row_at, row_count, event_at};
-ghost use Rattle.macho_names.specs.steps.Tables.{IsEntryOf, names_of};
-ghost use Rattle.macho_symbols.specs.steps.Targets.{named_in, target_in, own_in, base_target, defines_in, chosen_in, id_of, is_next, is_nothing, noting_in};
-ghost use Rattle.macho_symbols.specs.steps.Solved.{IsSolved, IsUnchanged, HasGrown, IsFoundIn, IsUndefinedIn, common_id, noted_of, library_in, is_before, AreAscending, IsPlaceOf};
+ghost use Rattle.macho_names.specs.Events.{row_at, row_count, event_at};
+ghost use Rattle.macho_names.specs.Tables.{IsEntryOf, names_of};
+ghost use Rattle.macho_symbols.specs.Targets.{named_in, target_in, own_in, base_target, defines_in, chosen_in, id_of};
+ghost use Rattle.macho_symbols.specs.steps.Targets.{is_next, is_nothing, noting_in};
+ghost use Rattle.macho_symbols.specs.steps.Solved.{IsSolved, IsUnchanged, HasGrown, IsFoundIn, IsUndefinedIn, common_id, library_in, is_before, AreAscending, IsPlaceOf};
+ghost use Rattle.macho_symbols.specs.Kept.{noted_of};
 ghost use Rattle.std.specs.List.{position_or_len};
 ghost use Rattle.macho_model.specs.Resolution.{same_symbol};
 ghost use Rattle.macho_model.specs.Needs.{import_number};
@@ -242,9 +244,10 @@ impl<'data> Solved<'data> {
 }
 
 impl<'data> Solved<'data> {
-    /// Notes a name that a library defines, and that isn't noted yet.
-    pub(crate) fn note(&mut self, name: Vec<u8>) -> Result<(), SymbolFault>
+    /// Notes a name that a library defines, and that isn't noted yet, by the number of its entry.
+    pub(crate) fn note(&mut self, number: usize, name: Vec<u8>) -> Result<(), SymbolFault>
         requires solved { IsSolved self.old }
+        requires entry { IsEntryOf self.old.files.items self.old.table.entries.items name.items number }
         requires import { named_in self.old.files.items (noted_of self.old.imports.items) name.items ≡ Target.Import (length (noted_of self.old.imports.items)) }
         ensures solved { OnOk result (IsSolved self.new) }
         ensures noted { OnOk result (noted_of self.new.imports.items ≡ noted_of self.old.imports.items ++ name.items ∷ []) }
@@ -253,9 +256,6 @@ impl<'data> Solved<'data> {
         ensures why { IfErr result (λ fault. fault ≡ SymbolFault.OutOfMemory) }
     {
         let alloc = *self.imports.allocator();
-        let Some(number) = self.table.find(&self.files, &name) else {
-            unreachable!()
-        };
         let library = self.table.entry(number).file;
         // Objects have fewer symbols than that together.
         if self.imports.len() >= UNNUMBERED as usize {
@@ -324,7 +324,7 @@ impl<'data> Solved<'data> {
         }
         let alloc = *self.imports.allocator();
         let name = Vec::from_slice(alloc, name_in(&self.files, file, row))?;
-        self.note(name)?;
+        self.note(self.entry_of(file, row), name)?;
         Ok(target)
     }
 }

@@ -14,8 +14,7 @@ use Rattle.macho_placing.specs.Laws.{IsWhollyPlaced}
 use Rattle.macho_targets.specs.Laws.{ListsAll, IsOfLink}
 use Rattle.macho_targets.proofs.Above.{targets_above}
 use Rattle.macho_targets.proofs.Places.{places_are_had}
-use Rattle.macho_fields.specs.Looks.{Look, TellsAddresses}
-use Rattle.macho_fields.specs.steps.Fields.{wrapped_in}
+use Rattle.macho_fields.specs.Looks.{Look, TellsAddresses, wrapped_in}
 
 pub lists_all : (l : Link) (counts : Counts) (p : Placed) → IsWhollyPlaced l counts p → ListsAll l p
 lists_all l counts p placed =

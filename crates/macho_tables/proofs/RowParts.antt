@@ -8,10 +8,9 @@ use Rattle.macho_model.specs.Placement.{Placed}
 use Rattle.macho_model.specs.Addresses.{address_of}
 use Rattle.macho_model.specs.SymbolEntries.{entry_section}
 use Rattle.macho_symbols.specs.Kept.{symbol_id}
-use Rattle.macho_fields.specs.Looks.{Look}
+use Rattle.macho_fields.specs.Looks.{Look, wrapped_in}
 use Rattle.macho_linkedit.specs.declared.listing.LinkedObject.{LinkedObject}
 use Rattle.macho_tables.specs.Placed.{IsToTable}
-use Rattle.macho_fields.specs.steps.Fields.{wrapped_in}
 use Rattle.macho_tables.specs.steps.Sections.{section_told}
 use Rattle.macho_tables.proofs.Addressed.{told_address}
 use Rattle.macho_tables.proofs.TableRows.{IsInTable, own_is, section_is}

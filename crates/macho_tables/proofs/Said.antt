@@ -32,7 +32,7 @@ use Rattle.macho_symbols.specs.declared.solved.Import.{Import}
 use Rattle.macho_targets.specs.Laws.{IsOfLink}
 use Rattle.macho_targets.proofs.Named.{name_of_link}
 use Rattle.macho_targets.proofs.OfLink.{section_of}
-use Rattle.macho_fields.specs.Looks.{Look}
+use Rattle.macho_fields.specs.Looks.{Look, wrapped_in}
 use Rattle.macho_linkedit.specs.declared.exports.ExportSays.{ExportSays}
 use Rattle.macho_linkedit.specs.declared.exports.ExportSays.TheVariants.{Reexport}
 use Rattle.macho_linkedit.specs.declared.exports.NamedExport.{NamedExport}
@@ -41,7 +41,6 @@ use Rattle.macho_linkedit.proofs.Exporting.{values_are_found, reexports_are_foun
 use Rattle.macho_linkedit.proofs.Numbering.{not_own}
 use Rattle.macho_tables.specs.Placed.{IsToTable}
 use Rattle.macho_tables.specs.Exports.{exports_told, AreExportsOf}
-use Rattle.macho_fields.specs.steps.Fields.{wrapped_in}
 use Rattle.macho_tables.specs.steps.Says.{number_in, library_at, says_kept, is_local_header, header_in, is_local_in, value_in}
 use Rattle.macho_tables.specs.steps.Says.{says_said, seen, all_said}
 use Rattle.macho_tables.proofs.Exported.{IsExportedName, names_are, exports_are_told, export_imported}

@@ -6,7 +6,7 @@ ghost use Rattle.macho_model.specs.Links.{Link};
 ghost use Rattle.macho_model.specs.Placement.{Placed};
 ghost use Rattle.macho_parts.specs.Views.{views_of};
 ghost use Rattle.macho_linkedit.specs.Tries.{HasFlags, AreKept, AreSaid};
-ghost use Rattle.macho_linkedit.specs.steps.Libraries.{same_text, FindsPlaces};
+ghost use Rattle.macho_linkedit.specs.Libraries.{same_text, FindsPlaces};
 ghost use Rattle.macho_tables.specs.steps.Says.{IsAmong, says_kept, value_in, says_said, header_in, is_local_in};
 ghost use Rattle.macho_tables.specs.Placed.{IsToTable};
 ghost use Rattle.macho_tables.specs.Exports.{AreExportsOf, ImportsArePlain, CanBeTrie, exports_told};

@@ -4,7 +4,8 @@
 use Rattle.std.proofs.Common.{◌≡◌, ℕ, Option, None, Some, length, sym, ◌∙◌}
 use Rattle.macho_unwind_pages.specs.declared.plans.Plan.{Plan}
 use Rattle.macho_unwind_pages.specs.Plans.{plan_list}
-use Rattle.macho_unwind.specs.steps.Planned.{planned_text, HasSize}
+use Rattle.macho_unwind.specs.Texts.{planned_text}
+use Rattle.macho_unwind.specs.steps.Planned.{HasSize}
 use Rattle.macho_unwind.proofs.Lengths.{length-section}
 
 -- the size that is kept is that of the bytes

@@ -1,6 +1,6 @@
 -- The bytes of a plan: header, shared encodings, personalities, page entries, LSDA entries and pages, in this order and
 -- without gaps (mach-o/compact_unwind_encoding.h).
-use Rattle.std.specs.Prelude.{ℕ, ◌+◌, ◌-◌, ◌*◌, ◌^◌, ◌<◌, nat_lt, List, ◌++◌, length, take, count_by, sum_by, slice_index_or, []}
+use Rattle.std.specs.Prelude.{ℕ, ◌+◌, ◌-◌, ◌*◌, ◌^◌, ◌<◌, nat_lt, List, ◌++◌, length, take, count_by, sum_by, slice_index_or, [], Option, None, Some}
 use Rattle.std.specs.List.{flat_map, range_with_len}
 use Rattle.macho_bytes.specs.Numbers.{little, row_bytes}
 use Rattle.macho_bytes.specs.Layouts.{spelling, size_of}
@@ -11,7 +11,8 @@ use Rattle.macho_unwind.specs.declared.records.PageEntry.{PageEntry}
 use Rattle.macho_unwind.specs.declared.records.CompressedPage.{CompressedPage}
 use Rattle.macho_unwind.specs.declared.records.LsdaEntry.{LsdaEntry}
 use Rattle.macho_unwind_pages.specs.declared.plans.Lsda.{Lsda}
-use Rattle.macho_unwind_pages.specs.Plans.{PageList, PlanList, page_size}
+use Rattle.macho_unwind_pages.specs.Plans.{PageList, PlanList, page_size, plan_list}
+use Rattle.macho_unwind_pages.specs.declared.plans.Plan.{Plan}
 
 -- the places of the tables
 abbrev pub encodings_place : ℕ
@@ -106,3 +107,8 @@ section_text plan =
     ++ spelling page_entry (last_entry_for plan)
     ++ flat_map lsda_text plan.lsdas
     ++ flat_map page_text plan.pages
+
+-- the bytes of a plan, and none without a plan
+abbrev pub planned_text : Option Plan → List ℕ
+planned_text None = []
+planned_text (Some plan) = section_text (plan_list plan)

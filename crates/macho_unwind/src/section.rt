@@ -23,7 +23,8 @@ impl Model for UnwindSection {
 
     ghost Value = { List ℕ };
 
-    ghost use Rattle.macho_unwind.specs.steps.Planned.{planned_text, HasSize};
+    ghost use Rattle.macho_unwind.specs.Texts.{planned_text};
+    ghost use Rattle.macho_unwind.specs.steps.Planned.{HasSize};
 
     ghost view = { λ s. planned_text s.plan };
 

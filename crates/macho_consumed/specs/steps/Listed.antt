@@ -1,18 +1,12 @@
 -- The consumed sections of the files that are viewed, in order.
-use Rattle.std.specs.Prelude.{ℕ, ◌&&◌, Bool, List, [], map, filter, Option, Some, None, get_or}
+use Rattle.std.specs.Prelude.{ℕ, List, [], map, filter, Option, Some, None, get_or}
 use Rattle.std.specs.List.{flat_map, range_with_len}
-use Rattle.macho_records.specs.declared.header.SectionHeader.{SectionHeader}
 use Rattle.macho_object.specs.Views.{FileBytes}
 use Rattle.macho_model.specs.Objects.{num_sections, section_at}
-use Rattle.macho_model.specs.Links.{SectionId, is_consumed, is_initializers, is_unwind_entries}
+use Rattle.macho_model.specs.Links.{SectionId}
 use Rattle.macho_consumed.specs.declared.listing.Kind.{Kind}
-use Rattle.macho_consumed.specs.declared.listing.Kind.TheVariants.{Initializers, Entries}
 use Rattle.macho_consumed.specs.declared.listing.SectionRef.{SectionRef}
-
--- a section is of a kind
-abbrev pub is_of_kind : Kind → SectionHeader → Bool
-is_of_kind Initializers h = is_consumed h && is_initializers h
-is_of_kind Entries h = is_consumed h && is_unwind_entries h
+use Rattle.macho_consumed.specs.Kinds.{is_of_kind}
 
 abbrev pub ref : ℕ → ℕ → SectionRef
 ref file k = record { file = file; section = k }

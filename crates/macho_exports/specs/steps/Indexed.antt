@@ -6,7 +6,8 @@ use Rattle.macho_model.specs.ExportLists.{matches}
 use Rattle.macho_exports.specs.declared.parts.PartTable.{PartTable}
 use Rattle.macho_exports.specs.declared.table.PatternTable.{PatternTable}
 use Rattle.macho_exports.specs.steps.Ends.{IsPart, first_place, last_place, has_many_places}
-use Rattle.macho_exports.specs.steps.Lists.{ArePlaces, texts_of}
+use Rattle.macho_exports.specs.steps.Lists.{ArePlaces}
+use Rattle.macho_exports.specs.Entries.{texts_of}
 use Rattle.macho_exports.specs.steps.Tables.{has, numbers_of, KeepsNumbers, KeepsParts}
 
 -- A number was noted under a part of a pattern.

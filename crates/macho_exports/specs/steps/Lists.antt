@@ -1,14 +1,11 @@
 -- How an export list is kept: its entries, and a table of the places at which plain entries stand first.
-use Rattle.std.specs.Prelude.{◌≡◌, ℕ, List, [], ◌++◌, not, true, map, filter, Some}
+use Rattle.std.specs.Prelude.{◌≡◌, ℕ, List, [], ◌++◌, not, true, filter, Some}
 use Rattle.std.specs.List.{list_any, position_or_len}
 use Rattle.std.specs.Str.{bytes_eq}
 use Rattle.std.specs.HashMap.{HashMap, get_by}
 use Rattle.std.specs.declared.vec.Vec.{Vec}
 use Rattle.macho_model.specs.ExportLists.{is_pattern, entries_of}
 use Rattle.macho_exports.specs.Entries.{ListEntries}
-
-abbrev pub texts_of : {A : Type 0} → List (Vec ℕ A) → List (List ℕ)
-texts_of vs = map (λ v. v.items) vs
 
 -- Each plain entry is found at the place where it stands first.
 pub record ArePlaces {A S : Type 0} (plain : List (List ℕ)) (places : HashMap (Vec ℕ A) ℕ S) : Type 0 where

@@ -4,7 +4,7 @@ use Rattle.std.specs.List.{list_any}
 use Rattle.std.specs.Str.{bytes_eq}
 use Rattle.std.specs.HashMap.{HashMap, get_by}
 use Rattle.std.specs.declared.vec.Vec.{Vec}
-use Rattle.macho_exports.specs.steps.Lists.{texts_of}
+use Rattle.macho_exports.specs.Entries.{texts_of}
 
 -- a number is among numbers
 abbrev pub has : List ℕ → ℕ → Bool

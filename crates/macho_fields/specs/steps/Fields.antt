@@ -22,7 +22,7 @@ use Rattle.macho_fields.specs.declared.kinds.FieldKind.{FieldKind}
 use Rattle.macho_fields.specs.declared.kinds.FieldKind.TheVariants as kind
 use Rattle.macho_fields.specs.declared.field.Field.{Field}
 use Rattle.macho_fields.specs.declared.write.FieldWrite.{FieldWrite}
-use Rattle.macho_fields.specs.Looks.{Look}
+use Rattle.macho_fields.specs.Looks.{Look, address_in}
 
 -- the kind that the code's word stands for
 abbrev pub meaning : FieldKind → Kind
@@ -85,24 +85,7 @@ abbrev pub addend_in : ℕ → ℕ → RelocationInfo → Option RelocationInfo 
 addend_in content from r q =
     if r.r_type == ARM64_RELOC_UNSIGNED then pointer_addend_in content from r (subtractor_in q r) else small_addend_in (addend_before q r)
 
--- addresses of targets by the look-ups: of a target itself, of what is called, of what a load reads
-abbrev pub address_in : Look → Target → ℕ
-address_in look (target.Section file section offset) = look.section file section + offset
-address_in look (target.Common id) = look.common id
-address_in look target.Base = look.base
-address_in look (target.Absolute value) = value
-address_in look (target.Import id) = 0
-address_in look target.None = 0
-
--- the same as look-ups tell it: a sum alone is taken modulo 2 ^ 64
-abbrev pub wrapped_in : Look → Target → ℕ
-wrapped_in look (target.Section file section offset) = (look.section file section + offset) % 2 ^ 64
-wrapped_in look (target.Common id) = look.common id
-wrapped_in look target.Base = look.base
-wrapped_in look (target.Absolute value) = value
-wrapped_in look (target.Import id) = 0
-wrapped_in look target.None = 0
-
+-- addresses by the look-ups: of what is called, of what a load reads, and of what is taken off
 abbrev pub call_in : Look → Target → ℕ
 call_in look (target.Import id) = look.stub id
 call_in look t = address_in look t

@@ -19,7 +19,7 @@ use Rattle.macho_tables.specs.Exports.{exports_told}
 use Rattle.macho_answers.specs.Read.{IsReadOf, AreKnown}
 use Rattle.macho_sizing.specs.Sized.{IsSizedOf}
 use Rattle.macho_linking.specs.declared.planned.Planned.{Planned}
-use Rattle.macho_linking.specs.steps.Linking.{link_asked}
+use Rattle.macho_linking.specs.Linking.{link_asked}
 
 -- The arguments and the inputs are those of the link.
 pub record AreInputs (l : Link) (b : Planned) : Type 0 where

@@ -11,7 +11,7 @@ use Rattle.macho_names.specs.Kept.{FileRows}
 use Rattle.macho_survey.specs.steps.Sections.{HasRows}
 use Rattle.macho_consumed.specs.declared.listing.Kind.{Kind}
 use Rattle.macho_consumed.specs.declared.listing.Kind.TheVariants.{Initializers, Entries}
-use Rattle.macho_consumed.specs.steps.Listed.{is_of_kind}
+use Rattle.macho_consumed.specs.Kinds.{is_of_kind}
 
 -- a place in a section of so many bytes is that of an initializer, or of an entry's personality function
 abbrev pub is_placed : Kind → ℕ → ℕ → Bool

@@ -10,9 +10,10 @@ use Rattle.macho_names.specs.declared.notes.Sort.TheVariants.{Section, Absolute,
 use Rattle.macho_names.specs.declared.table.Entry.{Entry}
 use Rattle.macho_symbols.specs.Exported.{AreRising, export_names}
 use Rattle.macho_names.specs.Kept.{FileRows}
-use Rattle.macho_names.specs.steps.Events.{Event, events, best_of}
-use Rattle.macho_names.specs.steps.Tables.{IsEntryOf, names_of}
-use Rattle.macho_symbols.specs.steps.Targets.{is_of_object, named_in}
+use Rattle.macho_names.specs.Events.{Event, events, best_of}
+use Rattle.macho_names.specs.Tables.{IsEntryOf, names_of}
+use Rattle.macho_symbols.specs.steps.Targets.{is_of_object}
+use Rattle.macho_symbols.specs.Targets.{named_in}
 
 -- the lists contain a name, where there are any
 abbrev pub is_listed_in : Option ListEntries → List ℕ → Bool

@@ -9,12 +9,14 @@ use Rattle.macho_symbols.specs.declared.solved.Import.{Import}
 use Rattle.macho_symbols.specs.declared.solved.Solved.{Solved}
 use Rattle.macho_symbols.specs.declared.solved.TheConstants.{UNNUMBERED}
 use Rattle.macho_names.specs.Kept.{FileRows, no_file}
-use Rattle.macho_names.specs.steps.Events.{Event, events, best_of, library_text}
-use Rattle.macho_names.specs.steps.Tables.{heads_of, IsKnown, names_of}
-use Rattle.macho_names.specs.steps.Found.{AreFound}
-use Rattle.macho_symbols.specs.steps.Targets.{chosen_in, definition_by, named_in, is_nothing, is_missing_in, noting_names_in}
+use Rattle.macho_names.specs.Events.{Event, events, best_of, library_text}
+use Rattle.macho_names.specs.Tables.{heads_of, IsKnown, names_of}
+use Rattle.macho_names.specs.Found.{AreFound}
+use Rattle.macho_symbols.specs.Targets.{chosen_in, definition_by, named_in}
+use Rattle.macho_symbols.specs.steps.Targets.{is_nothing, is_missing_in, noting_names_in}
 use Rattle.macho_names.specs.declared.fault.SymbolFault.{SymbolFault}
 use Rattle.macho_names.specs.declared.fault.SymbolFault.TheVariants.{DuplicateSymbol, UndefinedSymbol, ExportListMissing, OutOfMemory}
+use Rattle.macho_symbols.specs.Kept.{noted_of}
 
 abbrev pub common_id : Common → SymbolId
 common_id c = record { file = c.file; symbol = c.symbol }
@@ -35,10 +37,6 @@ pub record IsPlaceOf (commons : List Common) (s : SymbolId) (place : ℕ) : Type
 -- a chosen common, as it is told
 abbrev pub common_told : Event → Common
 common_told e = record { file = e.file; symbol = e.at; size = rounded_up (2 ^ e.row.number) e.row.value; align = e.row.number }
-
--- the names of the imports that are noted
-abbrev pub noted_of : List Import → List (List ℕ)
-noted_of imports = map (λ i. i.name.items) imports
 
 -- a name has its import's number where that is noted, and else none
 pub record IsNumbered (noted : List (List ℕ)) (name : List ℕ) (number : ℕ) : Type 0 where

@@ -11,8 +11,7 @@ use Rattle.macho_model.specs.Objects.{section_at}
 use Rattle.macho_object.specs.Views.{FileBytes, of_section}
 use Rattle.macho_symbols.specs.declared.exports.ExportName.{ExportName}
 use Rattle.macho_symbols.specs.declared.solved.Import.{Import}
-use Rattle.macho_fields.specs.Looks.{Look}
-use Rattle.macho_fields.specs.steps.Fields.{wrapped_in}
+use Rattle.macho_fields.specs.Looks.{Look, wrapped_in}
 use Rattle.macho_linkedit.specs.declared.exports.ExportSays.{ExportSays}
 use Rattle.macho_linkedit.specs.declared.exports.ExportSays.TheVariants.{Value, Reexport}
 use Rattle.macho_linkedit.specs.declared.exports.NamedExport.{NamedExport}

@@ -1,13 +1,8 @@
--- A section before it is bytes: the plan of the entries, none where there are no entries, and the number of bytes.
-use Rattle.std.specs.Prelude.{◌≡◌, ℕ, Option, None, Some, List, []}
+-- A section before it is bytes: how many it will have.
+use Rattle.std.specs.Prelude.{◌≡◌, ℕ, Option, None, Some}
 use Rattle.macho_unwind_pages.specs.declared.plans.Plan.{Plan}
 use Rattle.macho_unwind_pages.specs.Plans.{IsPlan, plan_list, size_of}
-use Rattle.macho_unwind.specs.Texts.{HasPlaces, section_text}
-
--- the bytes of a plan, and none without a plan
-abbrev pub planned_text : Option Plan → List ℕ
-planned_text None = []
-planned_text (Some plan) = section_text (plan_list plan)
+use Rattle.macho_unwind.specs.Texts.{HasPlaces}
 
 -- A plan can be written, and takes so many bytes.
 pub record IsSized (plan : Plan) (size : ℕ) : Type 0 where

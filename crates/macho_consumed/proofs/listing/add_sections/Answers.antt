@@ -1,6 +1,7 @@
 use Rattle.std.proofs.Common.{◌++◌, ◌∷◌, [], List, ap, ◌∙◌, sym}
 use Rattle.macho_consumed.specs.declared.listing.SectionRef.{SectionRef}
-use Rattle.macho_consumed.specs.steps.Listed.{is_of_kind, ref}
+use Rattle.macho_consumed.specs.Kinds.{is_of_kind}
+use Rattle.macho_consumed.specs.steps.Listed.{ref}
 use Rattle.macho_consumed.proofs.InFiles.{refs_none, refs_passed, refs_more, told_section}
 use Rattle.macho_consumed.proofs.listing.add_sections.Goals as goal
 

@@ -2,7 +2,7 @@ use Rattle.std.proofs.Common.{◌≡◌, ◌<◌, ◌≤◌, ap, sym, ◌∙◌,
 use Rattle.std.specs.Str.{bytes_eq}
 use Rattle.std.proofs.lemmas.Bool.{le-ltb}
 use Rattle.std.proofs.lemmas.List.{get_or-map, length-map}
-use Rattle.macho_exports.specs.steps.Lists.{texts_of}
+use Rattle.macho_exports.specs.Entries.{texts_of}
 use Rattle.macho_exports.proofs.Places.{among, among_past}
 use Rattle.macho_exports.proofs.names.is_among.Goals as goal
 

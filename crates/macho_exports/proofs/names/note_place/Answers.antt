@@ -2,7 +2,8 @@ use Rattle.std.proofs.Common.{◌≡◌, ap, sym, subst, ◌∙◌, false, ◌++
 use Rattle.std.specs.List.{list_any}
 use Rattle.std.specs.Str.{bytes_eq}
 use Rattle.std.proofs.lemmas.List.{length-map}
-use Rattle.macho_exports.specs.steps.Lists.{texts_of, ArePlaces}
+use Rattle.macho_exports.specs.Entries.{texts_of}
+use Rattle.macho_exports.specs.steps.Lists.{ArePlaces}
 use Rattle.macho_exports.proofs.Places.{places_again, places_kept, places_more}
 use Rattle.macho_exports.proofs.names.note_place.Goals as goal
 

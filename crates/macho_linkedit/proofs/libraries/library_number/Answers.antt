@@ -3,7 +3,7 @@ use Rattle.std.proofs.Common.{arith}
 use Rattle.std.specs.HashMap.{get}
 use Rattle.std.proofs.lemmas.List.{length-map}
 use Rattle.macho_linkedit.specs.Imports.{texts}
-use Rattle.macho_linkedit.specs.steps.Libraries.{same_text}
+use Rattle.macho_linkedit.specs.Libraries.{same_text}
 use Rattle.macho_linkedit.proofs.Places.{place_some, place_none}
 use Rattle.macho_linkedit.proofs.libraries.library_number.Goals as goal
 

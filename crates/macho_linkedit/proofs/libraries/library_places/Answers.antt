@@ -3,7 +3,7 @@ use Rattle.std.proofs.Common.{◌≡◌, ◌+◌, ◌++◌, ◌∷◌, ℕ, List
 use Rattle.std.specs.HashMap.{get}
 use Rattle.std.proofs.lemmas.List.{length-map, length-take}
 use Rattle.macho_linkedit.specs.Imports.{texts}
-use Rattle.macho_linkedit.specs.steps.Libraries.{same_text, FindsPlaces}
+use Rattle.macho_linkedit.specs.Libraries.{same_text, FindsPlaces}
 use Rattle.macho_linkedit.proofs.Places.{places_kept, places_more, texts_more}
 use Rattle.macho_linkedit.proofs.libraries.library_places.Goals as goal
 use Rattle.macho_linkedit.proofs.libraries.library_places.Goals.{then-not-contains_key+in_ok-insert, else-not-contains_key}

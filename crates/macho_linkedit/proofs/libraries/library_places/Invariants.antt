@@ -1,7 +1,7 @@
 use Rattle.std.proofs.Common.{take}
 use Rattle.std.specs.HashMap.{get}
 use Rattle.macho_linkedit.specs.Imports.{texts}
-use Rattle.macho_linkedit.specs.steps.Libraries.{same_text, FindsPlaces}
+use Rattle.macho_linkedit.specs.Libraries.{same_text, FindsPlaces}
 use Rattle.macho_linkedit.proofs.libraries.library_places.Given as goal
 
 -- the first places of the libraries so far

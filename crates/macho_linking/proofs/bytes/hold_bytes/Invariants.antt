@@ -1,5 +1,5 @@
 use Rattle.std.proofs.Common.{All, map, take}
-use Rattle.macho_inputs.specs.steps.Owned.{input_of}
+use Rattle.macho_inputs.specs.Owned.{input_of}
 use Rattle.macho_answers.specs.Inputs.{HasBytes}
 use Rattle.macho_linking.proofs.bytes.hold_bytes.Given as goal
 

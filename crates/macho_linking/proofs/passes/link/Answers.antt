@@ -3,7 +3,7 @@ use Rattle.std.proofs.Common.{◌≡◌, refl, sym, subst, false, All}
 use Rattle.macho_symbols.specs.Exported.{AreLists}
 use Rattle.macho_linkedit.specs.declared.listing.LinkedObject.{LinkedObject}
 use Rattle.macho_linkedit.specs.Listing.{AreObjects}
-use Rattle.macho_linking.specs.steps.Linking.{link_asked}
+use Rattle.macho_linking.specs.Linking.{link_asked}
 use Rattle.macho_linking.proofs.Given.{lists_are}
 use Rattle.macho_linking.proofs.passes.link.Goals as goal
 

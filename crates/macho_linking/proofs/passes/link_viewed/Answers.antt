@@ -2,7 +2,7 @@
 use Rattle.std.proofs.Common.{refl}
 use Rattle.macho_faults.specs.declared.fault.LinkError.TheVariants as error
 use Rattle.macho_answers.proofs.Inputs.{inputs_are_read, inputs_are_plain}
-use Rattle.macho_linking.specs.steps.Linking.{link_asked}
+use Rattle.macho_linking.specs.Linking.{link_asked}
 use Rattle.macho_linking.proofs.Given.{inputs_given, views_few}
 use Rattle.macho_linking.proofs.Closing.{fine_link, refused_with}
 use Rattle.macho_linking.proofs.passes.link_viewed.Goals as goal

@@ -1,6 +1,7 @@
 -- The word is on the chain of its page, which is what the page's start leads to.
 use Rattle.std.proofs.Common.{◌+◌, ◌*◌, ◌-◌, ◌/◌, ◌<◌, length, sym, ap, subst, arith}
-use Rattle.macho_memory_walks.specs.steps.Walks.{Leads, starts_of}
+use Rattle.macho_memory_walks.specs.steps.Walks.{Leads}
+use Rattle.macho_memory_walks.specs.Readings.{starts_of}
 use Rattle.macho_model_walks.specs.steps.WordTests.{address_in}
 use Rattle.macho_memory_walks.proofs.WordWalk.{on_chain_of, page_chain_none}
 use Rattle.macho_loader.proofs.ChainWalks.{start_found, pages_found}

@@ -1,6 +1,7 @@
 -- The distance that is left becomes less; of the segments so far none leads on to the end.
 use Rattle.std.proofs.Common.{ℕ, ◌<◌, ◌-◌, ◌+◌}
-use Rattle.macho_memory_walks.specs.steps.Walks.{StepIn, Leads}
+use Rattle.macho_memory_walks.specs.Readings.{StepIn}
+use Rattle.macho_memory_walks.specs.steps.Walks.{Leads}
 use Rattle.macho_memory_walks.proofs.chain_words.+reaches.Given as goal
 
 abbrev pub decreases-reaches : goal.decreases-reaches

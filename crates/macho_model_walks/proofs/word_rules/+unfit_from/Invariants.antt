@@ -1,6 +1,6 @@
 -- What is left of the page becomes less; all that the steps so far lead to fit.
 use Rattle.std.proofs.Common.{ℕ, ◌<◌, ◌-◌, ◌+◌, ◌*◌}
-use Rattle.macho_memory_walks.specs.steps.Walks.{StepIn}
+use Rattle.macho_memory_walks.specs.Readings.{StepIn}
 use Rattle.macho_model_walks.specs.steps.WordTests.{address_in, FitFrom}
 use Rattle.macho_model_walks.proofs.word_rules.+unfit_from.Given as goal
 

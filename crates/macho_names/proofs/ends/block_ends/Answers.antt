@@ -1,7 +1,7 @@
 use Rattle.std.proofs.Common.{◌≡◌, ℕ, ◌*◌, ◌+◌, ◌-◌, ◌<◌, ◌≤◌, ◌++◌, ◌∷◌, [], ◌⊎◌, inl, inr, List, length, get_or, ap, sym, ◌∙◌, arith, length-append}
 use Rattle.std.proofs.lemmas.List.{get_or_append_left, get_or_push}
 use Rattle.std.proofs.lemmas.Bool.{cases_lt}
-use Rattle.macho_names.specs.steps.Notes.{end_at}
+use Rattle.macho_names.specs.Notes.{end_at}
 use Rattle.macho_names.proofs.Strings.{later}
 use Rattle.macho_names.proofs.ends.block_ends.Goals as goal
 use Rattle.macho_names.proofs.ends.block_ends.Goals.{then-end-start, else-end-start}

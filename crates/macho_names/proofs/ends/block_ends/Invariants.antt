@@ -1,5 +1,5 @@
 use Rattle.std.proofs.Common.{◌≡◌, ℕ, ◌*◌, ◌-◌, ◌<◌, ◌≤◌, length, get_or}
-use Rattle.macho_names.specs.steps.Notes.{end_at}
+use Rattle.macho_names.specs.Notes.{end_at}
 use Rattle.macho_names.proofs.ends.block_ends.Given as goal
 
 abbrev pub invariant-loop-block : goal.invariant-loop-block

@@ -1,7 +1,7 @@
 use Rattle.std.proofs.Common.{◌+◌, length, ap, ◌∙◌, arith}
 use Rattle.std.proofs.lemmas.List.{take_rest}
 use Rattle.macho_bytes.specs.Texts.{name_of}
-use Rattle.macho_names.specs.steps.Notes.{end_at}
+use Rattle.macho_names.specs.Notes.{end_at}
 use Rattle.macho_names.proofs.Strings.{end_within}
 use Rattle.macho_names.proofs.ends.end_of.Goals as goal
 

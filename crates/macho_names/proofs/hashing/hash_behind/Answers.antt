@@ -1,5 +1,5 @@
 use Rattle.std.proofs.Common.{◌≡◌, ◌/◌, length, ap, sym, ◌∙◌, arith}
-use Rattle.macho_names.specs.steps.Hashing.{hash_step, hash_words, hash_behind, last_word}
+use Rattle.macho_names.specs.Hashing.{hash_step, hash_words, hash_behind, last_word}
 use Rattle.macho_names.proofs.Words.{words_none, words_more}
 use Rattle.macho_names.proofs.hashing.hash_behind.Goals as goal
 

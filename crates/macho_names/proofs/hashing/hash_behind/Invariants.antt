@@ -1,5 +1,5 @@
 use Rattle.std.proofs.Common.{◌≡◌}
-use Rattle.macho_names.specs.steps.Hashing.{hash_words}
+use Rattle.macho_names.specs.Hashing.{hash_words}
 use Rattle.macho_names.proofs.hashing.hash_behind.Given as goal
 
 abbrev pub invariant-loop-word : goal.invariant-loop-word

@@ -4,7 +4,7 @@ use Rattle.macho_model.specs.Symbols.{is_global}
 use Rattle.macho_model.specs.Objects.{num_symbols, symbol_at}
 use Rattle.macho_model.specs.Exports.{is_listed}
 use Rattle.macho_symbols.specs.Kept.{symbol_id}
-use Rattle.macho_fields.specs.steps.Fields.{wrapped_in}
+use Rattle.macho_fields.specs.Looks.{wrapped_in}
 use Rattle.macho_names.proofs.Entries.{some_if}
 use Rattle.macho_tables.specs.steps.Sections.{section_told}
 use Rattle.macho_tables.proofs.TableRows.{in_table}

@@ -1,7 +1,7 @@
 use Rattle.std.proofs.Common.{◌≡◌, ap, sym, subst, ◌∙◌, List, ℕ}
-use Rattle.macho_exports.specs.Entries.{ListEntries}
+use Rattle.macho_exports.specs.Entries.{ListEntries, texts_of}
 use Rattle.macho_exports.specs.steps.Indexed.{IsIndexed}
-use Rattle.macho_exports.specs.steps.Lists.{texts_of, ArePlaces}
+use Rattle.macho_exports.specs.steps.Lists.{ArePlaces}
 use Rattle.macho_exports.proofs.Adding.{text_more, taken_off, count_of, same_entries}
 use Rattle.macho_exports.proofs.Indexed.{indexed_front}
 use Rattle.macho_exports.proofs.Places.{places_front}

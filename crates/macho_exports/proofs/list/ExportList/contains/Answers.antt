@@ -2,8 +2,7 @@ use Rattle.std.proofs.Common.{◌≡◌, ◌||◌, ap, ◌∙◌, true, false, B
 use Rattle.std.specs.List.{list_any}
 use Rattle.std.specs.Str.{bytes_eq}
 use Rattle.macho_model.specs.ExportLists.{matches}
-use Rattle.macho_exports.specs.Entries.{is_within}
-use Rattle.macho_exports.specs.steps.Lists.{texts_of}
+use Rattle.macho_exports.specs.Entries.{is_within, texts_of}
 use Rattle.macho_exports.proofs.Listed.{listed_is}
 use Rattle.macho_exports.proofs.list.ExportList.contains.Goals as goal
 

@@ -1,7 +1,7 @@
 use Rattle.std.proofs.Common.{◌≡◌, ◌<◌, [], length, get_or, sym, ap, ◌∙◌, arith}
 use Rattle.std.proofs.lemmas.List.{length-map, get_or-map}
 use Rattle.std.proofs.lemmas.List.Folds.{list_any_at}
-use Rattle.macho_exports.specs.steps.Lists.{texts_of}
+use Rattle.macho_exports.specs.Entries.{texts_of}
 use Rattle.macho_exports.specs.steps.Indexed.{is_match_of}
 use Rattle.macho_exports.proofs.parts.PartTable.matches_any.Goals as goal
 

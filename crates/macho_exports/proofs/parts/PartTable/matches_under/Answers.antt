@@ -1,5 +1,5 @@
 use Rattle.std.proofs.Common.{arith, ap, sym, ◌∙◌}
-use Rattle.macho_exports.specs.steps.Lists.{texts_of}
+use Rattle.macho_exports.specs.Entries.{texts_of}
 use Rattle.macho_exports.specs.steps.Indexed.{is_match_from}
 use Rattle.macho_exports.proofs.Indexed.{tried_under, none_under}
 use Rattle.macho_exports.proofs.parts.PartTable.matches_under.Goals as goal

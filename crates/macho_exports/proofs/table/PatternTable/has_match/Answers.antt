@@ -1,5 +1,5 @@
 use Rattle.std.proofs.Common.{◌≡◌, ◌||◌, Bool, true, false, ap, sym, ◌∙◌}
-use Rattle.macho_exports.specs.steps.Lists.{texts_of}
+use Rattle.macho_exports.specs.Entries.{texts_of}
 use Rattle.macho_exports.specs.steps.Indexed.{is_match_in}
 use Rattle.macho_exports.proofs.Indexed.{found}
 use Rattle.macho_exports.proofs.table.PatternTable.has_match.Goals as goal

@@ -2,7 +2,7 @@ use Rattle.std.proofs.Common.{◌≡◌, sym, subst, ◌∙◌, length, false}
 use Rattle.std.proofs.lemmas.List.{length-map}
 use Rattle.std.specs.List.{list_any}
 use Rattle.std.specs.Str.{bytes_eq}
-use Rattle.macho_exports.specs.steps.Lists.{texts_of}
+use Rattle.macho_exports.specs.Entries.{texts_of}
 use Rattle.macho_exports.specs.steps.Indexed.{IsNotedIn}
 use Rattle.macho_exports.proofs.Indexed.{indexed_again, indexed_more}
 use Rattle.macho_exports.proofs.UpTo.{on_ok}

@@ -1,16 +1,17 @@
--- The input stands behind those before it, and is what its kind says.
-use Rattle.std.proofs.Common.{ap, rules}
+-- The input stands behind those before it, and is what its kind says: the text was read as a stub, and says one thing.
+use Rattle.std.proofs.Common.{ap, subst}
 use Rattle.macho_model.specs.Links.{Link}
-use Rattle.macho_linking.specs.OwnedInput.{OwnedInput}
-use Rattle.macho_promise.specs.Inputs.{IsInput}
-use Rattle.macho_linking.specs.Owned.{input_of}
-use Rattle.macho_image.proofs.Taking.{taken_more}
+use Rattle.macho_image.specs.steps.StubRefusals.{IsReadStub}
+use Rattle.macho_image.proofs.Taking.{taken_stub}
 use Rattle.macho_image.proofs.linker.Linker.add_stub.Goals as goal
+
+pub invariant_of-push : goal.invariant_of-push
+invariant_of-push c = record { reading = (subst IsReadStub c.as_str.ensures.value c.in_ok-check_stub.ensures.found).one }
 
 pub invariant_of-self-2 : goal.invariant_of-self-2
 invariant_of-self-2 c =
-    let more = taken_more (λ (i : OwnedInput). IsInput (input_of i)) c.self.inside.inputs.items c.push.new.self.items _
-    c.args.self.now.inputs
-    c.in_ok-push.ensures.items c.self.invariant.0 (search (rules, c.in_ok-check_stub.ensures.found))
+    let read = subst IsReadStub c.as_str.ensures.value c.in_ok-check_stub.ensures.found in
+    let more = taken_stub c.self.inside.inputs.items c.push.new.self.items _ c.args.self.now.inputs
+    c.in_ok-push.ensures.items c.self.invariant.0 read
     (ap (λ (l : Link). l.inputs) c.self.view_is) c.requires.few in
     (more.0, more.1, c.self.invariant.2)

@@ -1,6 +1,6 @@
 use Rattle.std.proofs.Common.{◌≡◌, ◌∙◌, ◌-◌, ◌/◌, ◌^◌, bit_and, ap, length, arith}
 use Rattle.std.proofs.lemmas.List.{get_or_default}
-use Rattle.macho_names.specs.steps.Tables.{heads_of}
+use Rattle.macho_names.specs.Tables.{heads_of}
 use Rattle.macho_names.proofs.ChainsMore.{table_more}
 use Rattle.macho_names.proofs.table.Table.add.Goals as goal
 

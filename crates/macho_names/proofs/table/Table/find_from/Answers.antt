@@ -1,5 +1,5 @@
 use Rattle.std.proofs.Common.{◌∙◌, ◌<◌, ◌-◌, length, sym, ap, refl, arith}
-use Rattle.macho_names.specs.steps.Tables.{entry_name}
+use Rattle.macho_names.specs.Tables.{entry_name}
 use Rattle.macho_names.proofs.Chains.{ahead_next, name_of_entry, next_smaller}
 use Rattle.macho_names.proofs.table.Table.find_from.Goals as goal
 

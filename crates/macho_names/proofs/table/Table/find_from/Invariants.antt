@@ -1,4 +1,5 @@
-use Rattle.macho_names.specs.steps.Tables.{heads_of, IsAhead}
+use Rattle.macho_names.specs.Tables.{heads_of}
+use Rattle.macho_names.specs.steps.Tables.{IsAhead}
 use Rattle.macho_names.proofs.table.Table.find_from.Given as goal
 
 abbrev pub invariant-loop-at : goal.invariant-loop-at

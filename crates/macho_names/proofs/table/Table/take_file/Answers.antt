@@ -1,7 +1,7 @@
 use Rattle.std.proofs.Common.{◌≡◌, length, ap, arith, refl, subst}
 use Rattle.std.proofs.lemmas.Result.{err_from_is_err_and}
-use Rattle.macho_names.specs.steps.Events.{row_count}
-use Rattle.macho_names.specs.steps.Found.{AreFoundIn}
+use Rattle.macho_names.specs.Events.{row_count}
+use Rattle.macho_names.specs.Found.{AreFoundIn}
 use Rattle.macho_names.proofs.FoundRows.{same_grown, both_grown, no_row_found, row_found}
 use Rattle.macho_names.proofs.Taking.{takes_none, takes_both, refuses_file, file_rows_more, file_rows_none}
 use Rattle.macho_names.proofs.table.Table.take_file.Goals as goal

@@ -1,6 +1,8 @@
-use Rattle.macho_names.specs.steps.Events.{events_of_file}
-use Rattle.macho_names.specs.steps.Found.{AreFoundIn, HaveGrown}
-use Rattle.macho_names.specs.steps.Tables.{heads_of, IsTable, TakesIn}
+use Rattle.macho_names.specs.Events.{events_of_file}
+use Rattle.macho_names.specs.Found.{AreFoundIn}
+use Rattle.macho_names.specs.steps.Tables.{HaveGrown}
+use Rattle.macho_names.specs.Tables.{heads_of, IsTable}
+use Rattle.macho_names.specs.steps.Tables.{TakesIn}
 use Rattle.macho_names.proofs.table.Table.take_file.Given as goal
 
 abbrev pub invariant-loop-row : goal.invariant-loop-row

@@ -1,8 +1,8 @@
 use Rattle.std.proofs.Common.{◌≡◌, length, ap, arith, subst}
 use Rattle.std.proofs.lemmas.Result.{err_from_is_err_and}
-use Rattle.macho_names.specs.steps.Events.{events_of}
-use Rattle.macho_names.specs.steps.Found.{AreFound}
-use Rattle.macho_names.specs.steps.Tables.{heads_of, IsKnown}
+use Rattle.macho_names.specs.Events.{events_of}
+use Rattle.macho_names.specs.Found.{AreFound}
+use Rattle.macho_names.specs.Tables.{heads_of, IsKnown}
 use Rattle.macho_names.proofs.FoundRows.{no_file_found, file_found}
 use Rattle.macho_names.proofs.Taking.{clash_in_files, files_more, files_none}
 use Rattle.macho_names.proofs.table.Table.take_files.Goals as goal

@@ -1,6 +1,6 @@
-use Rattle.macho_names.specs.steps.Events.{events_of}
-use Rattle.macho_names.specs.steps.Found.{AreFound}
-use Rattle.macho_names.specs.steps.Tables.{heads_of, IsKnown}
+use Rattle.macho_names.specs.Events.{events_of}
+use Rattle.macho_names.specs.Found.{AreFound}
+use Rattle.macho_names.specs.Tables.{heads_of, IsKnown}
 use Rattle.macho_names.proofs.table.Table.take_files.Given as goal
 
 abbrev pub invariant-loop-file : goal.invariant-loop-file

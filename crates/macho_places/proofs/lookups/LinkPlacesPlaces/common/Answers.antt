@@ -2,7 +2,7 @@
 use Rattle.std.proofs.Common.{ap, ◌∙◌, map, get_or}
 use Rattle.macho_layout.specs.Placements.{placed_of}
 use Rattle.macho_places.specs.Places.{Known}
-use Rattle.macho_places.specs.steps.Looked.{look_of}
+use Rattle.macho_places.specs.Looked.{look_of}
 use Rattle.macho_places.proofs.lookups.LinkPlacesPlaces.common.Goals as goal
 
 pub returns : goal.returns

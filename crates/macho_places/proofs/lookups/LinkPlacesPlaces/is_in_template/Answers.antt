@@ -2,7 +2,7 @@
 use Rattle.std.proofs.Common.{ap, sym, get_or, None, ◌∙◌}
 use Rattle.std.specs.Prelude.{option_copied}
 use Rattle.macho_places.specs.Places.{Known}
-use Rattle.macho_places.specs.steps.Looked.{look_of, template_in}
+use Rattle.macho_places.specs.Looked.{look_of, template_in}
 use Rattle.macho_places.proofs.lookups.LinkPlacesPlaces.is_in_template.Goals as goal
 
 pub returns-in-Some : goal.returns-in-Some

@@ -1,7 +1,7 @@
 -- The number of an entry.
 use Rattle.std.proofs.Common.{ap, ◌∙◌}
 use Rattle.macho_places.specs.Places.{Known}
-use Rattle.macho_places.specs.steps.Looked.{look_of, entry_number}
+use Rattle.macho_places.specs.Looked.{look_of, entry_number}
 use Rattle.macho_places.proofs.lookups.LinkPlacesPlaces.own_entry.Goals as goal
 
 pub returns : goal.returns

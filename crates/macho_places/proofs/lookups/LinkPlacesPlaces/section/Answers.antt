@@ -3,7 +3,7 @@ use Rattle.std.proofs.Common.{ap, ◌∙◌}
 use Rattle.macho_model.specs.Addresses.{section_address}
 use Rattle.macho_layout.specs.Placements.{placed_of}
 use Rattle.macho_places.specs.Places.{Known}
-use Rattle.macho_places.specs.steps.Looked.{look_of}
+use Rattle.macho_places.specs.Looked.{look_of}
 use Rattle.macho_places.proofs.lookups.LinkPlacesPlaces.section.Goals as goal
 
 pub returns : goal.returns

@@ -3,7 +3,7 @@ use Rattle.std.proofs.Common.{ap, map, ◌∙◌}
 use Rattle.macho_model.specs.Targets.{same_target}
 use Rattle.macho_needs.specs.Tables.{number_of}
 use Rattle.macho_places.specs.Places.{Known}
-use Rattle.macho_places.specs.steps.Looked.{look_of, numbered}
+use Rattle.macho_places.specs.Looked.{look_of, numbered}
 use Rattle.macho_places.proofs.lookups.LinkPlacesPlaces.slot.Goals as goal
 
 pub returns : goal.returns

@@ -4,7 +4,7 @@ use Rattle.macho_model.specs.declared.targets.Target.TheVariants as target
 use Rattle.macho_model.specs.Targets.{same_target}
 use Rattle.macho_needs.specs.Tables.{number_of}
 use Rattle.macho_places.specs.Places.{Known}
-use Rattle.macho_places.specs.steps.Looked.{look_of, numbered}
+use Rattle.macho_places.specs.Looked.{look_of, numbered}
 use Rattle.macho_places.proofs.lookups.LinkPlacesPlaces.stub.Goals as goal
 
 pub returns : goal.returns

@@ -3,7 +3,7 @@ use Rattle.std.proofs.Common.{ap, sym, subst, ◌∙◌}
 use Rattle.macho_symbols.specs.Kept.{IsResolved}
 use Rattle.macho_symbols.proofs.Targeted.{target_here}
 use Rattle.macho_places.specs.Places.{Known}
-use Rattle.macho_places.specs.steps.Looked.{look_of}
+use Rattle.macho_places.specs.Looked.{look_of}
 use Rattle.macho_places.proofs.lookups.LinkPlacesPlaces.target.Goals as goal
 
 pub returns : goal.returns

@@ -1,7 +1,7 @@
 -- The template, as the placement has it.
 use Rattle.std.proofs.Common.{ap}
 use Rattle.macho_places.specs.Places.{Known}
-use Rattle.macho_places.specs.steps.Looked.{look_of}
+use Rattle.macho_places.specs.Looked.{look_of}
 use Rattle.macho_places.proofs.lookups.LinkPlacesPlaces.template.Goals as goal
 
 pub returns : goal.returns

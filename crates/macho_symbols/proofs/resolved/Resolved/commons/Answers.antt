@@ -1,6 +1,6 @@
 use Rattle.std.proofs.Common.{ap, ◌∙◌, map}
 use Rattle.macho_symbols.specs.Kept.{ResolvedRows}
-use Rattle.macho_symbols.specs.steps.Targets.{chosen_in}
+use Rattle.macho_symbols.specs.Targets.{chosen_in}
 use Rattle.macho_symbols.specs.steps.Solved.{common_told}
 use Rattle.macho_symbols.proofs.Targeted.{commons_here}
 use Rattle.macho_symbols.proofs.resolved.Resolved.commons.Goals as goal

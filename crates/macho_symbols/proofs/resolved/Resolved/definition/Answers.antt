@@ -1,6 +1,6 @@
 use Rattle.std.proofs.Common.{ap, ◌∙◌}
 use Rattle.macho_symbols.specs.Kept.{ResolvedRows}
-use Rattle.macho_symbols.specs.steps.Targets.{named_in}
+use Rattle.macho_symbols.specs.Targets.{named_in}
 use Rattle.macho_symbols.proofs.Targeted.{named_here}
 use Rattle.macho_symbols.proofs.resolved.Resolved.definition.Goals as goal
 

@@ -1,7 +1,7 @@
 use Rattle.std.proofs.Common.{ap, sym, ◌∙◌}
 use Rattle.macho_symbols.specs.steps.Exporting.{weak_in}
-use Rattle.macho_symbols.specs.steps.Solved.{noted_of}
-use Rattle.macho_symbols.specs.steps.Targets.{named_in}
+use Rattle.macho_symbols.specs.Kept.{noted_of}
+use Rattle.macho_symbols.specs.Targets.{named_in}
 use Rattle.macho_symbols.proofs.OpenNames.{weak_is}
 use Rattle.macho_symbols.proofs.solved.Solved.export.Goals as goal
 

@@ -1,9 +1,9 @@
 use Rattle.std.proofs.Common.{sym, ◌∙◌, subst, arith, ◌+◌}
 use Rattle.std.specs.Option.{option_copied}
 use Rattle.std.proofs.lemmas.List.Sorted.{All-permutation}
-use Rattle.macho_names.specs.steps.Tables.{heads_of}
+use Rattle.macho_names.specs.Tables.{heads_of}
 use Rattle.macho_symbols.specs.steps.Exporting.{AreFound, IsPairIn, is_exported_in}
-use Rattle.macho_symbols.specs.steps.Solved.{noted_of}
+use Rattle.macho_symbols.specs.Kept.{noted_of}
 use Rattle.macho_symbols.proofs.InOrder.{found_none, found_more, found_same, in_order}
 use Rattle.macho_symbols.proofs.OpenNames.{nowhere_closed}
 use Rattle.macho_symbols.proofs.solved.Solved.exported_names.Goals as goal

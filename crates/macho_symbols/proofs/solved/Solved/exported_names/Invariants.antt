@@ -1,6 +1,6 @@
 use Rattle.std.specs.Option.{option_copied}
 use Rattle.macho_symbols.specs.steps.Exporting.{AreFound, is_exported_in}
-use Rattle.macho_symbols.specs.steps.Solved.{noted_of}
+use Rattle.macho_symbols.specs.Kept.{noted_of}
 use Rattle.macho_symbols.proofs.solved.Solved.exported_names.Given as goal
 
 abbrev pub invariant-loop-number : goal.invariant-loop-number

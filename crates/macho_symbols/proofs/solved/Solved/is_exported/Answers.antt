@@ -1,7 +1,7 @@
 use Rattle.std.proofs.Common.{◌≡◌, ap, ◌∙◌, refl, Option, Some, None, is_some, Bor}
 use Rattle.std.specs.Option.{option_copied}
 use Rattle.macho_symbols.specs.steps.Exporting.{is_listed_in}
-use Rattle.macho_symbols.specs.steps.Solved.{noted_of}
+use Rattle.macho_symbols.specs.Kept.{noted_of}
 use Rattle.macho_symbols.proofs.OpenNames.{exported_then, exported_else}
 use Rattle.macho_symbols.proofs.solved.Solved.is_exported.Goals as goal
 

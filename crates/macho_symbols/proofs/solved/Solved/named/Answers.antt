@@ -1,6 +1,6 @@
 use Rattle.std.proofs.Common.{ap, sym, ◌∙◌}
-use Rattle.macho_symbols.specs.steps.Solved.{noted_of}
-use Rattle.macho_symbols.specs.steps.Targets.{named_in}
+use Rattle.macho_symbols.specs.Kept.{noted_of}
+use Rattle.macho_symbols.specs.Targets.{named_in}
 use Rattle.macho_symbols.proofs.Leading.{leads_nowhere}
 use Rattle.macho_symbols.proofs.solved.Solved.named.Goals as goal
 

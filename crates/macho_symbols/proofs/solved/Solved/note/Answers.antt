@@ -1,20 +1,16 @@
 use Rattle.std.proofs.Common.{◌≡◌, ◌+◌, Some, ap, sym, ◌∙◌, refl, arith, [], ◌∷◌, length, Vec, vec_len, Result, Ok, Err, OnErr, length-append, length-set}
 use Rattle.std.proofs.lemmas.List.{map-append, length-map}
 use Rattle.std.proofs.lemmas.List.Elements.{All-push}
-use Rattle.macho_symbols.specs.steps.Solved.{IsUnchanged, IsImportIn, noted_of, library_in}
+use Rattle.macho_symbols.specs.steps.Solved.{IsUnchanged, IsImportIn, library_in}
+use Rattle.macho_symbols.specs.Kept.{noted_of}
 use Rattle.macho_symbols.specs.declared.solved.Import.{Import}
-use Rattle.macho_symbols.specs.steps.Targets.{definition_by}
+use Rattle.macho_symbols.specs.Targets.{definition_by}
 use Rattle.macho_model.specs.Resolution.{Library}
-use Rattle.macho_names.specs.steps.Tables.{heads_of, names_of, entry_name}
-use Rattle.macho_names.specs.steps.Events.{events, best_of}
+use Rattle.macho_names.specs.Tables.{heads_of, names_of, entry_name}
+use Rattle.macho_names.specs.Events.{events, best_of}
 use Rattle.macho_names.proofs.KnowingBetter.{apart_any}
-use Rattle.macho_symbols.proofs.NotingUses.{import_known, import_offered, numbers_more}
+use Rattle.macho_symbols.proofs.NotingUses.{import_offered, numbers_more}
 use Rattle.macho_symbols.proofs.solved.Solved.note.Goals as goal
-
-pub unreachable-requires : goal.unreachable-requires
-unreachable-requires c =
-    let nowhere = rw (c.deref-2.ensures.value, c.deref.ensures.value) at c.in_default.ensures.none in
-    import_known c.args.self.now _ _ c.requires.solved nowhere c.requires.import
 
 on_err : {X E : Type 0} (r : Result X E) (P : Type 0) → P → OnErr r P
 on_err (Ok x) P p = tt
@@ -35,7 +31,7 @@ pub returns-clause-solved : goal.returns-clause-solved
 returns-clause-solved c =
     let s = c.args.self.now in
     let name = c.args.name.items in
-    let of_name = rw (c.deref-2.ensures.value, c.deref.ensures.value) at c.in-Some.ensures.found in
+    let of_name = c.requires.entry in
     let offered = import_offered s name _ _ c.requires.solved of_name c.requires.import in
     let long = length-map s.table.entries.items (entry_name s.files.items) in
     let told : c.len.result ≡ length s.imports.items = c.len.ensures ∙ vec_len_is s.imports in
@@ -47,7 +43,7 @@ returns-clause-solved c =
     offered.0 ∙ ap (λ e. Some (Library e.file)) (sym c.entry-library.ensures) in
     let owner : c.in_ok-from_slice.field-0.items ≡ library_in s.files.items c.entry-library.result.file =
     c.in_ok-from_slice.ensures.items ∙ c.library_in.ensures
-    ∙ ap (λ fs. library_in fs c.entry-library.result.file) c.deref-3.ensures.value in
+    ∙ ap (λ fs. library_in fs c.entry-library.result.file) c.deref.ensures.value in
     record {
       known = c.requires.solved.known;
       found = c.requires.solved.found;
@@ -56,12 +52,12 @@ returns-clause-solved c =
       few_imports = omega (arith, grown, told, c.if-len.false);
       libraries = rw c.in_ok-push.ensures.items
           (All-push (IsImportIn s.files.items) s.imports.items _ c.requires.solved.libraries (binds, owner));
-      long = length-set s.numbers.items c.in-Some.number c.len-id.result ∙ c.requires.solved.long;
+      long = length-set s.numbers.items c.args.number c.len-id.result ∙ c.requires.solved.long;
       numbers = rw (c.in_ok-push.ensures.items, map-append (λ (i : Import). i.name.items) s.imports.items (_ ∷ []))
           (numbers_more (names_of s.files.items s.table.entries.items)
-          (noted_of s.imports.items) s.numbers.items name c.in-Some.number c.len-id.result
+          (noted_of s.imports.items) s.numbers.items name c.args.number c.len-id.result
           c.requires.solved.numbers (c.requires.solved.long ∙ sym long) (omega (arith, of_name.0, long)) of_name.1
-          (λ j h other same. apart_any s.files.items (heads_of s.table) s.table.entries.items j c.in-Some.number
+          (λ j h other same. apart_any s.files.items (heads_of s.table) s.table.entries.items j c.args.number
           c.requires.solved.known.table (omega (arith, h, long)) of_name.0 other same)
           offered.1 (next ∙ sym noted_long) (omega (arith, told, noted_long, c.if-len.false)));
     }

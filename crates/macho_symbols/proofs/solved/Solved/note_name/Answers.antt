@@ -1,6 +1,8 @@
 use Rattle.std.proofs.Common.{◌≡◌, ap, sym, ◌∙◌, true, false, length, ◌∷◌, ◌++◌, []}
-use Rattle.macho_symbols.specs.steps.Solved.{noted_of}
-use Rattle.macho_symbols.specs.steps.Targets.{named_in, is_next, is_nothing}
+use Rattle.macho_symbols.specs.Kept.{noted_of}
+use Rattle.macho_symbols.specs.Targets.{named_in}
+use Rattle.macho_symbols.specs.steps.Targets.{is_next, is_nothing}
+use Rattle.macho_symbols.proofs.NotingUses.{import_known}
 use Rattle.macho_symbols.proofs.AskedFor.{missing_told, nothing_new, one_new, count_is, next_import}
 use Rattle.macho_symbols.proofs.solved.Solved.note_name.Goals as goal
 
@@ -20,6 +22,17 @@ returns-then-not-is_import-clause-noted c =
     ∙ ap (λ n. is_next n c.named-target.result) (sym (count_is s c.len.result c.len.ensures))
     ∙ sym c.is_import.ensures ∙ c.if-not-is_import.true in
     nothing_new s c.args.name.now c.requires something old
+
+-- a name that leads to an import has an entry
+pub unreachable-requires : goal.unreachable-requires
+unreachable-requires c =
+    let s = c.args.self.now in
+    let new : is_next (length (noted_of s.imports.items)) c.named-target.result ≡ true =
+    ap (λ n. is_next n c.named-target.result) (sym (count_is s c.len.result c.len.ensures)) ∙ sym c.is_import.ensures
+    ∙ c.if-not-is_import.false in
+    let nowhere = rw c.deref.ensures.value at c.in_default.ensures.none in
+    import_known s c.args.name.now _ c.requires nowhere
+    (sym c.named-target.ensures ∙ next_import (length (noted_of s.imports.items)) c.named-target.result new)
 
 pub note-requires-clause-import : goal.note-requires-clause-import
 note-requires-clause-import c =

@@ -1,6 +1,6 @@
 use Rattle.std.proofs.Common.{◌+◌, take, subst, sym}
 use Rattle.macho_symbols.specs.steps.Exporting.{AreTold, pair_names}
-use Rattle.macho_symbols.specs.steps.Solved.{noted_of}
+use Rattle.macho_symbols.specs.Kept.{noted_of}
 use Rattle.macho_symbols.proofs.InOrder.{told_next, all_told}
 use Rattle.macho_symbols.proofs.solved.Solved.told_exports.Goals as goal
 

@@ -5,7 +5,7 @@ use Rattle.std.proofs.Common.{ℕ, List, length, sym, ap, ◌∙◌, arith}
 use Rattle.macho_bytes.specs.Texts.{put}
 use Rattle.macho_bytes.proofs.Puts.{put_nothing}
 use Rattle.macho_unwind_pages.specs.Plans.{plan_list}
-use Rattle.macho_unwind.specs.steps.Planned.{planned_text}
+use Rattle.macho_unwind.specs.Texts.{planned_text}
 use Rattle.macho_unwind.proofs.Lengths.{length-section}
 use Rattle.macho_unwind.proofs.section.UnwindSection.write.Goals as goal
 

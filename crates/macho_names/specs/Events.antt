@@ -78,14 +78,6 @@ best_of name es = fold (with_event name) None es
 abbrev pub is_strong_of : List ℕ → Event → Bool
 is_strong_of name e = (strength e.row == 4) && is_of name e
 
--- a row is as good a definition as another
-abbrev pub ties : Row → Row → Bool
-ties a b = (strength a == strength b) && (common_size a == common_size b)
-
--- an event of the name is as good as another
-abbrev pub is_level : List ℕ → Event → Event → Bool
-is_level name b e = ties b.row e.row && is_of name e
-
 -- an install name, empty where there is none
 abbrev pub library_text : Option (List ℕ) → List ℕ
 library_text None = []

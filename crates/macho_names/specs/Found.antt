@@ -1,10 +1,10 @@
 -- The entries of rows: for each row of each file one number, which for a global row is that of the entry of its name.
-use Rattle.std.specs.Prelude.{◌≡◌, ℕ, ◌<◌, ◌++◌, true, List, length, get_or}
+use Rattle.std.specs.Prelude.{◌≡◌, ℕ, ◌<◌, true, List, length, get_or}
 use Rattle.std.specs.declared.vec.Vec.{Vec}
 use Rattle.macho_names.specs.declared.table.Entry.{Entry}
 use Rattle.macho_names.specs.Kept.{FileRows}
-use Rattle.macho_names.specs.steps.Events.{row_at, row_count}
-use Rattle.macho_names.specs.steps.Tables.{IsEntryOf, names_of}
+use Rattle.macho_names.specs.Events.{row_at, row_count}
+use Rattle.macho_names.specs.Tables.{IsEntryOf}
 
 -- the number of a global row is that of the entry of its name
 abbrev pub IsFound : List FileRows → List Entry → ℕ → ℕ → ℕ → Type 0
@@ -21,8 +21,3 @@ pub record AreFound {A : Type 0} (files : List FileRows) (entries : List Entry) 
   pub long : length found ≡ count
   pub each : (file : ℕ) (none : Vec ℕ A) → file < count
       → AreFoundIn files entries file (row_count files file) (get_or found file none).items
-
--- Entries keep their numbers and their names, and others come behind them.
-pub record HaveGrown (files : List FileRows) (old new : List Entry) : Type 0 where
-  pub more : List (List ℕ)
-  pub names : names_of files new ≡ names_of files old ++ more

@@ -3,7 +3,7 @@ use Rattle.std.specs.Prelude.{◌≡◌, ◌<◌, ◌^◌, false, map, length, A
 use Rattle.macho_model.specs.Links.{Link}
 use Rattle.macho_model.specs.Faults.{bad_name}
 use Rattle.macho_promise.specs.Inputs.{IsInput}
-use Rattle.macho_inputs.specs.steps.Owned.{input_of}
+use Rattle.macho_inputs.specs.Owned.{input_of}
 use Rattle.macho_linking.specs.declared.asked.LinkAsked.{LinkAsked}
 
 abbrev pub link_asked : LinkAsked → Link
