@@ -38,6 +38,8 @@
 //!       holds out image 8192          a path behind the run: the image's first bytes, or all; or `bytes 6f6c64`, `nothing`
 //!       same in.o written_out         two of the files have the same bytes
 //!       keeps section 5               what the fault keeps beside its line: a word, a section, a placement
+//!       cut_to 16907                  the loader refuses so many first bytes of the image,
+//!       loader_says L4 at 256         by this rule, at this place
 //!       linker_refuses cut.o          a linker without files refuses that object and takes the others; it links them twice to one image,
 //!                                     whose length and bytes are those of the run's
 //!
@@ -74,7 +76,7 @@ pub(crate) const OF_FILES: [&str; 12] = [
 const FILES: [&str; 2] = ["file", "define"];
 
 /// The other lines of a case.
-const OF_CASES: [&str; 22] = [
+const OF_CASES: [&str; 24] = [
     "case",
     "words",
     "fails_read",
@@ -96,6 +98,8 @@ const OF_CASES: [&str; 22] = [
     "holds",
     "same",
     "keeps",
+    "cut_to",
+    "loader_says",
     "linker_refuses",
 ];
 

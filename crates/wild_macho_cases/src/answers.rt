@@ -121,7 +121,13 @@ pub(crate) fn told_of(alloc: Global, image: &LinkedImage) -> Result<Vec<u8>, All
     Ok(text)
 }
 
-/// Whether the loader accepts an image.
-pub(crate) fn is_accepted(image: &[u8]) -> bool {
-    Loaded::accept(image).is_ok()
+/// By which rule the loader refuses a file, and at which place; empty where it accepts the file.
+pub(crate) fn refusal_of(alloc: Global, bytes: &[u8]) -> Result<String, AllocError> {
+    match Loaded::accept(bytes) {
+        Ok(_loaded) => Ok(String::new(alloc)),
+        Err(fault) => {
+            let (rule, place) = (fault.rule, fault.place);
+            format!(in alloc; "{rule:?} at {place}")
+        }
+    }
 }

@@ -1,10 +1,10 @@
 //! The run of a case over files in memory.
 
 use crate::again::check_linker;
-use crate::answers::{is_accepted, kept_of, told_of};
+use crate::answers::{kept_of, refusal_of, told_of};
 use macho_case_files::{
     Came, GivenFile, Line, Unread, check_answer, check_held, check_image, check_line, check_same,
-    files_of, number_of, rest_of, words_of_case,
+    files_of, note, number_of, rest_of, words_of_case,
 };
 use std::alloc::{AllocError, Global};
 use wild_macho::{
@@ -122,6 +122,37 @@ fn check_paths<F: Files>(
     Ok(())
 }
 
+// Notes what the loader says of an image, where it says something else than is wanted.
+fn check_loaded(
+    alloc: Global,
+    found: &mut String,
+    want: &str,
+    image: &[u8],
+) -> Result<(), AllocError> {
+    let came = refusal_of(alloc, image)?;
+    note(alloc, found, "loader", want.as_bytes(), came.as_bytes())
+}
+
+// Notes it of the image, which is to be accepted, and of its first bytes, where the case cuts it.
+fn check_loads(
+    alloc: Global,
+    found: &mut String,
+    case: &[Line<'_>],
+    image: &[u8],
+) -> Result<(), Unread> {
+    check_loaded(alloc, found, "", image)?;
+    if let Some(length) = number_of(case, "cut_to")? {
+        let cut = image.get(..length as usize).unwrap_or(image);
+        check_loaded(
+            alloc,
+            found,
+            rest_of(case, "loader_says").unwrap_or(""),
+            cut,
+        )?;
+    }
+    Ok(())
+}
+
 // Notes how an image differs from what is wanted.
 fn check_linked(
     alloc: Global,
@@ -129,9 +160,7 @@ fn check_linked(
     case: &[Line<'_>],
     image: &LinkedImage,
 ) -> Result<(), Unread> {
-    if !is_accepted(&image.bytes) {
-        found.push_str("the loader refuses the image\n")?;
-    }
+    check_loads(alloc, found, case, &image.bytes)?;
     let told = told_of(alloc, image)?;
     check_image(alloc, found, case, &image.bytes, &told)
 }
