@@ -138,9 +138,8 @@ def branches(sections):
     return object_of(headers, RETURN + b"\0\0\0\x94" * 100_000, moved, [MAIN])
 
 
-def commands():
-    """Two million load commands that nobody knows."""
-    count = (LARGEST - 1_000) // 8
+def commands(count):
+    """Load commands that nobody knows."""
     return object_of([text_alone()], RETURN, b"", [MAIN], None, pack("<II", 0x7F, 8) * count, count)
 
 
@@ -180,7 +179,8 @@ CASES = {
     "branches": ("2,000 sections that share one table of 100,000 branches", lambda: branches(2_000), "out of range", 240, 3_000),
     "reach": ("320 sections that share one table of 100,000 branches", lambda: branches(320), None, 240, 3_000),
     "pointers": ("200 sections that share one table of 100,000 pointers", lambda: shared(200, 100_000), None, 240, 3_000),
-    "commands": ("2,000,000 load commands that nobody knows", commands, None, 20, 400),
+    "commands": ("2,000,000 load commands that nobody knows", lambda: commands(2_000_000), None, 20, 400),
+    "more-commands": ("4,000,000 load commands that nobody knows, in 32 MB", lambda: commands(4_000_000), None, 20, 400),
     "map": ("the map of 95,000 sections behind 1,000,000 load commands", mapped, None, 20, 400),
     "sections": ("255 sections of one name", sections, None, 20, 400),
     "pages": ("a chain of 65,535 pages, of an image of 1 GB", lambda: pages(2047, 31), None, 240, 3_000),
