@@ -8,8 +8,7 @@ ghost use Rattle.macho_layout.specs.Sums.{fitting, members_cost, output_count, u
 use crate::members::placed_align;
 use crate::plan::Plan;
 use crate::spec::{CommonSpec, Planned};
-use macho_model::{Counts, FIXUP_RECORDS, SEGMENT_PAGE};
-use macho_rows::SIGNED_PAGE;
+use macho_model::{Counts, FIXUP_RECORDS, SEGMENT_PAGE, SIGNATURE_FIXED, SIGNED_PAGE};
 
 /// A sum with the size of a section or common and twice what its alignment may cost; None from 2^64 on.
 fn plus(sum: u64, size: u64, align: u8) -> Option<u64>
@@ -25,7 +24,8 @@ fn with_signature(unsigned: u128, identifier: u64) -> u128
     requires { unsigned < 2 ^ 110 }
     ensures { result ≡ unsigned + 108 + identifier + 32 * (unsigned / 4096 + 1) }
 {
-    unsigned + 108 + u128::from(identifier) + 32 * (unsigned / u128::from(SIGNED_PAGE) + 1)
+    let digests = 32 * (unsigned / u128::from(SIGNED_PAGE) + 1);
+    unsigned + u128::from(SIGNATURE_FIXED) + u128::from(identifier) + digests
 }
 
 /// What sections cost beside a template of this alignment; None from 2^64 on.

@@ -23,7 +23,7 @@ ghost use Rattle.macho_loader.specs.declared.fixups.Held.{Held};
 use crate::cursor::{first, step_from};
 use crate::import_rules::names_of;
 use crate::word_rules::{Chained, fitting_word, stride_of};
-use macho_model::NO_START;
+use macho_model::{NO_START, SEGMENT_PAGE};
 use macho_model_walks::{
     Listed, addend_in, addend_of, binds, library_of, name_offset_of, nth, ordinal, pages_in,
     place_of_import, segment_at, start_of_page, u32_from, word_of,
@@ -111,7 +111,7 @@ fn is_on_chain(bytes: &[u8], segment: Chained, address: u64, word: u64) -> bool
     ensures only { result ≡ false → OnChainOf bytes.now address → ⊥ }
 {
     let offset = address - segment_at(bytes, segment.place).address;
-    let page = offset / 16384;
+    let page = offset / SEGMENT_PAGE;
     if page >= pages_in(bytes, segment.table, segment.number) as u64 {
         return false;
     }
@@ -124,7 +124,7 @@ fn is_on_chain(bytes: &[u8], segment: Chained, address: u64, word: u64) -> bool
         bytes,
         segment,
         page,
-        16384 * page as u64 + start as u64,
+        SEGMENT_PAGE * page as u64 + start as u64,
         offset,
     )
 }

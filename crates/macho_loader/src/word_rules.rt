@@ -12,7 +12,7 @@ ghost use Rattle.macho_memory_walks.specs.declared.walk.Listed.TheVariants as li
 ghost use Rattle.macho_loader.specs.steps.Words.{StandApart, IsChained, IsFittingWord};
 
 use crate::cursor::{first, step_from};
-use macho_model::NO_START;
+use macho_model::{NO_START, SEGMENT_PAGE};
 use macho_model_walks::{
     Listed, binds, nth, ordinal, page_has, pages_in, segment_at, start_of_page, steps_of, table_at,
     word_of,
@@ -86,7 +86,12 @@ fn unfit_on_page(bytes: &[u8], segment: Chained, page: u16) -> Option<u64>
     if start == NO_START {
         return None;
     }
-    unfit_from(bytes, segment, page, 16384 * page as u64 + start as u64)
+    unfit_from(
+        bytes,
+        segment,
+        page,
+        SEGMENT_PAGE * page as u64 + start as u64,
+    )
 }
 
 /// The file offset of the first word of a segment's chains that does not fit.

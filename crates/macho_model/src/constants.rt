@@ -8,5 +8,9 @@ pub const NO_START: u16 = 0xffff;
 pub const POINTER_FORMAT: u16 = 6;
 /// The bytes of a fixup table beside imports and pages: header, count, and six segments with their offsets and records.
 pub const FIXUP_RECORDS: u64 = 188;
+/// The bytes of a signature beside its identifier and its digests.
+pub const SIGNATURE_FIXED: u64 = 108;
+/// The bytes of a page that has a digest of its own in the signature.
+pub const SIGNED_PAGE: u64 = 4096;
 /// File offsets and sizes are below this: they are told in 32 bits.
 pub const LIMIT_32: u64 = 0x1_0000_0000;

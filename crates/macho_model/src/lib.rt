@@ -11,7 +11,9 @@ mod placed;
 mod rules;
 mod targets;
 
-pub use constants::{FIXUP_RECORDS, LIMIT_32, NO_START, POINTER_FORMAT, SEGMENT_PAGE};
+pub use constants::{
+    FIXUP_RECORDS, LIMIT_32, NO_START, POINTER_FORMAT, SEGMENT_PAGE, SIGNATURE_FIXED, SIGNED_PAGE,
+};
 pub use laws::{
     chosen_commons_are_counted, equal_inputs_have_equal_definitions, equal_lists_have_equal_needs,
     fields_denote_at_every_slide, memory_moves_by_the_slide, objects_pass_each_test,

@@ -116,7 +116,7 @@ fn unfit_on_page(bytes: &[u8], number: u32, place: u64, page: u16) -> Option<u64
     if start == NO_START {
         return None;
     }
-    let first = 16384 * page as u64 + start as u64;
+    let first = macho_model::SEGMENT_PAGE * page as u64 + start as u64;
     unfit_from(bytes, number, place, page, first)
 }
 

@@ -5,5 +5,5 @@
 mod linkedit;
 mod rows;
 
-pub use linkedit::{SIGNED_PAGE, tables};
+pub use linkedit::tables;
 pub use rows::{CLASSES, FILLED_CLASSES, Row, Rows, place_rows};

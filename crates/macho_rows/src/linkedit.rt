@@ -3,10 +3,7 @@ ghost use Rattle.std.specs.Prelude.{◌≡◌, ◌+◌, ◌*◌, ◌<◌, ◌≤
 ghost use Rattle.macho_rows.specs.Tables.{tables_at, tables_cost};
 ghost use Rattle.macho_model.specs.Order.{fixup_room};
 
-use macho_model::{Counts, FIXUP_RECORDS, Linkedit, Range64};
-
-/// The bytes of a page that has a digest of its own.
-pub const SIGNED_PAGE: u64 = 4096;
+use macho_model::{Counts, FIXUP_RECORDS, Linkedit, Range64, SIGNATURE_FIXED, SIGNED_PAGE};
 
 fn range(start: u64, size: u64) -> Range64
     requires { start + size < 2 ^ 64 }
@@ -38,7 +35,7 @@ pub fn tables(counts: &Counts, offset: u64, pages: u64) -> Linkedit
     let strtab = range(symtab.end, counts.strings);
     let limit = strtab.end.next_multiple_of(16);
     let digests = 32 * (limit.next_multiple_of(SIGNED_PAGE) / SIGNED_PAGE);
-    let signature = range(limit, 108 + counts.identifier + digests);
+    let signature = range(limit, SIGNATURE_FIXED + counts.identifier + digests);
     Linkedit {
         fixups,
         trie,

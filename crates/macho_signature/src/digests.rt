@@ -5,10 +5,11 @@ ghost use Rattle.macho_model.specs.Signature.{page_digest, page_count};
 ghost use Rattle.macho_signature.specs.Pages.{digests_of};
 ghost use Rattle.macho_signature.specs.Pages.{digests_from};
 
+use macho_model::SIGNED_PAGE;
 use sha2::{Digest, Sha256};
 
 /// The bytes of a page that is signed.
-pub(crate) const PAGE: usize = 4096;
+pub(crate) const PAGE: usize = SIGNED_PAGE as usize;
 /// The bytes of a SHA-256 digest.
 pub(crate) const DIGEST: usize = 32;
 
