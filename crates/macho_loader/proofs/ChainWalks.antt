@@ -12,7 +12,7 @@ use Rattle.std.proofs.lemmas.List.{get_or_default, get_or-map, length-map}
 use Rattle.macho_bytes.specs.Numbers.{le_at}
 use Rattle.macho_records.specs.declared.header.SegmentCommand.{SegmentCommand}
 use Rattle.macho_records.specs.declared.constants.TheConstants.{LC_SEGMENT_64}
-use Rattle.macho_model.specs.Commands.{Command, numbered}
+use Rattle.macho_model.specs.Commands.{Command, command_at, numbered}
 use Rattle.macho_model.specs.Images.{segments_of, tables_of, fixups_header, page_start}
 use Rattle.macho_model.specs.Segments.{SEGMENT_PAGE}
 use Rattle.macho_model.specs.Chain.{chain_segments, IsFileWord, next_of, STRIDE}
@@ -20,7 +20,7 @@ use Rattle.macho_model.specs.Needs.{POINTER_SIZE}
 use Rattle.macho_model.specs.LoadRules.{segment_in, begins_behind}
 use Rattle.macho_model.specs.Loader.{WordFits, is_bind, ordinal_of, is_writable, import_count}
 use Rattle.macho_memory_walks.specs.declared.walk.Listed.TheVariants as list
-use Rattle.macho_memory_walks.specs.Readings.{command_at, IsNth, HasWord, segment_there, table_there, starts_in, starts_of}
+use Rattle.macho_memory_walks.specs.Readings.{IsNth, HasWord, segment_there, table_there, starts_in, starts_of}
 use Rattle.macho_model_walks.specs.Tests.{page_holds}
 use Rattle.macho_memory_walks.specs.steps.Walks.{Leads}
 use Rattle.macho_memory_walks.specs.steps.Walks as walks

@@ -4,9 +4,9 @@
 -- number, and is counted; one that is not leaves the count. Behind the last command all of the list have been counted.
 use Rattle.std.proofs.Common.{◌≡◌, ℕ, ◌+◌, ◌<◌, ◌≤◌, true, false, List, length, arith}
 use Rattle.macho_bytes.specs.Numbers.{le_at}
-use Rattle.macho_model.specs.Commands.{header_of}
+use Rattle.macho_model.specs.Commands.{command_at, header_of}
 use Rattle.macho_memory_walks.specs.declared.walk.Listed.{Listed}
-use Rattle.macho_memory_walks.specs.Readings.{command_at, is_listed, listed, IsNth}
+use Rattle.macho_memory_walks.specs.Readings.{is_listed, listed, IsNth}
 use Rattle.macho_memory_walks.proofs.NthWalk.{Passed, none_passed, listed_passed, other_passed, nth_here, all_passed}
 use Rattle.macho_memory_walks.proofs.NumberedWalk.{few_listed_of}
 use Rattle.macho_loader.specs.declared.cursor.Cursor.{Cursor}

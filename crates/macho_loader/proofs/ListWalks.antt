@@ -5,10 +5,11 @@
 -- where each one that has a segment before it begins behind that one's end.
 use Rattle.std.proofs.Common.{◌≡◌, ℕ, ◌+◌, ◌*◌, ◌-◌, ◌<◌, ◌≤◌, nat_le, ◌&&◌, Bool, true, List, length, subst, arith, inl, inr}
 use Rattle.std.proofs.lemmas.Bool.{cases_lt, leb-true}
+use Rattle.macho_model.specs.Commands.{command_at}
 use Rattle.macho_model.specs.Images.{Table, segments_of, starts_count, fixups_header, import_entry_size}
 use Rattle.macho_model.specs.LoadRules.{begins_behind, parts_inside}
 use Rattle.macho_memory_walks.specs.declared.walk.Listed.TheVariants as list
-use Rattle.macho_memory_walks.specs.Readings.{command_at, IsNth}
+use Rattle.macho_memory_walks.specs.Readings.{IsNth}
 use Rattle.macho_model_walks.specs.steps.Asked.{NeighbourPasses}
 use Rattle.macho_model.proofs.EachBelow.{and_left, and_right}
 use Rattle.macho_memory_walks.proofs.NumberedWalk.{nth_one}

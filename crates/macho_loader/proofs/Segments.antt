@@ -12,12 +12,12 @@ use Rattle.macho_bytes.specs.Layouts.{read_of, size_of}
 use Rattle.macho_records.specs.Layouts.{segment_command, load_command}
 use Rattle.macho_records.specs.declared.header.SegmentCommand.{SegmentCommand}
 use Rattle.macho_records.specs.declared.constants.TheConstants.{LC_SEGMENT_64}
-use Rattle.macho_model.specs.Commands.{Command, commands_of, commands_end, command_fits, segment_size}
+use Rattle.macho_model.specs.Commands.{Command, command_at, commands_of, commands_end, command_fits, segment_size}
 use Rattle.macho_model.specs.Images.{segments_of}
 use Rattle.macho_model.specs.LoadRules.{needed_in_image}
 use Rattle.macho_model.specs.Loader.{IsAccepted}
 use Rattle.macho_memory_walks.specs.declared.walk.Listed.TheVariants as list
-use Rattle.macho_memory_walks.specs.Readings.{command_at, is_listed, listed, IsNth, segment_there}
+use Rattle.macho_memory_walks.specs.Readings.{is_listed, listed, IsNth, segment_there}
 use Rattle.macho_model.proofs.EachBelow.{and_left, and_right}
 use Rattle.macho_memory_walks.proofs.NumberedWalk.{nth_number}
 use Rattle.macho_memory_walks.proofs.ListedLaws.{count_of_segments}

@@ -4,8 +4,8 @@ ghost use Rattle.macho_records.specs.declared.constants.TheConstants.{LC_SEGMENT
 ghost use Rattle.macho_model.specs.Grammar.{EachCommand};
 ghost use Rattle.macho_model.specs.LoadRules.{begins_behind};
 ghost use Rattle.macho_model.specs.Lists.{EachNext};
-ghost use Rattle.macho_model.specs.Commands.{numbered};
-ghost use Rattle.macho_memory_walks.specs.Readings.{command_at, listed};
+ghost use Rattle.macho_model.specs.Commands.{command_at, numbered};
+ghost use Rattle.macho_memory_walks.specs.Readings.{listed};
 ghost use Rattle.macho_model_walks.specs.Tests.{test_of, list_of};
 ghost use Rattle.macho_model_walks.specs.steps.Asked.{AskedFails, BeginsBefore};
 

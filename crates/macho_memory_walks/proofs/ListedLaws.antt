@@ -9,14 +9,14 @@ use Rattle.macho_records.specs.declared.header.SegmentCommand.{SegmentCommand}
 use Rattle.macho_records.specs.declared.constants.TheConstants.{LC_SEGMENT_64, LC_LOAD_DYLIB}
 use Rattle.macho_memory_walks.specs.declared.walk.Listed.{Listed}
 use Rattle.macho_memory_walks.specs.declared.walk.Listed.TheVariants as list
-use Rattle.macho_model.specs.Commands.{Command, commands_of, numbered}
+use Rattle.macho_model.specs.Commands.{Command, command_at, commands_of, numbered}
 use Rattle.macho_model.specs.Segments.{PAGEZERO, TEXT}
 use Rattle.macho_model.specs.Images.{is_named, segments_of, mapped_segments, segments_named, base_of, libraries_of, table_of_command}
 use Rattle.macho_model.specs.Images.{tables_of}
 use Rattle.macho_model.specs.LoadRules.{segment_in, segment_address}
 use Rattle.macho_model.specs.Loader.{text_commands, fixup_commands}
 use Rattle.macho_model.specs.Lists.{of_first}
-use Rattle.macho_memory_walks.specs.Readings.{command_at, listed, IsNth, table_there}
+use Rattle.macho_memory_walks.specs.Readings.{listed, IsNth, table_there}
 
 -- two filters are one
 two_filters : {X : Type 0} (p q : X → Bool) (xs : List X) → filter (λ x. p x && q x) xs ≡ filter q (filter p xs)

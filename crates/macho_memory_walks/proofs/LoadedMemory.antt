@@ -11,13 +11,13 @@ use Rattle.std.specs.List.{slice_get}
 use Rattle.std.proofs.lemmas.List.{length-map}
 use Rattle.macho_bytes.specs.Numbers.{le_bytes}
 use Rattle.macho_memory_walks.specs.declared.walk.Listed.TheVariants as list
-use Rattle.macho_model.specs.Commands.{header_of}
+use Rattle.macho_model.specs.Commands.{command_at, header_of}
 use Rattle.macho_model.specs.LoadRules.{segment_in}
 use Rattle.macho_model.specs.Images.{mapped_segments, table_of_command, tables_of}
 use Rattle.macho_model.specs.Needs.{POINTER_SIZE}
 use Rattle.macho_model.specs.Loader.{is_bind, ordinal_of}
 use Rattle.macho_model.specs.Memory.{Choice, IsBound, Becomes, Covers, IsFixed, IsSegmentByte, Holds}
-use Rattle.macho_memory_walks.specs.Readings.{command_at, listed, IsNth, HasWord, table_there}
+use Rattle.macho_memory_walks.specs.Readings.{listed, IsNth, HasWord, table_there}
 use Rattle.macho_memory_walks.specs.steps.Walks.{SegmentHas, NthLacksByte}
 use Rattle.macho_memory_walks.specs.steps.Made.{CoversLast, IsUncovered, IsMade, IsWordByte, BoundIn, BoundByNth, MakesNothing}
 use Rattle.macho_memory_walks.specs.steps.Made.{NthMakesNothing}

@@ -10,8 +10,8 @@ use Rattle.std.specs.Prelude.{filter}
 use Rattle.macho_bytes.specs.Numbers.{le_at}
 use Rattle.macho_bytes.specs.Layouts.{reading}
 use Rattle.macho_memory_walks.specs.declared.walk.Listed.{Listed}
-use Rattle.macho_model.specs.Commands.{header_of, commands_of}
-use Rattle.macho_memory_walks.specs.Readings.{command_at, is_listed, listed, IsNth}
+use Rattle.macho_model.specs.Commands.{command_at, header_of, commands_of}
+use Rattle.macho_memory_walks.specs.Readings.{is_listed, listed, IsNth}
 use Rattle.macho_memory_walks.proofs.SegmentWalk.{StandsAt, walk_begins, walk_goes_on, command_here, length-commands}
 
 -- how many of the first elements pass a test

@@ -15,12 +15,12 @@ use Rattle.macho_records.specs.declared.header.SegmentCommand.{SegmentCommand}
 use Rattle.macho_memory_walks.specs.declared.walk.Listed.{Listed}
 use Rattle.macho_memory_walks.specs.declared.walk.Listed.TheVariants as list
 use Rattle.macho_model.specs.Lists.{IsNumber}
-use Rattle.macho_model.specs.Commands.{Command, header_of, commands_of}
+use Rattle.macho_model.specs.Commands.{Command, command_at, header_of, commands_of}
 use Rattle.macho_model.specs.Images.{segments_of}
 use Rattle.macho_model.specs.LoadRules.{segment_in}
 use Rattle.macho_model.specs.Chain.{ChainSegment, chain_segment, chain_segments, IsFileWord}
 use Rattle.macho_model.specs.Needs.{POINTER_SIZE}
-use Rattle.macho_memory_walks.specs.Readings.{command_at, is_listed, listed, IsNth, HasWord, segment_there}
+use Rattle.macho_memory_walks.specs.Readings.{is_listed, listed, IsNth, HasWord, segment_there}
 use Rattle.macho_memory_walks.proofs.SegmentWalk.{at_its_place, length-commands}
 use Rattle.macho_memory_walks.proofs.ListedLaws.{segments_are, count_of_segments, nth_image}
 

@@ -7,8 +7,7 @@ use Rattle.std.proofs.Common.{◌≡◌, ℕ, zero, suc, ◌+◌, ◌-◌, ◌<�
 use Rattle.std.proofs.lemmas.List.{get_or-drop, drop-drop}
 use Rattle.macho_bytes.specs.Layouts.{reading, size_of}
 use Rattle.macho_records.specs.Layouts.{mach_header, load_command}
-use Rattle.macho_model.specs.Commands.{Command, header_of, commands_from, commands_of}
-use Rattle.macho_memory_walks.specs.Readings.{command_at}
+use Rattle.macho_model.specs.Commands.{Command, command_at, header_of, commands_from, commands_of}
 
 -- the number of commands
 length-commands_from : (b : List ℕ) (at n : ℕ) → length (commands_from b at n) ≡ n

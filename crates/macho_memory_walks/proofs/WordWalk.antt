@@ -10,7 +10,7 @@ use Rattle.std.specs.List.{range_with_len}
 use Rattle.std.proofs.lemmas.List.{get_or-map, length-map}
 use Rattle.std.proofs.lemmas.List.FromFn.{get_or-range_with_len, length-range_with_len}
 use Rattle.macho_memory_walks.specs.declared.walk.Listed.TheVariants as list
-use Rattle.macho_model.specs.Commands.{Command, header_of}
+use Rattle.macho_model.specs.Commands.{Command, command_at, header_of}
 use Rattle.macho_model.specs.Images.{Table, table_of_command, starts_count, starts_offset, segment_starts, page_start}
 use Rattle.macho_model.specs.Images.{NO_START}
 use Rattle.macho_model.specs.Segments.{SEGMENT_PAGE}
@@ -18,7 +18,7 @@ use Rattle.macho_model.specs.LoadRules.{segment_in}
 use Rattle.macho_model.specs.Chain.{ChainSegment, chain_segments, starts_in_tables, IsFileWord, next_of, STRIDE}
 use Rattle.macho_model.specs.Chain.{OnChain, OnPageChain}
 use Rattle.macho_model.specs.Chain as chain
-use Rattle.macho_memory_walks.specs.Readings.{command_at, listed, IsNth, HasWord, table_there, starts_in, StepOf, StepIn, starts_of}
+use Rattle.macho_memory_walks.specs.Readings.{listed, IsNth, HasWord, table_there, starts_in, StepOf, StepIn, starts_of}
 use Rattle.macho_memory_walks.specs.steps.Walks.{Leads, chain_segment_at}
 use Rattle.macho_memory_walks.specs.steps.Walks as walks
 use Rattle.macho_model.proofs.PageChains.{page_on_chain}

@@ -5,7 +5,7 @@ use Rattle.macho_bytes.specs.Layouts.{reading}
 use Rattle.macho_records.specs.Layouts.{load_command}
 use Rattle.macho_records.specs.declared.header.SegmentCommand.{SegmentCommand}
 use Rattle.macho_records.specs.declared.constants.TheConstants.{LC_DYLD_CHAINED_FIXUPS, LC_LOAD_DYLIB, LC_SEGMENT_64}
-use Rattle.macho_model.specs.Commands.{Command, commands_of}
+use Rattle.macho_model.specs.Commands.{Command, command_at, commands_of}
 use Rattle.macho_model.specs.Segments.{PAGEZERO, TEXT}
 use Rattle.macho_model.specs.Images.{is_named, Table, table_of_command, fixups_header, starts_count, page_starts, tables_of}
 use Rattle.macho_model.specs.LoadRules.{segment_in}
@@ -15,10 +15,6 @@ use Rattle.macho_memory_walks.specs.declared.tables.FixupTable.{FixupTable}
 use Rattle.macho_memory_walks.specs.declared.walk.Listed.{Listed}
 use Rattle.macho_memory_walks.specs.declared.walk.Listed.TheVariants as list
 use Rattle.macho_model.specs.Chain.{starts_in_tables, next_of, STRIDE}
-
--- the command that stands at a place
-abbrev pub command_at : List ℕ → ℕ → Command
-command_at b at = record { at = at; number = (reading load_command b at).cmd; size = (reading load_command b at).cmdsize }
 
 -- a command is one of a list
 abbrev pub is_listed : Listed → List ℕ → Command → Bool

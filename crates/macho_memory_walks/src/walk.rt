@@ -5,8 +5,8 @@ ghost use Rattle.std.specs.Prelude.{◌≡◌, ◌≤◌, ℕ, length, Some, Non
 ghost use Rattle.macho_bytes.specs.Layouts.{reading};
 ghost use Rattle.macho_records.specs.Layouts.{segment_command};
 ghost use Rattle.macho_model.specs.Images.{is_named};
-ghost use Rattle.macho_model.specs.Commands.{header_of};
-ghost use Rattle.macho_memory_walks.specs.Readings.{command_at, is_listed, listed, IsNth};
+ghost use Rattle.macho_model.specs.Commands.{command_at, header_of};
+ghost use Rattle.macho_memory_walks.specs.Readings.{is_listed, listed, IsNth};
 
 use crate::reads::{range_from, u32_from};
 use macho_records::{LC_DYLD_CHAINED_FIXUPS, LC_LOAD_DYLIB, LC_SEGMENT_64, name_bytes};

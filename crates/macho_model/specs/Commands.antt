@@ -15,12 +15,14 @@ pub record Command : Type 0 where
 unfoldable pub header_of : List ℕ → MachHeader
 header_of b = reading mach_header b 0
 
+-- the command that begins at a place
+abbrev pub command_at : List ℕ → ℕ → Command
+command_at b at = record { at = at; number = (reading load_command b at).cmd; size = (reading load_command b at).cmdsize }
+
 -- so many commands from a place on, each where the one before it ends
 unfoldable pub commands_from : List ℕ → ℕ → ℕ → List Command
 commands_from b at zero = []
-commands_from b at (suc count) =
-    record { at = at; number = (reading load_command b at).cmd; size = (reading load_command b at).cmdsize }
-    ∷ commands_from b (at + (reading load_command b at).cmdsize) count
+commands_from b at (suc count) = command_at b at ∷ commands_from b (at + (command_at b at).size) count
 
 -- the load commands of a file: as many as its header says, behind the header
 unfoldable pub commands_of : List ℕ → List Command

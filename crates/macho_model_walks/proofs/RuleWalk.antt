@@ -13,11 +13,11 @@ use Rattle.macho_model_walks.specs.declared.loader_rules.Asked.{Asked}
 use Rattle.macho_memory_walks.specs.declared.walk.Listed.{Listed}
 use Rattle.macho_memory_walks.specs.declared.walk.Listed.TheVariants as list
 use Rattle.macho_records.specs.declared.constants.TheConstants.{LC_SEGMENT_64}
-use Rattle.macho_model.specs.Commands.{Command, header_of, numbered}
+use Rattle.macho_model.specs.Commands.{Command, command_at, header_of, numbered}
 use Rattle.macho_model.specs.Grammar.{EachCommand}
 use Rattle.macho_model.specs.LoadRules.{begins_behind, import_fits}
 use Rattle.macho_model.specs.Loader.{text_commands, fixup_commands, NeighbourFails, TextIsNotOne, SecondTable, ImportFails, import_count}
-use Rattle.macho_memory_walks.specs.Readings.{command_at, listed, IsNth, table_there}
+use Rattle.macho_memory_walks.specs.Readings.{listed, IsNth, table_there}
 use Rattle.macho_model_walks.specs.Tests.{list_of, test_of}
 use Rattle.macho_memory_walks.specs.steps.Walks.{chain_segment_at}
 use Rattle.macho_model_walks.specs.steps.Asked.{NumberPasses, NeighbourPasses, BadImport, ImportsFit, TableImportsFit, EachImportFits}

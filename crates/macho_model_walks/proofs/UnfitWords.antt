@@ -7,7 +7,7 @@ use Rattle.std.proofs.Common.{◌≡◌, ℕ, ◌+◌, ◌*◌, ◌-◌, ◌^◌
 use Rattle.std.proofs.Common.{subst, ◌∙◌, arith, inl, inr}
 use Rattle.std.proofs.lemmas.Bool.{leb-true, cases_lt}
 use Rattle.macho_memory_walks.specs.declared.walk.Listed.TheVariants as list
-use Rattle.macho_model.specs.Commands.{header_of, numbered}
+use Rattle.macho_model.specs.Commands.{command_at, header_of, numbered}
 use Rattle.macho_model.specs.Grammar.{EachCommand}
 use Rattle.macho_model.specs.Images.{NO_START}
 use Rattle.macho_model.specs.Segments.{SEGMENT_PAGE}
@@ -16,7 +16,7 @@ use Rattle.macho_records.specs.declared.header.SegmentCommand.{SegmentCommand}
 use Rattle.macho_records.specs.declared.constants.TheConstants.{LC_SEGMENT_64}
 use Rattle.macho_model.specs.Chain.{next_of, STRIDE, OnPageChain, chain_segment, chain_segments}
 use Rattle.macho_model.specs.Loader.{WordFits, WordFails}
-use Rattle.macho_memory_walks.specs.Readings.{command_at, listed, IsNth, segment_there, StepIn, starts_of}
+use Rattle.macho_memory_walks.specs.Readings.{listed, IsNth, segment_there, StepIn, starts_of}
 use Rattle.macho_memory_walks.specs.steps.Walks.{Leads, chain_segment_at}
 use Rattle.macho_memory_walks.specs.steps.Walks as walks
 use Rattle.macho_model_walks.specs.steps.WordTests.{word_fits_test, address_in, UnfitFrom, FitFrom, UnfitOnPage, FitOnPage, FitOnNth}

@@ -7,8 +7,8 @@ ghost use Rattle.macho_model.specs.Grammar.{EachCommand};
 ghost use Rattle.macho_model.specs.LoadRules.{begins_behind};
 ghost use Rattle.macho_model.specs.Loader.{text_commands, fixup_commands, TextIsNotOne, SecondTable, ImportFails};
 ghost use Rattle.macho_model.specs.Lists.{EachNext};
-ghost use Rattle.macho_model.specs.Commands.{numbered};
-ghost use Rattle.macho_memory_walks.specs.Readings.{command_at, listed, table_there};
+ghost use Rattle.macho_model.specs.Commands.{command_at, numbered};
+ghost use Rattle.macho_memory_walks.specs.Readings.{listed, table_there};
 ghost use Rattle.macho_model_walks.specs.Tests.{test_of, list_of};
 ghost use Rattle.macho_model_walks.specs.steps.Asked.{AskedFails, BeginsBefore, NumberPasses, NeighbourPasses, BadImport, ImportsFit, TableImportsFit, EachImportFits};
 

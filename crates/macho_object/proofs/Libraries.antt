@@ -5,7 +5,7 @@ use Rattle.macho_bytes.specs.Layouts.{reading}
 use Rattle.macho_bytes.specs.Texts.{name_of}
 use Rattle.macho_records.specs.Layouts.{load_command}
 use Rattle.macho_records.specs.CommandLayouts.{dylib_command}
-use Rattle.macho_model.specs.Commands.{numbered, path_of, Command}
+use Rattle.macho_model.specs.Commands.{numbered, path_of, Command, command_at}
 use Rattle.macho_model.specs.Objects.{install_name_of, num_symbols}
 use Rattle.macho_model.specs.ObjectRules.{path_ends}
 use Rattle.macho_model.specs.Grammar.{DylibBreaks}
@@ -13,7 +13,6 @@ use Rattle.macho_model.specs.ObjectLaws.{KeepsDylibRules}
 use Rattle.macho_model.specs.declared.rules.ObjectRule.TheVariants.{O9}
 use Rattle.macho_model.specs.Lists.{of_first}
 use Rattle.macho_object.specs.declared.outline.Outline.{Outline}
-use Rattle.macho_object.specs.steps.Scans.{command_at}
 use Rattle.macho_object.specs.steps.Outlines.{IsOutlined, path_field_of}
 use Rattle.macho_object.specs.steps.Checks.{NameFits}
 use Rattle.macho_object.proofs.Breaks.{NamesItself}

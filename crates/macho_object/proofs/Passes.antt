@@ -13,13 +13,13 @@ use Rattle.macho_bytes.specs.Layouts.{reading, size_of}
 use Rattle.macho_records.specs.Layouts.{mach_header, load_command}
 use Rattle.macho_records.specs.declared.header.LoadCommand.{LoadCommand}
 use Rattle.macho_records.specs.declared.constants.TheConstants.{LC_SYMTAB}
-use Rattle.macho_model.specs.Commands.{Command, commands_of, commands_from, commands_end, header_of, command_fits}
+use Rattle.macho_model.specs.Commands.{Command, command_at, commands_of, commands_from, commands_end, header_of, command_fits}
 use Rattle.macho_model.specs.ObjectRules.{commands_inside, needed_in_object, needed_in_dylib}
 use Rattle.macho_model.specs.Grammar.{EachCommand, CommandFails, Breaks}
 use Rattle.macho_model.specs.declared.rules.ObjectRule.TheVariants.{O2}
 use Rattle.macho_object.specs.declared.commands.Found.TheVariants.{Nowhere}
 use Rattle.macho_object.specs.declared.commands.Tally.{Tally}
-use Rattle.macho_object.specs.steps.Scans.{main_number, needed_of, command_at, found_in, found_again, found_if, IsScanned}
+use Rattle.macho_object.specs.steps.Scans.{main_number, needed_of, found_in, found_again, found_if, IsScanned}
 
 -- The commands of a file in front of a place are passed: each fits, and those of both numbers are noted.
 pub record IsPassed (dyn : Bool) (b : List ℕ) (left at : ℕ) (t : Tally) : Type 0 where

@@ -12,7 +12,7 @@ use Rattle.macho_records.specs.Layouts.{mach_header, load_command, segment_comma
 use Rattle.macho_records.specs.CommandLayouts.{dylib_command}
 use Rattle.macho_records.specs.declared.constants.TheConstants.{LC_SYMTAB}
 use Rattle.macho_model.specs.Lists.{IsNumber, of_first}
-use Rattle.macho_model.specs.Commands.{Command, commands_of, commands_from, commands_end, numbered, header_of, command_fits, place_of}
+use Rattle.macho_model.specs.Commands.{Command, command_at, commands_of, commands_from, commands_end, numbered, header_of, command_fits, place_of}
 use Rattle.macho_model.specs.Objects.{num_sections, segment_of, section_place}
 use Rattle.macho_model.specs.ObjectRules.{head_fits, tables_inside}
 use Rattle.macho_model.specs.Grammar.{Breaks}
@@ -20,7 +20,7 @@ use Rattle.macho_model.specs.declared.rules.ObjectRule.TheVariants.{O3, O4}
 use Rattle.macho_object.specs.declared.commands.Found.TheVariants.{Once}
 use Rattle.macho_object.specs.declared.commands.Tally.{Tally}
 use Rattle.macho_object.specs.declared.outline.Places.{Places}
-use Rattle.macho_object.specs.steps.Scans.{filetype_of, main_number, needed_of, command_at, found_in, IsScanned}
+use Rattle.macho_object.specs.steps.Scans.{filetype_of, main_number, needed_of, found_in, IsScanned}
 use Rattle.macho_object.specs.steps.Outlines.{IsNotOnce, HasCommands, SectionStands, main_size}
 use Rattle.macho_object.specs.Views.{section_count}
 use Rattle.macho_object.proofs.Passes.{command_whole}

@@ -2,12 +2,11 @@
 use Rattle.std.proofs.Common.{◌≡◌, Bool, true, false, [], ◌∷◌, sym, refl, ◌∙◌, arith}
 use Rattle.std.proofs.lemmas.Bool.{false≢true}
 use Rattle.std.proofs.lemmas.List.Elements.{All-head, All-same}
-use Rattle.macho_model.specs.Commands.{numbered}
+use Rattle.macho_model.specs.Commands.{command_at, numbered}
 use Rattle.macho_model.specs.ObjectRules.{path_ends}
 use Rattle.macho_model.specs.Grammar.{IsFile}
 use Rattle.macho_model.proofs.ObjectLaws.{object_keeps, dylib_keeps, kept_object, kept_dylib}
 use Rattle.macho_object.specs.declared.outline.Outline.{Outline}
-use Rattle.macho_object.specs.steps.Scans.{command_at}
 use Rattle.macho_object.specs.steps.Outlines.{IsOutlined}
 use Rattle.macho_object.specs.steps.Wholes.{IsWhole}
 

@@ -2,10 +2,10 @@
 ghost use Rattle.std.specs.Prelude.{◌≡◌, ◌+◌, ◌≤◌, ◌==◌, true, false, nat_le, Some, None, IfOk, IfErr, if◌then◌else◌, length};
 ghost use Rattle.macho_bytes.specs.Layouts.{reading};
 ghost use Rattle.macho_records.specs.Layouts.{load_command};
-ghost use Rattle.macho_model.specs.Commands.{header_of, commands_end, command_fits};
+ghost use Rattle.macho_model.specs.Commands.{command_at, header_of, commands_end, command_fits};
 ghost use Rattle.macho_model.specs.ObjectRules.{commands_inside};
 ghost use Rattle.macho_model.specs.Grammar.{Breaks};
-ghost use Rattle.macho_object.specs.steps.Scans.{needed_of, command_at, whole_command, main_number, found_if, IsScanned};
+ghost use Rattle.macho_object.specs.steps.Scans.{needed_of, whole_command, main_number, found_if, IsScanned};
 
 use crate::fault::ObjectFault;
 use macho_model::ObjectRule;

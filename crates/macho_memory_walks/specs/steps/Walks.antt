@@ -2,10 +2,11 @@
 use Rattle.std.specs.Prelude.{◌≡◌, ℕ, ◌+◌, ◌-◌, ◌<◌, ◌≤◌, ◌*◌, nat_le, nat_lt, if◌then◌else◌, ◌&&◌, Bool, List, slice_index}
 use Rattle.macho_bytes.specs.Numbers.{le_at}
 use Rattle.macho_records.specs.declared.header.SegmentCommand.{SegmentCommand}
+use Rattle.macho_model.specs.Commands.{command_at}
 use Rattle.macho_model.specs.LoadRules.{segment_in}
 use Rattle.macho_model.specs.Chain.{ChainSegment, chain_segment, chain_segments, IsFileWord, next_of, STRIDE, OnPageChain}
 use Rattle.macho_model.specs.Needs.{POINTER_SIZE}
-use Rattle.macho_memory_walks.specs.Readings.{command_at, IsNth}
+use Rattle.macho_memory_walks.specs.Readings.{IsNth}
 use Rattle.macho_memory_walks.specs.declared.walk.Listed.TheVariants as list
 
 -- a segment has a byte at an address: one of the file, or zero behind its file bytes

@@ -4,7 +4,7 @@ use Rattle.macho_model_walks.specs.declared.loader_rules.Asked.{Asked}
 use Rattle.macho_model_walks.specs.declared.loader_rules.Asked.TheVariants as asked
 use Rattle.macho_memory_walks.specs.declared.walk.Listed.{Listed}
 use Rattle.macho_memory_walks.specs.declared.walk.Listed.TheVariants as list
-use Rattle.macho_model.specs.Commands.{Command, commands_of, command_fits, numbered}
+use Rattle.macho_model.specs.Commands.{Command, command_at, commands_of, command_fits, numbered}
 use Rattle.macho_model.specs.Images.{segments_of, Table, table_of_command, tables_of, fixups_header, import_place, segments_named}
 use Rattle.macho_model.specs.LoadRules.{image_head_fits, needed_in_image, segment_in, protections_fit, file_part_inside, segment_is_paged, segment_ends, begins_behind, text_holds_commands, table_fits, import_fits}
 use Rattle.macho_model.specs.declared.rules.LoadRule.{LoadRule}
@@ -17,7 +17,7 @@ use Rattle.macho_records.specs.declared.constants.TheConstants.{LC_SEGMENT_64}
 use Rattle.macho_model.specs.Lists.{IsNumber, EachNext}
 use Rattle.macho_model.specs.Loader.{WordFits, NeighbourFails}
 use Rattle.macho_model.specs.Chain.{OnPageChain, chain_segment, chain_segments}
-use Rattle.macho_memory_walks.specs.Readings.{command_at, listed, IsNth, table_there}
+use Rattle.macho_memory_walks.specs.Readings.{listed, IsNth, table_there}
 use Rattle.macho_model_walks.specs.Tests.{list_of, test_of}
 
 -- the command with a number, if there is one, passes

@@ -4,7 +4,7 @@ use Rattle.macho_bytes.specs.Layouts.{reading, size_of}
 use Rattle.macho_records.specs.Layouts.{segment_command, section_header, symtab_command, load_command}
 use Rattle.macho_records.specs.CommandLayouts.{dylib_command}
 use Rattle.macho_records.specs.declared.constants.TheConstants.{LC_SEGMENT_64, LC_SYMTAB}
-use Rattle.macho_model.specs.Commands.{commands_of, numbered, command_fits, segment_size}
+use Rattle.macho_model.specs.Commands.{command_at, commands_of, numbered, command_fits, segment_size}
 use Rattle.macho_model.specs.Objects.{install_name_of, num_sections, section_place, symtab_of}
 use Rattle.macho_model.specs.ObjectRules.{head_fits, commands_inside, has_one, tables_inside, path_ends}
 use Rattle.macho_model.specs.Grammar.{EachCommand}
@@ -13,7 +13,7 @@ use Rattle.macho_object.specs.declared.commands.Found.TheVariants.{Nowhere, Once
 use Rattle.macho_object.specs.declared.outline.Places.{Places}
 use Rattle.macho_object.specs.declared.outline.Outline.{Outline}
 use Rattle.macho_object.specs.Views.{section_count}
-use Rattle.macho_object.specs.steps.Scans.{filetype_of, main_number, needed_of, command_at}
+use Rattle.macho_object.specs.steps.Scans.{filetype_of, main_number, needed_of}
 
 -- a command that is to stand once stands nowhere, told at 0, or twice, told at the second's place
 abbrev pub IsNotOnce : Found → ℕ → Type 0

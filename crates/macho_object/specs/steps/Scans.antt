@@ -4,7 +4,7 @@ use Rattle.macho_bytes.specs.Layouts.{reading}
 use Rattle.macho_records.specs.Layouts.{load_command}
 use Rattle.macho_records.specs.declared.constants.TheConstants.{LC_ID_DYLIB, LC_SEGMENT_64, LC_SYMTAB, MH_DYLIB, MH_OBJECT}
 use Rattle.macho_records.specs.declared.header.LoadCommand.{LoadCommand}
-use Rattle.macho_model.specs.Commands.{Command, commands_of, numbered, command_fits}
+use Rattle.macho_model.specs.Commands.{Command, command_at, commands_of, numbered, command_fits}
 use Rattle.macho_model.specs.ObjectRules.{commands_inside, needed_in_object, needed_in_dylib}
 use Rattle.macho_model.specs.Grammar.{EachCommand}
 use Rattle.macho_object.specs.declared.commands.Found.{Found}
@@ -25,10 +25,6 @@ main_number true = LC_ID_DYLIB
 abbrev pub needed_of : Bool → List ℕ → Command → ℕ
 needed_of false b = needed_in_object b
 needed_of true b = needed_in_dylib
-
--- the command that begins at a place
-abbrev pub command_at : List ℕ → ℕ → Command
-command_at b at = record { at = at; number = (reading load_command b at).cmd; size = (reading load_command b at).cmdsize }
 
 -- the command's record, where it is whole
 abbrev pub whole_command : Bool → List ℕ → ℕ → Option LoadCommand

@@ -4,8 +4,7 @@ use Rattle.macho_memory_walks.specs.declared.walk.Listed.TheVariants as list
 use Rattle.macho_records.specs.declared.constants.TheConstants.{LC_SEGMENT_64}
 use Rattle.macho_model.specs.Loader.{NeighbourFails}
 use Rattle.macho_model.specs.LoadRules.{begins_behind}
-use Rattle.macho_model.specs.Commands.{numbered}
-use Rattle.macho_memory_walks.specs.Readings.{command_at}
+use Rattle.macho_model.specs.Commands.{command_at, numbered}
 use Rattle.macho_model_walks.proofs.RuleWalk.{neighbour_fails}
 use Rattle.macho_memory_walks.proofs.NumberedWalk.{nth_one}
 use Rattle.macho_memory_walks.proofs.WordWalk.{some_is}

@@ -1,9 +1,9 @@
 use Rattle.std.proofs.Common.{refl, ap, arith}
 use Rattle.macho_bytes.specs.Layouts.{reading}
 use Rattle.macho_records.specs.Layouts.{load_command}
-use Rattle.macho_model.specs.Commands.{commands_end, command_fits}
+use Rattle.macho_model.specs.Commands.{command_at, commands_end, command_fits}
 use Rattle.macho_model.specs.ObjectRules.{commands_inside}
-use Rattle.macho_object.specs.steps.Scans.{needed_of, command_at}
+use Rattle.macho_object.specs.steps.Scans.{needed_of}
 use Rattle.macho_object.proofs.Options.{some_if, none_if}
 use Rattle.macho_object.proofs.Passes.{passes_none, passes_read, passes_all, breaks_here, breaks_front}
 use Rattle.macho_object.proofs.commands.scan.Goals as goal

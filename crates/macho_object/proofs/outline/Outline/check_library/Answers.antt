@@ -1,8 +1,7 @@
 use Rattle.std.proofs.Common.{◌≡◌, [], ◌∷◌}
-use Rattle.macho_model.specs.Commands.{numbered}
+use Rattle.macho_model.specs.Commands.{command_at, numbered}
 use Rattle.macho_model.specs.Objects.{install_name_of}
 use Rattle.macho_model.specs.ObjectRules.{path_ends}
-use Rattle.macho_object.specs.steps.Scans.{command_at}
 use Rattle.macho_object.proofs.Options.{some_if, none_if}
 use Rattle.macho_object.proofs.Breaks.{whole_library}
 use Rattle.macho_object.proofs.Libraries.{is_library, path_breaks}
