@@ -1,14 +1,15 @@
 //! The definitions under the linker's theorem.
 //!
 //! They stand in `specs`, a file for each subject, in the order of `docs/THEOREMS.md`. Here stand the plain types that they
-//! speak of, none of which holds a collection, so that a contract sees each as it is; numbers that several crates share; and the
-//! laws on them.
+//! speak of, none of which holds a collection, so that a contract sees each as it is; numbers and tests that several crates share;
+//! and the laws on them.
 #![tactic(auto)]
 
 mod constants;
 mod laws;
 mod placed;
 mod rules;
+mod segments;
 mod targets;
 
 pub use constants::{
@@ -24,4 +25,5 @@ pub use placed::{
     Counts, Linkedit, PlacedCommon, PlacedSection, PlacedSegment, Range64, Slot, Stub,
 };
 pub use rules::{LoadRule, ObjectRule, UnwindRule};
+pub use segments::may_hold_pointers;
 pub use targets::{Limit, Site, Target};

@@ -15,7 +15,7 @@ ghost use Rattle.macho_sizing.specs.steps.Rooms.{IsAnswered, IsLaid, kept_counts
 
 use macho_faults::LinkError;
 use macho_layout::{Counts, LayoutFault, Placement, Plan};
-use macho_model::{LIMIT_32, Limit, PlacedSegment, SEGMENT_PAGE};
+use macho_model::{LIMIT_32, Limit, PlacedSegment, SEGMENT_PAGE, may_hold_pointers};
 use macho_records::name_bytes;
 use std::alloc::Global;
 
@@ -23,12 +23,11 @@ use std::alloc::Global;
 const MOST_PAGES: u64 = 65_535;
 
 /// Whether the loader writes pointers in a segment.
-fn may_hold_pointers(segment: &PlacedSegment) -> bool
+fn holds_pointers(segment: &PlacedSegment) -> bool
     ensures { result ≡ may_hold_pointers (text_of segment.now.name) }
 {
     let bytes = segment.name.into_bytes();
-    let name = name_bytes(&bytes);
-    name == b"__DATA".as_slice() || name == b"__DATA_CONST".as_slice()
+    may_hold_pointers(name_bytes(&bytes))
 }
 
 /// The pages of a segment that the loader writes pointers in, where they are too many.
@@ -36,7 +35,7 @@ fn passed_pages(segment: &PlacedSegment) -> Option<u64>
     ensures { result ≡ passed_pages segment.now }
 {
     let pages = segment.file_size.div_ceil(SEGMENT_PAGE);
-    if may_hold_pointers(segment) && pages > MOST_PAGES {
+    if holds_pointers(segment) && pages > MOST_PAGES {
         Some(pages)
     } else {
         None

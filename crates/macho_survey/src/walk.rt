@@ -6,7 +6,6 @@ ghost use Rattle.macho_model.specs.declared.placed.Counts.{Counts};
 ghost use Rattle.macho_model.specs.Objects.{num_sections};
 ghost use Rattle.macho_model.specs.Links.{Input, Object, Link, SectionId, section_id, no_input, sections_of_file};
 ghost use Rattle.macho_model.specs.Needs.{Use};
-ghost use Rattle.macho_model.specs.Segments.{may_hold_pointers};
 ghost use Rattle.macho_names.specs.Kept.{Keeps};
 ghost use Rattle.macho_faults.specs.Standing.{Stands};
 ghost use Rattle.macho_parts.specs.Noted.{BeginsWith, uses_of_carried};
@@ -20,18 +19,11 @@ ghost use Rattle.macho_survey.specs.steps.Sections.{HasRows, HasObject, carried_
 use crate::findings::Findings;
 use crate::section::{Section, survey_section};
 use macho_faults::LinkError;
+use macho_model::may_hold_pointers;
 use macho_needs::Needs;
 use macho_object::{File, is_carried};
-use macho_records::{SectionHeader, name_bytes};
+use macho_records::name_bytes;
 use std::alloc::Global;
-
-/// Whether a section is in a segment in which the loader writes pointers.
-fn holds_pointers(header: SectionHeader) -> bool
-    ensures { result ≡ may_hold_pointers (name_of header.segname) }
-{
-    let name = name_bytes(&header.segname);
-    name == b"__DATA".as_slice() || name == b"__DATA_CONST".as_slice()
-}
 
 /// Looks at a section of an object, if it is carried.
 fn survey_if_carried(
@@ -63,7 +55,7 @@ fn survey_if_carried(
     let at = Section {
         file,
         section,
-        holds_pointers: holds_pointers(header),
+        holds_pointers: may_hold_pointers(name_bytes(&header.segname)),
     };
     survey_section(alloc, needs, findings, object, at)
 }
