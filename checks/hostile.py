@@ -1,4 +1,5 @@
-"""Links objects that are made to cost much, each of at most 16 MB but for one of twice that, and tells what each answers, its processor time and its memory.
+"""Links objects that are made to cost much, and tells what each answers, its processor time and its memory. One of them has 32 MB, and the
+others have at most 16 MB.
 
 hostile.py [--program PATH] [CASE..]    PATH is ./link where none is given; all cases where none is named
 
