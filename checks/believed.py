@@ -5,9 +5,9 @@ believed.py --crate NAME    the files of a crate's specs/, and which definitions
 believed.py --shares        the definitions under `run` that take the most lines with them: what would go if nothing needed them
 believed.py --lines         writes the reading list and its parts into docs/THEOREMS.md, and the lines of the files that its tables name
 
-The total counts all lines of the definitions. The goal, which the last line repeats, is at most MOST_LINES of them. Of all lines,
-equations, fields and cases are told apart from comments and from types, which the checker compares with the equations. So that
-these don't grow unseen, there may be at most MOST_LINES of them.
+The total counts all lines of the definitions. The goal, which the last line repeats, is at most GOAL of them. Of all lines, equations,
+fields and cases are told apart from comments and from types, which the checker compares with the equations. There may be at most
+MOST_LINES of them: as many as there are, so that they don't grow again. Whoever cuts some lowers the number.
 
 Refused are: more lines than these under the clauses of `run`, a file of specs/steps/ under a clause of a public function of any crate
 (or under what a public type or trait stands for), a file of specs/ that imports one of specs/steps/, and a row of a table of sentences
@@ -26,9 +26,10 @@ BEGIN, END = "<!-- reading list -->\n", "<!-- end of the reading list -->\n"
 PARTS, PARTS_END = "<!-- parts -->\n", "<!-- end of the parts -->\n"
 SOURCES, SOURCES_END = "<!-- sources -->\n", "<!-- end of the sources -->\n"
 
-# The most equations, fields and cases under `run`. The goal for all lines, with comments and types, is the same number: it isn't
-# reached, so it is told and not asked.
-MOST_LINES = 3500
+# The most equations, fields and cases under `run`. The goal for all lines, with comments and types, isn't reached, so it is told and
+# not asked.
+MOST_LINES = 3458
+GOAL = 3500
 
 # The pages whose tables say which clause carries a sentence.
 TABLES = ["README.md", os.path.join("docs", "PROVED.md")]
@@ -434,7 +435,7 @@ def print_run(world):
     comments, types = comments_and_types(world, files)
     believed = total - comments - types
     print(f"{believed:5}  lines of equations, fields and cases, of at most {MOST_LINES}; {comments} of comments, {types} of types")
-    print(f"{total:5}  lines in {count} definitions of {len(files)} files, which have {whole} lines in all; the goal is {MOST_LINES}")
+    print(f"{total:5}  lines in {count} definitions of {len(files)} files, which have {whole} lines in all; the goal is {GOAL}")
     return ([f"{believed} equations, fields and cases under `run`, more than {MOST_LINES}"] if believed > MOST_LINES else [])
 
 

@@ -21,7 +21,8 @@ use Rattle.macho_model.specs.Links.{Link, greatest}
 use Rattle.macho_model.specs.Segments.{PAGEZERO, TEXT, LINKEDIT, SEGMENT_PAGE, segment_rank, segment_names_of}
 use Rattle.macho_model.specs.Placement.{Placed, is_segment_named, head_size, Follows}
 use Rattle.macho_model.specs.OutputSections.{end_of_piece, extent_of}
-use Rattle.macho_model.specs.Order.{least_file_size, row_of, filled_in, used_by, front_of, LiesInFile}
+use Rattle.macho_model.specs.Order.{least_file_size, row_of, filled_in, used_by, front_of}
+use Rattle.macho_model.proofs.Least.{LiesInFile, tables_lie}
 use Rattle.macho_model.specs.Lists.{EachNext}
 use Rattle.macho_promise.specs.Promise.{IsLaidOut}
 use Rattle.macho_targets.proofs.Above.{next_follows, rises, positive, text_rank}
@@ -98,7 +99,7 @@ file_parts_end l counts p follow laid k d lt = by (nat_lt k last.number) refl
     sized = last_size l counts p tables (laid.least.file_sizes last.number d there) last.named
 
     signature : LiesInFile p.segments p.linkedit.signature
-    signature = laid.low.tables 4 p.linkedit.signature (omega arith)
+    signature = tables_lie l counts p laid.order laid.least 4 p.linkedit.signature (omega arith)
 
     low : tables.file_offset ≤ p.linkedit.signature.end
     low =
@@ -131,14 +132,14 @@ least_rank l name low = by (bytes_eq name PAGEZERO) refl
 pub text_begins : (l : Link) (counts : Counts) (p : Placed) → EachNext (Follows l) p.segments → IsLaidOut l counts p
     → All (λ s. is_segment_named TEXT s ≡ true → s.file_offset ≡ 0) p.segments
 text_begins l counts p follow laid zero d lt named =
-    laid.low.front (get_or p.segments 0 d) (lt, sym (get_or_default p.segments 0 d (get_or p.segments 0 d) lt))
+    laid.least.front (get_or p.segments 0 d) (lt, sym (get_or_default p.segments 0 d (get_or p.segments 0 d) lt))
 text_begins l counts p follow laid (suc zero) d lt named =
     let one : segment_rank l (text_of (get_or p.segments 1 d).name) ≡ 1 = text_rank l (get_or p.segments 1 d) named in
     let up = rises l p.segments d follow 0 0 1 (omega arith) lt in
     let zero_page = least_rank l (text_of (get_or p.segments 0 d).name) (omega (arith, up, one)) in
     let here : 0 < length p.segments = omega (arith, lt) in
     let no_bytes : (get_or p.segments 0 d).file_size ≡ 0 = laid.least.file_sizes 0 d here ∙ rw zero_page refl in
-    let front = laid.low.front (get_or p.segments 0 d) (here, sym (get_or_default p.segments 0 d (get_or p.segments 0 d) here)) in
+    let front = laid.least.front (get_or p.segments 0 d) (here, sym (get_or_default p.segments 0 d (get_or p.segments 0 d) here)) in
     omega (
       arith,
       (next_follows l p.segments d follow 0 (omega (arith, lt))).file_offset,

@@ -12,7 +12,7 @@ use Rattle.std.proofs.lemmas.Result.{IfOk-weaker, IfErr-weaker}
 use Rattle.macho_args.specs.declared.fault.ArgsFault.{ArgsFault}
 use Rattle.macho_args.specs.steps.Effects.{HasCause}
 use Rattle.macho_args.specs.Settings.{Settings, fresh}
-use Rattle.macho_args.specs.Words.{read_from, read_word, reading, texts_of, read_all, without_inputs}
+use Rattle.macho_args.specs.Words.{read_from, read_word, texts_of, read_all, without_inputs}
 
 module _ (set_root : List ℕ → Settings → Settings) where
   -- after the last word
@@ -39,7 +39,7 @@ module _ (set_root : List ℕ → Settings → Settings) where
 
   -- a word that is read
   read-word : (i : ℕ) (word : List ℕ) (behind : List (List ℕ)) (s t : Settings) (values : ℕ)
-      → read_word set_root i word behind s ≡ Ok (reading values t)
+      → read_word set_root i word behind s ≡ Ok (t, values)
       → read_from set_root 0 i (word ∷ behind) s ≡ read_from set_root values (i + 1) behind t
   unfolding read_from
   read-word i word behind s t values read = rw read refl
@@ -65,7 +65,7 @@ module _ (set_root : List ℕ → Settings → Settings) {A : Type 0} (words : L
   at_word = let zero_left : values ≡ 0 = omega arith in rw (zero_left, texts-at words i word within is, is_text, is_behind) refl
 
   pub turn-done : (t : Settings)
-      → IfOk result (λ n. read_word set_root i text (texts_of behind) s ≡ Ok (reading n t))
+      → IfOk result (λ n. read_word set_root i text (texts_of behind) s ≡ Ok (t, n))
       → IfOk result (λ left. read_from set_root values i (texts_of (drop i words)) s
       ≡ read_from set_root left (i + 1) (texts_of (drop (i + 1) words)) t)
   turn-done t read =

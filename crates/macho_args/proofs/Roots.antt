@@ -30,7 +30,7 @@ use Rattle.macho_args.specs.steps.KeptRoot.{keep_root, settled, SettlesRoot}
 use Rattle.macho_args.specs.Options.{option_named, joined_option}
 use Rattle.macho_args.specs.Settings.{Settings, Input, fresh}
 use Rattle.macho_args.specs.Version.{version_of}
-use Rattle.macho_args.specs.Words.{Read, reading, read_from, read_option, read_word, read_plain, read_unnamed, read_all, args_of, without_inputs, taking}
+use Rattle.macho_args.specs.Words.{read_from, read_option, read_word, read_plain, read_unnamed, read_all, args_of, without_inputs, taking}
 
 module _ (root_of : List ℕ → List ℕ) where
   -- the library paths below the root
@@ -109,8 +109,8 @@ module _ (root_of : List ℕ → List ℕ) where
   unnamed-finish None i word s = plain-finish i word s
 
   -- what was read, where the root is settled
-  abbrev finished-read : Result Read ArgsFault → Result Read ArgsFault
-  finished-read meaning = meaning >>= λ read. Ok (reading read.values (finish read.settings))
+  abbrev finished-read : Result (Settings × ℕ) ArgsFault → Result (Settings × ℕ) ArgsFault
+  finished-read meaning = meaning >>= λ read. Ok (finish read.0, read.1)
 
   taking-finish : (values : ℕ) (m n : Result Settings ArgsFault) → m ≡ finished n
       → taking values m ≡ finished-read (taking values n)
@@ -125,7 +125,7 @@ module _ (root_of : List ℕ → List ℕ) where
 
   option-finish : (option : Option LinkOption) (i : ℕ) (word : List ℕ) (behind : List (List ℕ)) (s : Settings)
       → read_option (at_root root_of) option i word behind (finish s) ≡ finished-read (read_option keep_root option i word behind s)
-  option-finish (Some (Sets flag)) i word behind s = ap (λ t. Ok (reading 0 t)) (flag-finish flag s)
+  option-finish (Some (Sets flag)) i word behind s = ap (λ t. Ok (t, 0)) (flag-finish flag s)
   option-finish (Some (Takes option)) i word [] s = refl
   option-finish (Some (Takes option)) i word (v ∷ behind) s = taking-finish 1 _ _ (value-finish option (i + 1) v s)
   option-finish (Some PlatformVersion) i word [] s = refl
@@ -137,8 +137,8 @@ module _ (root_of : List ℕ → List ℕ) where
   option-finish None i word behind s = taking-finish 0 _ _ (unnamed-finish (joined_option word) i word s)
 
   -- where the next words commute, one more word does
-  then-finish : (m n : Result Read ArgsFault) (f g : Read → Result Settings ArgsFault)
-      → m ≡ finished-read n → ((read : Read) → f (reading read.values (finish read.settings)) ≡ finished (g read))
+  then-finish : (m n : Result (Settings × ℕ) ArgsFault) (f g : Settings × ℕ → Result Settings ArgsFault)
+      → m ≡ finished-read n → ((read : Settings × ℕ) → f (finish read.0, read.1) ≡ finished (g read))
       → (m >>= f) ≡ finished (n >>= g)
   then-finish m (Ok read) f g is next = rw is (next read)
   then-finish m (Err fault) f g is next = rw is refl
@@ -149,7 +149,7 @@ module _ (root_of : List ℕ → List ℕ) where
   from-finish values i [] s = refl
   from-finish zero i (word ∷ behind) s =
       then-finish _ _ _ _ (option-finish (option_named word) i word behind s)
-      (λ read. from-finish read.values (i + 1) behind read.settings)
+      (λ read. from-finish read.1 (i + 1) behind read.0)
   from-finish (suc values) i (word ∷ behind) s = from-finish values (i + 1) behind s
 
   inputs-finish : (count : Option ℕ) (inputs : List Input) (s : Settings)

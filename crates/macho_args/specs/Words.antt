@@ -24,18 +24,9 @@ read_plain i word s =
     else if starts_with nat_eq word (codes "@") then Err (Unsupported i)
     else Ok (record s { inputs = s.inputs ++ file i word ∷ [] })
 
--- the settings after a word, and how many of the words behind it are its values
-pub record Read : Type 0 where
-  pub settings : Settings
-  pub values : ℕ
-
--- what was read: the settings, and the number of values behind the word
-abbrev pub reading : ℕ → Settings → Read
-reading values s = record { settings = s; values = values }
-
--- a meaning, with the number of values that it took
-abbrev pub taking : ℕ → Result Settings ArgsFault → Result Read ArgsFault
-taking values meaning = meaning >>= λ s. Ok (reading values s)
+-- What was read of a word: the settings after it, and how many of the words behind it are its values.
+abbrev pub taking : ℕ → Result Settings ArgsFault → Result (Settings × ℕ) ArgsFault
+taking values meaning = meaning >>= λ s. Ok (s, values)
 
 -- the words with the meaning of each, where `set_root` is what the path of `-syslibroot` does
 module _ (set_root : List ℕ → Settings → Settings) where
@@ -45,7 +36,7 @@ module _ (set_root : List ℕ → Settings → Settings) where
   read_unnamed None i word s = read_plain i word s
 
   -- The word i, where these words stand behind it. A missing value is told at the option.
-  abbrev pub read_option : Option LinkOption → ℕ → List ℕ → List (List ℕ) → Settings → Result Read ArgsFault
+  abbrev pub read_option : Option LinkOption → ℕ → List ℕ → List (List ℕ) → Settings → Result (Settings × ℕ) ArgsFault
   read_option (Some (Sets flag)) i word behind s = taking 0 (Ok (with_flag flag s))
   read_option (Some (Takes option)) i word (v ∷ behind) s = taking 1 (with_value set_root option (i + 1) v s)
   read_option (Some (Takes option)) i word [] s = Err (MissingValue i)
@@ -56,14 +47,14 @@ module _ (set_root : List ℕ → Settings → Settings) where
   read_option None i word behind s = taking 0 (read_unnamed (joined_option word) i word s)
 
   -- the word i, by the option that it names
-  unfoldable pub read_word : ℕ → List ℕ → List (List ℕ) → Settings → Result Read ArgsFault
+  unfoldable pub read_word : ℕ → List ℕ → List (List ℕ) → Settings → Result (Settings × ℕ) ArgsFault
   read_word i word behind s = read_option (option_named word) i word behind s
 
   -- The words from number i on, of which the first `values` are values of the option before them.
   unfoldable pub read_from : ℕ → ℕ → List (List ℕ) → Settings → Result Settings ArgsFault
   read_from values i [] s = Ok s
   read_from zero i (word ∷ behind) s =
-      read_word i word behind s >>= λ read. read_from read.values (i + 1) behind read.settings
+      read_word i word behind s >>= λ read. read_from read.1 (i + 1) behind read.0
   read_from (suc values) i (word ∷ behind) s = read_from values (i + 1) behind s
 
 -- an input beside `-generate` isn't supported: the first one is told

@@ -13,7 +13,7 @@ ghost use Rattle.macho_args.specs.Options.{joined_option};
 ghost use Rattle.macho_args.specs.SearchPaths.{IsParsed, IsRefused};
 ghost use Rattle.macho_args.specs.Settings.{settings_of, fresh};
 ghost use Rattle.macho_args.specs.Store.{KeepsOutside};
-ghost use Rattle.macho_args.specs.Words.{read_all, read_from, read_option, read_plain, read_unnamed, read_word, reading};
+ghost use Rattle.macho_args.specs.Words.{read_all, read_from, read_option, read_plain, read_unnamed, read_word};
 ghost use Rattle.macho_args.specs.Words.{texts_of, without_inputs};
 
 use crate::fault::ArgsFault;
@@ -115,7 +115,7 @@ impl MachOArgs {
     ) -> Result<usize, ArgsFault>
         requires { word + 1 + length behind.now < 2 ^ 32 }
         ensures done { IfOk result (λ values. read_word keep_root word text.now (texts_of behind.now) (settings_of self.old)
-            ≡ Ok (reading values (settings_of self.new))) }
+            ≡ Ok (settings_of self.new, values)) }
         ensures why { IfErr result
             (HasCause (read_word keep_root word text.now (texts_of behind.now) (settings_of self.old))) }
     {
@@ -151,7 +151,7 @@ impl MachOArgs {
         requires { word + 1 + length behind.now < 2 ^ 32 }
         ensures done { IfOk result (λ values.
             read_option keep_root (Some PlatformVersion) word [] (texts_of behind.now) (settings_of self.old)
-            ≡ Ok (reading values (settings_of self.new))) }
+            ≡ Ok (settings_of self.new, values)) }
         ensures why { IfErr result (HasCause
             (read_option keep_root (Some PlatformVersion) word [] (texts_of behind.now) (settings_of self.old))) }
     {

@@ -14,6 +14,7 @@ use Rattle.macho_sealing.specs.Signing.{SignatureIsSaid}
 use Rattle.macho_promise.specs.Promise.{Agrees, Tells}
 use Rattle.macho_standing.specs.Laws.{ComposedChains, ComposedIsLoadable, IsComposedOf}
 use Rattle.macho_standing.specs.Template.{HeadersTellTemplate}
+use Rattle.macho_standing.proofs.Run.{run_by_whole}
 use Rattle.macho_composed.specs.Whole.{IsWhole, WholeIsLinked}
 
 -- the laws that the promise rests on
@@ -59,7 +60,6 @@ composed laws l counts uuid b p w = record {
 
 abbrev tells : Laws → (l : Link) (counts : Counts) (uuid b : List ℕ) (p : Placed) → IsWhole l counts uuid b p → Tells l b p
 tells laws l counts uuid b p w = record {
-  chain = laws.chains l counts uuid b p (composed laws l counts uuid b p w);
   imports = w.tables.imports;
   libraries = named laws l counts uuid b p w;
   exports = w.tables.exports;
@@ -85,8 +85,8 @@ whole_is_linked laws l counts uuid b p w = record {
   tells = tells laws l counts uuid b p w;
   written = record {
     head = w.head.text;
-    uuid_is = (laws.head l counts uuid b p w.head.says.trie w.head.says.commands).uuid_is;
     fixups = w.tables.fixups.say;
+    chain = run_by_whole l b p w.tables.fixups.say (laws.chains l counts uuid b p (composed laws l counts uuid b p w));
     symbols = w.tables.symbols;
     signed = signed laws l counts uuid b p w;
     zeros = w.content.zeros;

@@ -17,6 +17,7 @@ use Rattle.macho_model.specs.Head.{headers_in}
 use Rattle.macho_model.specs.HeadCommands.{size_said}
 use Rattle.macho_model.specs.Placement.{Placed, head_size, is_segment_named, range_span}
 use Rattle.macho_model.specs.OutputSections.{POINTER_EXPONENT, piece}
+use Rattle.macho_model.proofs.Least.{tables_in_order}
 use Rattle.macho_promise.specs.Sizes.{AreCounts, counts_with, commands_size}
 use Rattle.macho_placing.specs.Laws.{IsWhollyPlaced, NonePasses}
 use Rattle.macho_agreement.proofs.Headers.{headers-are}
@@ -42,7 +43,7 @@ pub tables_follow : (l : Link) (counts : Counts) (p : Placed) → IsWhollyPlaced
 tables_follow l counts p whole =
     let rooms = whole.least.rooms in
     let d = piece POINTER_EXPONENT (range_span p.linkedit.fixups) in
-    let order = whole.order.tables in
+    let order = tables_in_order l counts p whole.least in
     record {
       fixups = (omega (arith, rooms.fixups), omega (arith, rooms.fixups, order 1 5 d (omega arith) (omega arith)));
       trie = (omega (arith, rooms.trie), omega (arith, rooms.trie, order 2 5 d (omega arith) (omega arith)));

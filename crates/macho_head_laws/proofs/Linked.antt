@@ -29,7 +29,7 @@ use Rattle.macho_promise.specs.Promise.{IsLinked}
 use Rattle.macho_targets.specs.Laws.{ListsAll}
 use Rattle.macho_agreement.proofs.Headers.{headers-are}
 use Rattle.macho_agreement.proofs.Entry.{file_base}
-use Rattle.macho_head_laws.specs.Laws.{LinkedHeadIsRead}
+use Rattle.macho_head_laws.specs.Laws.{LinkedHeadIsRead, LinkedUuidIsRead}
 use Rattle.macho_head_laws.proofs.Cut.{segment_cut, header_cut, counts_cut, placed_cut}
 use Rattle.macho_head_laws.proofs.Named.{segments_named, headers_named}
 use Rattle.macho_head_laws.proofs.Whole.{commands_whole}
@@ -101,3 +101,9 @@ linked_head_is_read l counts uuid b p linked =
       header = found.header ∙ ap (λ (hs : List HeadCommand). head.header_for l p (length hs) (sum_by size_said hs)) same;
       commands = found.commands ∙ same;
     }
+
+-- so it also finds its UUID
+pub linked_uuid_is_read : LinkedUuidIsRead
+linked_uuid_is_read l counts uuid b p linked =
+    let says = linked_head_is_read l counts uuid b p linked in
+    (head_read l counts uuid b p says.trie says.commands).uuid_is

@@ -18,7 +18,7 @@ use Rattle.macho_promise.specs.Inputs.{IsStubInput, reading_of}
 use Rattle.macho_job.specs.declared.heads.Head.{Head}
 use Rattle.macho_job.specs.declared.heads.Head.TheVariants as head
 use Rattle.macho_job.specs.Heads.{head_of}
-use Rattle.macho_job.specs.Search.{candidates_of, IsMissing, IsFirstHeld}
+use Rattle.macho_job.specs.Search.{candidates_of, FileIs, IsFirstHeld}
 use Rattle.macho_job.specs.Job.{SourceFile, IsReadAs, IsTaken, AreFiles, IsListed, Links}
 use Rattle.macho_job.specs.steps.Gathering.{linking}
 
@@ -70,21 +70,21 @@ pub record SameFound (p q b c : List ℕ) : Type 0 where
   pub bytes : b ≡ c
 
 one-found : (files : Store) (xs ys before behind : List (List ℕ)) (p q b c : List ℕ) → before ++ p ∷ behind ≡ xs ++ q ∷ ys
-    → All (IsMissing (Some files)) before → All (IsMissing (Some files)) xs → get files p ≡ Some b → get files q ≡ Some c
+    → All (FileIs (Some files) None) before → All (FileIs (Some files) None) xs → get files p ≡ Some b → get files q ≡ Some c
     → SameFound p q b c
 one-found files [] ys [] behind p q b c is none also at too =
     let same : p ≡ q = cc in
     record { path = same; bytes = one-text files q b c (subst (λ (t : List ℕ). get files t ≡ Some b) same at) too }
 one-found files (x ∷ xs) ys [] behind p q b c is none also at too =
     let same : p ≡ x = cc in
-    absurd (not-missing files x b (All-head (IsMissing (Some files)) x xs also) (subst (λ (t : List ℕ). get files t ≡ Some b) same at))
+    absurd (not-missing files x b (All-head (FileIs (Some files) None) x xs also) (subst (λ (t : List ℕ). get files t ≡ Some b) same at))
 one-found files [] ys (x ∷ before) behind p q b c is none also at too =
     let same : x ≡ q = cc in
-    absurd (not-missing files q c (subst (λ (t : List ℕ). get files t ≡ None) same (All-head (IsMissing (Some files)) x before none)) too)
+    absurd (not-missing files q c (subst (λ (t : List ℕ). get files t ≡ None) same (All-head (FileIs (Some files) None) x before none)) too)
 one-found files (x ∷ xs) ys (y ∷ before) behind p q b c is none also at too =
     let rest : before ++ p ∷ behind ≡ xs ++ q ∷ ys = cc in
-    one-found files xs ys before behind p q b c rest (All-tail (IsMissing (Some files)) y before none)
-    (All-tail (IsMissing (Some files)) x xs also) at too
+    one-found files xs ys before behind p q b c rest (All-tail (FileIs (Some files) None) y before none)
+    (All-tail (FileIs (Some files) None) x xs also) at too
 
 -- of some paths one is the first that holds a file
 pub one-held : (files : Store) (paths : List (List ℕ)) (p q b c : List ℕ) → IsFirstHeld (Some files) paths p b

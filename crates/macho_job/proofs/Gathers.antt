@@ -4,14 +4,14 @@
 -- stands behind those before it: the files are one more, the link has its input last, and the paths end with its own. What
 -- refused it is the cause of a fault of the whole: the inputs before it are taken, and a count that rose in this call rose since
 -- the first, since no count falls. A list is asked for behind all inputs.
-use Rattle.std.proofs.Common.{◌≡◌, ℕ, suc, ◌+◌, ◌<◌, ◌≤◌, inl, inr, arith, ap, sym, subst, ◌∙◌, List, []}
+use Rattle.std.proofs.Common.{◌≡◌, ℕ, suc, ◌+◌, ◌<◌, ◌≤◌, inl, inr, arith, refl, ap, sym, subst, ◌∙◌, List, []}
 use Rattle.std.proofs.Common.{◌∷◌, ◌++◌, map, take, drop, length, get_or, All, Option, Some, None, String, Result, Ok, Err, OnOk}
 use Rattle.std.specs.Prelude.{IfErr}
 use Rattle.std.proofs.Math.Seq.{drop-cons}
 use Rattle.std.proofs.lemmas.Bool.{cases_lt}
 use Rattle.std.proofs.lemmas.List.{take-append-drop, take_all, map-append, map_more}
 use Rattle.std.proofs.lemmas.Slice.Zip.{all_zipped_more}
-use Rattle.std.specs.List.{AllZip}
+use Rattle.std.specs.List.{AllZip, last_or}
 use Rattle.std.specs.String.{string_bytes}
 use Rattle.macho_args.specs.Settings.{Settings, Input, input_of, word_of}
 use Rattle.macho_args.specs.Store.{Store}
@@ -24,14 +24,14 @@ use Rattle.macho_devices.specs.Devices.{ReadsFile}
 use Rattle.macho_devices.specs.Faults.{CountsOn, CountRose}
 use Rattle.macho_job.specs.declared.fault.Fault.{Fault}
 use Rattle.macho_job.specs.declared.fault.Fault.TheVariants as fault
-use Rattle.macho_job.specs.Search.{candidates_of, HeldAt, IsMissing, IsFirstHeld}
+use Rattle.macho_job.specs.Search.{candidates_of, FileIs, IsFirstHeld}
 use Rattle.macho_job.specs.Job.{SourceFile, IsTaken, IsListed, Links}
 use Rattle.macho_job.specs.Causes.{IsAsked, IsListAsked, JobFails, reading}
-use Rattle.macho_job.specs.steps.Gathering.{TakesFile, TakesBytesOf, InputFails, ListFails, Gathered, HaveInputs, HaveLists}
+use Rattle.macho_job.specs.steps.Gathering.{TakesFile, TakesBytesOf, EndsWith, InputFails, ListFails, Gathered, HaveInputs, HaveLists}
 
 -- what a read says of the bytes that it gave, and of a path without a file
 pub read-held : (told : Option Store) (path bytes : List ℕ) (answer : Option (List ℕ)) → ReadsFile told path answer → answer ≡ Some bytes
-    → HeldAt told path bytes
+    → FileIs told (Some bytes) path
 read-held None path bytes answer reads is = tt
 read-held (Some files) path bytes answer reads is = sym reads ∙ is
 
@@ -44,10 +44,18 @@ seen-split {X} {Y} f xs i x within at =
     ∙ (ap (λ (rest : List X). map f (take i xs) ++ map f rest) (drop-cons xs i x within)
     ∙ ap (λ (y : Y). map f (take i xs) ++ y ∷ map f (drop (suc i) xs)) (ap f (sym at))))
 
+-- the last of some paths
+last-end : (o : Option (List ℕ)) (before : List (List ℕ)) (path : List ℕ) → last_or o (before ++ path ∷ []) ≡ Some path
+last-end o [] path = refl
+last-end o (other ∷ before) path = last-end (Some other) before path
+
+pub last-is : (paths : List (List ℕ)) (path : List ℕ) → EndsWith paths path → last_or None paths ≡ Some path
+last-is paths path end = ap (last_or None) end.split ∙ last-end None end.before path
+
 -- a path is the first that holds a file
 pub first-held : {A : Type 0} (told now : Option Store) (paths : List (String A)) (i : ℕ) (path : String A) (text name bytes : List ℕ)
     (answer : Option (List ℕ)) → now ≡ told → i < length paths → path ≡ get_or paths i path
-    → All (IsMissing told) (map string_bytes (take i paths))
+    → All (FileIs told None) (map string_bytes (take i paths))
     → ReadsFile now text answer → text ≡ string_bytes path → answer ≡ Some bytes → name ≡ text
     → IsFirstHeld told (map string_bytes paths) name bytes
 first-held told now paths i path text name bytes answer same within at missing reads is_text some is_name =
@@ -57,15 +65,15 @@ first-held told now paths i path text name bytes answer same within at missing r
       split = seen-split string_bytes paths i path within at
           ∙ ap (λ (t : List ℕ). map string_bytes (take i paths) ++ t ∷ map string_bytes (drop (suc i) paths)) (sym is_text ∙ sym is_name);
       missing = missing;
-      held = subst (λ (t : List ℕ). HeldAt told t bytes) (sym is_name)
-          (subst (λ (o : Option Store). HeldAt o text bytes) same (read-held now text bytes answer reads some));
+      held = subst (λ (t : List ℕ). FileIs told (Some bytes) t) (sym is_name)
+          (subst (λ (o : Option Store). FileIs o (Some bytes) text) same (read-held now text bytes answer reads some));
     }
 
 -- no path holds a file
 pub none-held : {A : Type 0} (told : Option Store) (paths : List (String A)) (i : ℕ) → length paths ≤ i
-    → All (IsMissing told) (map string_bytes (take i paths))
-    → All (IsMissing told) (map string_bytes paths)
-none-held told paths i end missing = subst (λ (ps : List (String _)). All (IsMissing told) (map string_bytes ps)) (take_all i paths end)
+    → All (FileIs told None) (map string_bytes (take i paths))
+    → All (FileIs told None) (map string_bytes paths)
+none-held told paths i end missing = subst (λ (ps : List (String _)). All (FileIs told None) (map string_bytes ps)) (take_all i paths end)
     missing
 
 -- what follows from an answer
@@ -115,7 +123,7 @@ inputs-more told now s specs i spec old paths l m same within at have takes =
 pub lists-more : {A : Type 0} (told now : Option Store) (s : Settings) (Such : List SourceFile → Type 0) (lists : List (ℕ × String A))
     (i : ℕ) (list : ℕ × String A)
     (paths : List (List ℕ)) (l m : Link) (text : List ℕ) → now ≡ told → i < length lists → list ≡ get_or lists i list
-    → Gathered told s Such (map (λ p. (p.0, string_bytes p.1)) (take i lists)) paths l → HeldAt now (string_bytes list.1) text
+    → Gathered told s Such (map (λ p. (p.0, string_bytes p.1)) (take i lists)) paths l → FileIs now (Some text) (string_bytes list.1)
     → m ≡ with_export_list l text → Gathered told s Such (map (λ p. (p.0, string_bytes p.1)) (take (i + 1) lists)) paths m
 lists-more {A} told now s Such lists i list paths l m text same within at have held added =
     let plain : ℕ × String A → ℕ × List ℕ = λ p. (p.0, string_bytes p.1) in
@@ -127,7 +135,7 @@ lists-more {A} told now s Such lists i list paths l m text same within at have h
       texts = have.texts ++ text ∷ [];
       listed = subst (λ (xs : List (ℕ × List ℕ)). AllZip (IsListed told) xs (have.texts ++ text ∷ [])) (sym more)
           (all_zipped_more (IsListed told) (map plain (take i lists)) have.texts (plain list) text have.listed
-          (subst (λ (o : Option Store). HeldAt o (string_bytes list.1) text) same held));
+          (subst (λ (o : Option Store). FileIs o (Some text) (string_bytes list.1)) same held));
       named = have.named;
       linked = added ∙ ap (λ (k : Link). with_export_list k text) have.linked;
     }
@@ -165,8 +173,15 @@ input-fails told now s specs i spec seen paths l old mid new f same asks within 
 
     by : (f : Fault) → InputFails told s paths asked mid new f → JobFails told s paths (reading old) (reading new) f
     by (fault.MissingFile word) (is, missing) = inl (asked, this word is, missing)
-    by (fault.UnknownKind word kind) (is, unknown) = (asked, this word is, unknown)
-    by (fault.Input word refusal) (is, refused) = inl (asked, this word is, refused)
+    by (fault.UnknownKind word kind) (is, unknown) =
+        (unknown.path, unknown.bytes, record { input = asked; asked = this word is; found = unknown.found }, unknown.is)
+    by (fault.Input word refusal) (is, refused) = inl (
+      refused.path,
+      refused.bytes,
+      record { input = asked; asked = this word is; found = refused.found },
+      last-is paths refused.path refused.last,
+      refused.refused,
+    )
     by (fault.Link refusal) none = absurd none
     by (fault.Words refusal) none = absurd none
     by (fault.Read word) (is, rose) = (inl (asked, this word is), rose-since old mid new before after rose)

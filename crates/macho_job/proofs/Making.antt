@@ -22,6 +22,7 @@ use Rattle.macho_job.specs.steps.Gathering.{HaveLists}
 use Rattle.macho_job.specs.Generator.{generated_object, generated_path}
 use Rattle.macho_job.specs.Job.{SourceFile, AreFiles, generated_files}
 use Rattle.macho_job.specs.steps.Parts.{TakesMade, MadeFails}
+use Rattle.macho_job.proofs.Gathers.{last-is}
 
 -- the made objects as files, and as inputs
 abbrev made_file : ℕ → ℕ → SourceFile
@@ -88,11 +89,11 @@ made-fails told s n i paths old new (fault.Input at refusal) asked below objects
       asked = asked;
       below = omega (arith, below, is);
       before = λ k less. objects k (omega (arith, less, is));
-      last = record {
+      last = last-is paths (generated_path at) (record {
         before = map generated_path (range_with_len 0 i);
         split = named ∙ (map-range_with_len_more generated_path 0 i i (omega arith)
             ∙ ap (λ (j : ℕ). map generated_path (range_with_len 0 i) ++ generated_path j ∷ []) (sym is));
-      };
+      });
       refused = subst (λ (j : ℕ). BytesRefused head.Object (generated_object j n) refusal) (sym is) refused;
     })
 made-fails told s n i paths old new (fault.MissingFile word) asked below objects named none = absurd none

@@ -26,10 +26,10 @@ use Rattle.macho_job.specs.declared.fault.InputKind.{InputKind}
 use Rattle.macho_job.specs.declared.heads.Head.{Head}
 use Rattle.macho_job.specs.declared.heads.Head.TheVariants as head
 use Rattle.macho_job.specs.Heads.{head_of}
-use Rattle.macho_job.specs.Search.{candidates_of, IsMissing, IsFirstHeld}
+use Rattle.macho_job.specs.Search.{candidates_of, FileIs, IsFirstHeld}
 use Rattle.macho_job.specs.Generator.{generated_object}
 use Rattle.macho_job.specs.Job.{SourceFile, IsReadAs, IsTaken, IsListed, AreFiles, Links, head_of_kind}
-use Rattle.macho_job.specs.Causes.{Failures, NoneFailed, IsAsked, BytesRefused, InputRefused, MadeRefused, IsUnknown, IsClear}
+use Rattle.macho_job.specs.Causes.{Failures, NoneFailed, IsAsked, BytesRefused, MadeRefused, IsClear}
 use Rattle.macho_job.specs.Causes.{LinkRefused, JobFails}
 use Rattle.macho_job.proofs.Determined.{one-held, not-missing, linked-once}
 
@@ -55,9 +55,9 @@ asked-file files s word asked (Some n) fs is are asks = absurd (let h : Some n �
 
 -- a path that is held stands among the candidates
 held-among : (files : Store) (paths : List (List ℕ)) (path bytes : List ℕ) → IsFirstHeld (Some files) paths path bytes
-    → All (IsMissing (Some files)) paths → ⊥
+    → All (FileIs (Some files) None) paths → ⊥
 held-among files paths path bytes first missing =
-    not-missing files path bytes (All-contains (IsMissing (Some files)) paths path missing
+    not-missing files path bytes (All-contains (FileIs (Some files) None) paths path missing
     (subst (λ (ps : List (List ℕ)). Contains ps path) (sym first.split) (stands first.before path first.behind))) first.held
   where
     stands : (before : List (List ℕ)) (path : List ℕ) (behind : List (List ℕ)) → Contains (before ++ path ∷ behind) path
@@ -94,20 +94,20 @@ no-unknown (Dylib b) kind is = cc
 no-unknown (Stub t x) kind is = cc
 
 -- an input that is taken begins as one
-begins-unknown : (files : Store) (s : Settings) (asked : args.Input) (f : SourceFile) (kind : InputKind) → IsTaken (Some files) s asked f
-    → IsUnknown (Some files) s asked (head.Unknown kind) → ⊥
-begins-unknown files s asked f kind taken unknown =
-    let same = one-held files (candidates_of s asked) f.path unknown.path taken.bytes unknown.bytes taken.found unknown.found in
-    no-unknown f.input kind (sym taken.is.head ∙ (ap head_of same.bytes ∙ unknown.is))
+begins-unknown : (files : Store) (s : Settings) (asked : args.Input) (f : SourceFile) (kind : InputKind) (path bytes : List ℕ)
+    → IsTaken (Some files) s asked f → IsFirstHeld (Some files) (candidates_of s asked) path bytes → head_of bytes ≡ head.Unknown kind → ⊥
+begins-unknown files s asked f kind path bytes taken found is =
+    let same = one-held files (candidates_of s asked) f.path path taken.bytes bytes taken.found found in
+    no-unknown f.input kind (sym taken.is.head ∙ (ap head_of same.bytes ∙ is))
 
 -- an input that is taken isn't refused
-taken-refused : (files : Store) (s : Settings) (paths : List (List ℕ)) (asked : args.Input) (f : SourceFile) (refusal : LinkError)
-    → IsTaken (Some files) s asked f
-    → InputRefused (Some files) s paths asked refusal → ⊥
-taken-refused files s paths asked f refusal taken refused =
-    let same = one-held files (candidates_of s asked) f.path refused.path taken.bytes refused.bytes taken.found refused.found in
-    let read : IsReadAs refused.bytes f.input = subst (λ (b : List ℕ). IsReadAs b f.input) same.bytes taken.is in
-    read-refused refused.bytes f.input refusal read (subst (λ (h : Head). BytesRefused h refused.bytes refusal) read.head refused.refused)
+taken-refused : (files : Store) (s : Settings) (asked : args.Input) (f : SourceFile) (refusal : LinkError) (path bytes : List ℕ)
+    → IsTaken (Some files) s asked f → IsFirstHeld (Some files) (candidates_of s asked) path bytes
+    → BytesRefused (head_of bytes) bytes refusal → ⊥
+taken-refused files s asked f refusal path bytes taken found refused =
+    let same = one-held files (candidates_of s asked) f.path path taken.bytes bytes taken.found found in
+    let read : IsReadAs bytes f.input = subst (λ (b : List ℕ). IsReadAs b f.input) same.bytes taken.is in
+    read-refused bytes f.input refusal read (subst (λ (h : Head). BytesRefused h bytes refusal) read.head refused)
 
 -- a made object isn't refused
 made-refused : (files : Store) (s : Settings) (paths : List (List ℕ)) (i : ℕ) (refusal : LinkError) (fs : List SourceFile)
@@ -170,12 +170,12 @@ sure-fault files s paths qs l old new (fault.MissingFile word) links clear calm 
     let text = partner (IsListed (Some files)) asks.before asks.behind (word, list) links.lists
     (subst (λ (xs : List (ℕ × List ℕ)). AllZip (IsListed (Some files)) xs links.lists) asks.split links.listed) in
     absurd (not-missing files list text.0 missing text.1)
-sure-fault files s paths qs l old new (fault.UnknownKind word kind) links clear calm (asked, asks, unknown) =
-    let f = asked-file files s word asked s.generate links.files refl links.are asks in
-    absurd (begins-unknown files s asked f.0 kind f.1 unknown)
-sure-fault files s paths qs l old new (fault.Input word refusal) links clear calm (inl (asked, asks, refused)) =
-    let f = asked-file files s word asked s.generate links.files refl links.are asks in
-    absurd (taken-refused files s paths asked f.0 refusal f.1 refused)
+sure-fault files s paths qs l old new (fault.UnknownKind word kind) links clear calm (path, bytes, has, is) =
+    let f = asked-file files s word has.input s.generate links.files refl links.are has.asked in
+    absurd (begins-unknown files s has.input f.0 kind path bytes f.1 has.found is)
+sure-fault files s paths qs l old new (fault.Input word refusal) links clear calm (inl (path, bytes, has, last, refused)) =
+    let f = asked-file files s word has.input s.generate links.files refl links.are has.asked in
+    absurd (taken-refused files s has.input f.0 refusal path bytes f.1 has.found refused)
 sure-fault files s paths qs l old new (fault.Input word refusal) links clear calm (inr made) =
     absurd (made-refused files s paths word refusal links.files links.are made)
 sure-fault files s paths qs l old new (fault.Link refusal) links clear calm why =

@@ -1,6 +1,6 @@
 -- When each fault of a run may come, and the status that it ends with.
-use Rattle.std.specs.Prelude.{◌≡◌, ℕ, ◌<◌, ◌⊎◌, true, false, List, [], ◌∷◌, ◌++◌, Option, None, Some, All, IsUtf8}
-use Rattle.std.specs.List.{AllZip}
+use Rattle.std.specs.Prelude.{◌≡◌, ℕ, ◌<◌, ◌⊎◌, true, false, List, ◌∷◌, ◌++◌, Option, None, Some, All, IsUtf8}
+use Rattle.std.specs.List.{AllZip, last_or}
 use Rattle.macho_args.specs.Settings as args
 use Rattle.macho_args.specs.Settings.{Settings, word_of}
 use Rattle.macho_args.specs.Store.{Store}
@@ -23,7 +23,7 @@ use Rattle.macho_job.specs.declared.fault.Fault.TheVariants.{MissingFile, Unknow
 use Rattle.macho_job.specs.declared.heads.Head.{Head}
 use Rattle.macho_job.specs.declared.heads.Head.TheVariants as head
 use Rattle.macho_job.specs.Heads.{head_of}
-use Rattle.macho_job.specs.Search.{candidates_of, IsMissing, IsFirstHeld}
+use Rattle.macho_job.specs.Search.{candidates_of, FileIs, IsFirstHeld}
 use Rattle.macho_job.specs.Generator.{generated_object, generated_path}
 use Rattle.macho_job.specs.Job.{SourceFile, IsTaken, AreFiles, IsListed, Links}
 
@@ -67,26 +67,13 @@ BytesRefused head.Stub bytes (error.BadInput (input.Stub line rule)) =
     ⊎ ((IsUtf8 bytes → ⊥) × (line ≡ 1) × (rule ≡ S1))
 BytesRefused begins bytes refusal = ⊥
 
--- the last of the files that were read has this path
-pub record EndsWith (paths : List (List ℕ)) (path : List ℕ) : Type 0 where
-  pub before : List (List ℕ)
-  pub split : paths ≡ before ++ path ∷ []
-
--- an input's bytes are refused: those of the first of its paths that holds a file, the last that was read
-pub record InputRefused (told : Option Store) (s : Settings) (paths : List (List ℕ)) (asked : args.Input) (refusal : LinkError) : Type 0 where
-  pub path : List ℕ
-  pub bytes : List ℕ
-  pub found : IsFirstHeld told (candidates_of s asked) path bytes
-  pub last : EndsWith paths path
-  pub refused : BytesRefused (head_of bytes) bytes refusal
-
 -- a made object is refused, told by its number; those before it are objects
 pub record MadeRefused (s : Settings) (paths : List (List ℕ)) (i : ℕ) (refusal : LinkError) : Type 0 where
   pub count : ℕ
   pub asked : s.generate ≡ Some count
   pub below : i < count
   pub before : (k : ℕ) → k < i → IsObject (generated_object k count)
-  pub last : EndsWith paths (generated_path i)
+  pub last : last_or None paths ≡ Some (generated_path i)
   pub refused : BytesRefused head.Object (generated_object i count) refusal
 
 -- A link is refused: its paths can't be written, which is found before an input is read; or what is told of it stands.
@@ -116,23 +103,24 @@ pub record IsListAsked (told : Option Store) (s : Settings) (word : ℕ) (path :
   pub texts : List (List ℕ)
   pub listed : AllZip (IsListed told) before texts
 
--- the bytes of a path, where none of the paths before it holds a file, begin as no input
-pub record IsUnknown (told : Option Store) (s : Settings) (asked : args.Input) (head : Head) : Type 0 where
-  pub path : List ℕ
-  pub bytes : List ℕ
-  pub found : IsFirstHeld told (candidates_of s asked) path bytes
-  pub is : head_of bytes ≡ head
+-- an input that was asked for has these bytes, which stand under the first of its paths that holds a file
+pub record HasBytes (told : Option Store) (s : Settings) (word : ℕ) (path bytes : List ℕ) : Type 0 where
+  pub input : args.Input
+  pub asked : IsAsked told s word input
+  pub found : IsFirstHeld told (candidates_of s input) path bytes
 
 -- THE causes of the faults of settings, a row for each; `paths` are of files that were read, the last of them an input that is refused.
 -- Want of memory is free.
 abbrev pub JobFails : Option Store → Settings → List (List ℕ) → Failures → Failures → Fault → Type 0
 JobFails told s paths old new (MissingFile word) =
-    ((asked : args.Input) × IsAsked told s word asked × All (IsMissing told) (candidates_of s asked))
-    ⊎ ((list : List ℕ) × IsListAsked told s word list × IsMissing told list)
+    ((asked : args.Input) × IsAsked told s word asked × All (FileIs told None) (candidates_of s asked))
+    ⊎ ((list : List ℕ) × IsListAsked told s word list × FileIs told None list)
 JobFails told s paths old new (UnknownKind word kind) =
-    (asked : args.Input) × IsAsked told s word asked × IsUnknown told s asked (head.Unknown kind)
+    (path : List ℕ) × (bytes : List ℕ) × HasBytes told s word path bytes × (head_of bytes ≡ head.Unknown kind)
 JobFails told s paths old new (Input word refusal) =
-    ((asked : args.Input) × IsAsked told s word asked × InputRefused told s paths asked refusal) ⊎ MadeRefused s paths word refusal
+    ((path : List ℕ) × (bytes : List ℕ) × HasBytes told s word path bytes × (last_or None paths ≡ Some path)
+    × BytesRefused (head_of bytes) bytes refusal)
+    ⊎ MadeRefused s paths word refusal
 JobFails told s paths old new (LinkFault refusal) = LinkRefused told s paths refusal
 JobFails told s paths old new (Words fault) = ⊥
 JobFails told s paths old new (Read word) =

@@ -12,7 +12,7 @@ use Rattle.macho_image.specs.Linkers.{link_of, bytes_of}
 use Rattle.macho_job.specs.declared.heads.Head.{Head}
 use Rattle.macho_job.specs.declared.heads.Head.TheVariants as head
 use Rattle.macho_job.specs.Heads.{head_of}
-use Rattle.macho_job.specs.Search.{candidates_of, HeldAt, IsFirstHeld}
+use Rattle.macho_job.specs.Search.{candidates_of, FileIs, IsFirstHeld}
 use Rattle.macho_job.specs.Generator.{generated_object, generated_path}
 
 -- What is told of the files outside: the directories, the canonical paths, and what stands under each path.
@@ -55,7 +55,7 @@ AreFiles told s (Some n) files = (files ≡ generated_files n) × ((i : ℕ) →
 
 -- the text of an export list stands under its path
 abbrev pub IsListed : Option Store → ℕ × List ℕ → List ℕ → Type 0
-IsListed told asked text = HeldAt told asked.1 text
+IsListed told asked text = FileIs told (Some text) asked.1
 
 -- What settings link, and the paths of its files.
 pub record Links (told : Option Store) (s : Settings) (paths : List (List ℕ)) (l : Link) : Type 0 where

@@ -22,18 +22,14 @@ candidates_of s (file word path) = path ∷ []
 candidates_of s (library word name) = flat_map (library_files name) s.lib_search_path
 candidates_of s (framework word name) = flat_map (framework_files name) s.framework_search_path
 
--- The bytes stand under the path. Where the store isn't told, that is open.
-abbrev pub HeldAt : Option Store → List ℕ → List ℕ → Type 0
-HeldAt told path bytes = IfSome told (λ files. get files path ≡ Some bytes)
-
--- No file stands under the path. Where the store isn't told, that is open.
-abbrev pub IsMissing : Option Store → List ℕ → Type 0
-IsMissing told path = IfSome told (λ files. get files path ≡ None)
+-- What stands under a path: these bytes, or no file. Where the store isn't told, that is open.
+abbrev pub FileIs : Option Store → Option (List ℕ) → List ℕ → Type 0
+FileIs told held path = IfSome told (λ files. get files path ≡ held)
 
 -- Of some paths this one is the first that holds a file, and it holds these bytes.
 pub record IsFirstHeld (told : Option Store) (paths : List (List ℕ)) (path bytes : List ℕ) : Type 0 where
   pub before : List (List ℕ)
   pub behind : List (List ℕ)
   pub split : paths ≡ before ++ path ∷ behind
-  pub missing : All (IsMissing told) before
-  pub held : HeldAt told path bytes
+  pub missing : All (FileIs told None) before
+  pub held : FileIs told (Some bytes) path

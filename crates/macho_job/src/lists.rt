@@ -1,12 +1,12 @@
 //! The export lists of a run.
 
-ghost use Rattle.std.specs.Prelude.{◌≡◌, ℕ, List, [], IfOk, IfErr, OnOk};
+ghost use Rattle.std.specs.Prelude.{◌≡◌, ℕ, List, [], Some, IfOk, IfErr, OnOk};
 ghost use Rattle.macho_args.specs.Settings.{settings_of};
 ghost use Rattle.macho_devices.specs.Devices.{OnlyReads};
 ghost use Rattle.macho_devices.specs.Faults.{CountsOn};
 ghost use Rattle.macho_image.specs.Linkers.{with_export_list};
 ghost use Rattle.macho_job.specs.declared.fault.Fault.TheVariants.{OutOfMemory};
-ghost use Rattle.macho_job.specs.Search.{HeldAt};
+ghost use Rattle.macho_job.specs.Search.{FileIs};
 ghost use Rattle.macho_job.specs.Causes.{JobFails, reading};
 ghost use Rattle.macho_job.specs.steps.Gathering.{HaveLists, ListFails};
 
@@ -44,7 +44,7 @@ fn read_list<F: Files>(
     word: u32,
     path: &str,
 ) -> Result<Vec<u8>, Fault>
-    ensures held { IfOk result (λ text. HeldAt (F.holds files.old) path.now text.items) }
+    ensures held { IfOk result (λ text. FileIs (F.holds files.old) (Some text.items) path.now) }
     ensures why { IfErr result (ListFails (F.holds files.old) word path.now (F.faults files.old) (F.faults files.new)) }
     ensures counted { CountsOn (F.faults files.old) (F.faults files.new) }
     ensures kept { OnlyReads F.directories F.canonical_paths F.holds F.write_faults files.old files.new }

@@ -46,7 +46,6 @@ parts_end l counts p make =
     let laid : IsLaidOut l counts p = record {
       order = make.placed.order;
       least = make.placed.least;
-      low = make.placed.low;
       sections = make.placed.sections;
     } in
     file_parts_end l counts p make.placed.placed.in_order.follow laid
@@ -85,8 +84,8 @@ range_end l counts p r make lies = by (cases_lt r.start r.end) lies.1
 
 pub texts_fit : TextsFitRanges
 texts_fit l counts p make = record {
-  rows = omega (arith, initializers_room l counts p make, are_many l);
-  offsets = λ text is. omega (arith, is.long, initializers_room l counts p make);
+  rows = omega (arith, initializers_room l counts p make.counted make.placed.least.rooms, are_many l);
+  offsets = λ text is. omega (arith, is.long, initializers_room l counts p make.counted make.placed.least.rooms);
   unwind = λ text is. omega (arith, is.room, make.placed.least.rooms.unwind, unwind_counted l counts p make);
   offsets_end = range_end l counts p p.init_offsets make make.placed.placed.in_segment.init_offsets;
   unwind_end = range_end l counts p p.unwind make make.placed.placed.in_segment.unwind;

@@ -24,7 +24,8 @@ use Rattle.macho_unwind.specs.declared.lookup.Found.{Found}
 use Rattle.macho_unwind.specs.Lookup.{UnwindFinds}
 use Rattle.macho_unwind.specs.Entries.{BeginsWith, IsFoundFor}
 use Rattle.macho_unwind.proofs.EntryLookup.{nothing-finds}
-use Rattle.macho_promise.specs.Sizes.{counts_with, unwind_input, unwind_size, text_span}
+use Rattle.macho_model.specs.Order.{HaveRoom}
+use Rattle.macho_promise.specs.Sizes.{AreCounts, counts_with, unwind_input, unwind_size, text_span}
 use Rattle.macho_promise.specs.UnwindSays.{resolved_entries, unwind_bytes, IsUnwindText}
 use Rattle.macho_model.specs.Consumed.{entries_of_link}
 use Rattle.macho_consumed.proofs.Joined.{mapped_agree}
@@ -34,14 +35,14 @@ use Rattle.macho_made.specs.Laws.{OffsetsAreSaid, UnwindIsSaid}
 use Rattle.macho_made.proofs.Passing.{as_many, unwind_counted}
 
 -- the range of initializers has room for their offsets
-initializers_counted : (l : Link) (counts : Counts) (p : Placed) → IsToMake l counts p → counts.initializers ≡ length (initializers_of l)
+initializers_counted : (l : Link) (counts : Counts) → AreCounts l counts → counts.initializers ≡ length (initializers_of l)
 unfolding counts_with
-initializers_counted l counts p make = ap (λ (c : Counts). c.initializers) make.counted.are
+initializers_counted l counts are = ap (λ (c : Counts). c.initializers) are.are
 
-pub initializers_room : (l : Link) (counts : Counts) (p : Placed) → IsToMake l counts p
+pub initializers_room : (l : Link) (counts : Counts) (p : Placed) → AreCounts l counts → HaveRoom counts p
     → p.init_offsets.end ≡ p.init_offsets.start + 4 * length (initializers_of l)
-initializers_room l counts p make =
-    make.placed.least.rooms.initializers ∙ ap (λ (n : ℕ). p.init_offsets.start + 4 * n) (initializers_counted l counts p make)
+initializers_room l counts p are rooms =
+    rooms.initializers ∙ ap (λ (n : ℕ). p.init_offsets.start + 4 * n) (initializers_counted l counts are)
 
 -- an address of the range is in the file where the range is
 in_range_file : (l : Link) (counts : Counts) (p : Placed) (k : ℕ) → IsToMake l counts p → k < length (initializers_of l)
@@ -49,7 +50,7 @@ in_range_file : (l : Link) (counts : Counts) (p : Placed) (k : ℕ) → IsToMake
 in_range_file l counts p k make lt = by make.placed.placed.in_segment.init_offsets.1
   where
     room : p.init_offsets.end ≡ p.init_offsets.start + 4 * length (initializers_of l)
-    room = initializers_room l counts p make
+    room = initializers_room l counts p make.counted make.placed.least.rooms
 
     by : (p.init_offsets.end ≡ p.init_offsets.start) ⊎ LiesInNamed p TEXT true (range_span p.init_offsets)
         → offset_in_file p (p.init_offsets.start + 4 * k) ≡ offset_in_file p p.init_offsets.start + 4 * k
@@ -65,11 +66,9 @@ in_range_file l counts p k make lt = by make.placed.placed.in_segment.init_offse
 
 -- number k of the file
 pub offsets_said : OffsetsAreSaid
-offsets_said l counts p b text make told stands = record {
-  many = initializers_room l counts p make;
-  are = mapped_agree (initializer_at b p) (offset_said p text) (range_with_len 0 (length (initializers_of l)))
-      (λ k has. one k (range_contains (length (initializers_of l)) k has)) ∙ told.are;
-}
+offsets_said l counts p b text make told stands =
+    mapped_agree (initializer_at b p) (offset_said p text) (range_with_len 0 (length (initializers_of l)))
+    (λ k has. one k (range_contains (length (initializers_of l)) k has)) ∙ told.are
   where
     o : ℕ
     o = offset_in_file p p.init_offsets.start
@@ -96,13 +95,17 @@ begins b text o n stands fits =
     }
 
 -- without entries there is no room
-no_room : (l : Link) (counts : Counts) (p : Placed) → IsToMake l counts p → length (resolved_entries l p) ≡ 0
+entries_counted : (l : Link) (counts : Counts) → AreCounts l counts → counts.unwind ≡ unwind_size l
+unfolding counts_with
+entries_counted l counts are = ap (λ (c : Counts). c.unwind) are.are
+
+pub no_room : (l : Link) (counts : Counts) (p : Placed) → AreCounts l counts → HaveRoom counts p → resolved_entries l p ≡ []
     → p.unwind.end ≡ p.unwind.start
-no_room l counts p make none =
-    let zero_entries : (length (entries_of_link l) == 0) ≡ true = eq-eqb _ _ (omega (arith, none, as_many l p)) in
+no_room l counts p are rooms none =
+    let zero_entries : (length (entries_of_link l) == 0) ≡ true = eq-eqb _ _ (omega (arith, ap length none, as_many l p)) in
     let size : unwind_size l ≡ 0 = ap (λ (t : Bool). cond t 0 (unwind_bound_of (map (unwind_input l) (entries_of_link l)) (text_span l)))
     zero_entries in
-    omega (arith, make.placed.least.rooms.unwind, unwind_counted l counts p make, size)
+    omega (arith, rooms.unwind, entries_counted l counts are, size)
 
 unwind_begins : (l : Link) (counts : Counts) (p : Placed) (b text : List ℕ) → IsToMake l counts p → IsUnwindMade l p text
     → Stands b (record { at = offset_in_file p p.unwind.start; text = text }) → BeginsWith (unwind_bytes b p) text
@@ -126,7 +129,6 @@ unwind_said l counts p b text make made stands = record {
     exact = made.exact;
     begins = front;
     finds = λ offset x. (λ finds. by offset x finds made.exact, found offset x);
-    empty = λ none. no_room l counts p make (ap length none);
   };
   content = refl;
 }
@@ -142,5 +144,5 @@ unwind_said l counts p b text make made stands = record {
     by : (offset : ℕ) (x : Found) → UnwindFinds (unwind_bytes b p) offset x → IsUnwindText p.base (resolved_entries l p) text
         → IsFoundFor p.base (resolved_entries l p) offset x
     by offset x finds (inl none) =
-        absurd (nothing-finds (unwind_bytes b p) (no_bytes b p (no_room l counts p make (ap length none.0))) offset x finds)
+        absurd (nothing-finds (unwind_bytes b p) (no_bytes b p (no_room l counts p make.counted make.placed.least.rooms none.0)) offset x finds)
     by offset x finds (inr some) = made.only some.0 (unwind_bytes b p) front offset x finds

@@ -13,3 +13,4 @@ pub mod CommonNumbers
 pub mod ObjectLaws
 pub mod FixedPointers
 pub mod Unrefused
+pub mod Least

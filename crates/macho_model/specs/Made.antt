@@ -27,10 +27,9 @@ initializers_of l = flat_map (initializers_in l) (initializer_sections l)
 abbrev pub initializer_at : List ℕ → Placed → ℕ → ℕ
 initializer_at b p k = p.base + le_at INITIALIZER_SIZE b (offset_in_file p (p.init_offsets.start + INITIALIZER_SIZE * k))
 
--- the range of initializers holds one offset for each, in order, and no more
-pub record InitOffsetsSay (l : Link) (b : List ℕ) (p : Placed) : Type 0 where
-  pub many : p.init_offsets.end ≡ p.init_offsets.start + INITIALIZER_SIZE * length (initializers_of l)
-  pub are : map (initializer_at b p) (range_with_len 0 (length (initializers_of l))) ≡ map (address_of p) (initializers_of l)
+-- the range of initializers, which has room for no more (`HaveRoom`), holds one offset for each, in order
+abbrev pub InitOffsetsSay : Link → List ℕ → Placed → Type 0
+InitOffsetsSay l b p = map (initializer_at b p) (range_with_len 0 (length (initializers_of l))) ≡ map (address_of p) (initializers_of l)
 
 -- the headers of sections with initial values of thread-local variables
 unfoldable pub template_headers : List ℕ → List SectionHeader

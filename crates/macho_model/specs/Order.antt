@@ -1,6 +1,6 @@
 -- In which order the parts of a placement stand, and that each stands as low as it may: so the link and its counts alone tell where each
 -- part stands that isn't empty.
-use Rattle.std.specs.Prelude.{◌≡◌, ℕ, ◌+◌, ◌*◌, ◌-◌, ◌/◌, ◌^◌, ◌≤◌, ◌==◌, ◌&&◌, not, if◌then◌else◌, Bool, List, [], ◌∷◌, length, map, filter, All, AllPairs, sum_by}
+use Rattle.std.specs.Prelude.{◌≡◌, ℕ, ◌+◌, ◌*◌, ◌-◌, ◌/◌, ◌^◌, not, if◌then◌else◌, List, [], ◌∷◌, length, map, filter, All, sum_by}
 use Rattle.std.specs.Str.{bytes_eq}
 use Rattle.std.specs.List.{range_with_len}
 use Rattle.macho_records.specs.Numbers.{rounded_up}
@@ -13,7 +13,7 @@ use Rattle.macho_model.specs.Links.{Link, carried_of, greatest}
 use Rattle.macho_model.specs.Resolution.{chosen_commons}
 use Rattle.macho_model.specs.Segments.{PAGEZERO, TEXT, LINKEDIT, SEGMENT_PAGE, PAGEZERO_SIZE, may_hold_pointers, segment_names_of}
 use Rattle.macho_model.specs.WrittenSum.{FIXUP_RECORDS, INITIALIZER_SIZE, SYMBOL_SIZE, SIGNED_PAGE, DIGEST_SIZE, SIGNATURE_FIXED}
-use Rattle.macho_model.specs.Placement.{Placed, id_of, head_size, is_segment_named, range_span, linkedit_ranges}
+use Rattle.macho_model.specs.Placement.{Placed, id_of, head_size, is_segment_named, range_span}
 use Rattle.macho_model.specs.OutputSections.{OutputSection, output_sections_in, output_sections_of, is_zeros, key_of_output, Piece, piece, end_of_piece, pieces_of, extent_of, POINTER_EXPONENT}
 
 -- what stands first in a segment: header, commands and padding in `__TEXT`, nothing in any other
@@ -39,10 +39,7 @@ table_pieces p =
     ∷ piece POINTER_EXPONENT (range_span p.linkedit.symtab) ∷ piece 0 (range_span p.linkedit.strtab)
     ∷ piece 4 (range_span p.linkedit.signature) ∷ []
 
-abbrev pub EndsBefore : Piece → Piece → Type 0
-EndsBefore c d = end_of_piece c ≤ d.start
-
--- THE order of a placement.
+-- THE order of what a placement lists. That pieces and tables stand one behind the other is part of their least places, `AreLeast`.
 pub record StandInOrder (l : Link) (counts : Counts) (p : Placed) : Type 0 where
   -- the segments are those of the link, their names filled with zeros
   pub segments : map (λ s. text_of s.name) p.segments ≡ segment_names_of l
@@ -50,12 +47,6 @@ pub record StandInOrder (l : Link) (counts : Counts) (p : Placed) : Type 0 where
   -- sections are listed by file, then section, and commons by number
   pub sections : map id_of p.sections ≡ carried_of l
   pub commons : map (λ c. c.id) p.commons ≡ range_with_len 0 (length (chosen_commons l))
-  -- in a segment stand its front and its output sections, one behind the other
-  pub rows : All (λ s. AllPairs EndsBefore (row_of l counts p s (sections_in l counts s))) p.segments
-  -- and in an output section its pieces
-  pub pieces : All (λ o. AllPairs EndsBefore (pieces_of l p o)) (output_sections_of l counts)
-  -- the tables of `__LINKEDIT` stand in the order of their commands, the signature last
-  pub tables : AllPairs EndsBefore (table_pieces p)
 
 -- a piece begins at the least multiple of its alignment that is not below the end of the one before it
 abbrev pub BeginsLeast : Piece → Piece → Type 0
@@ -109,20 +100,14 @@ pub record HaveRoom (counts : Counts) (p : Placed) : Type 0 where
 
 -- THE least places: nothing stands higher than what is in front of it, its alignment and its room ask for.
 pub record AreLeast (l : Link) (counts : Counts) (p : Placed) : Type 0 where
+  -- the first segment begins the file
+  pub front : (s : PlacedSegment) → IsNumber p.segments 0 s → s.file_offset ≡ 0
+  -- in a segment stand its front and its output sections, one behind the other, and in an output section its pieces
   pub rows : All (λ s. EachNext BeginsLeast (row_of l counts p s (sections_in l counts s))) p.segments
   pub pieces : All (λ o. EachNext BeginsLeast (pieces_of l p o)) (output_sections_of l counts)
+  -- the tables of `__LINKEDIT` stand in the order of their commands, the signature last
   pub tables : EachNext BeginsLeast (table_pieces p)
   -- a segment ends with the page of its last piece, its file bytes with that of its last data
   pub sizes : All (λ s. s.size ≡ least_size l counts p s) p.segments
   pub file_sizes : All (λ s. s.file_size ≡ least_file_size l counts p s) p.segments
   pub rooms : HaveRoom counts p
-
--- a table lies in the file bytes of `__LINKEDIT`, an empty one too
-abbrev pub LiesInFile : List PlacedSegment → Range64 → Type 0
-LiesInFile segments r =
-    All (λ s. (s.file_offset ≤ r.start) × (r.start ≤ r.end) × (r.end ≤ s.file_offset + s.file_size)) (filter (is_segment_named LINKEDIT) segments)
-
--- What the placement relation leaves free: the file offset of the first segment, and where an empty table stands.
-pub record IsLow (p : Placed) : Type 0 where
-  pub front : (s : PlacedSegment) → IsNumber p.segments 0 s → s.file_offset ≡ 0
-  pub tables : All (LiesInFile p.segments) (linkedit_ranges p)

@@ -59,15 +59,9 @@ is_known_segment name =
 unfoldable pub other_segments : Link → List (List ℕ)
 other_segments l = filter (λ name. not (is_known_segment name)) (distinct bytes_eq (map (segment_name l) (carried_of l)))
 
--- The rank of a segment: `__PAGEZERO`, `__TEXT`, `__DATA_CONST`, `__DATA`, the others as first seen, `__LINKEDIT`.
+-- The rank of a segment: its place among these, the others as first seen, and behind all of them `__LINKEDIT`.
 unfoldable pub segment_rank : Link → List ℕ → ℕ
-segment_rank l name =
-    if bytes_eq name PAGEZERO then 0
-    else if bytes_eq name TEXT then 1
-    else if bytes_eq name DATA_CONST then 2
-    else if bytes_eq name DATA then 3
-    else if bytes_eq name LINKEDIT then 5 + length (other_segments l)
-    else 4 + position_or_len (bytes_eq name) (other_segments l)
+segment_rank l name = position_or_len (bytes_eq name) (PAGEZERO ∷ TEXT ∷ DATA_CONST ∷ DATA ∷ other_segments l)
 
 abbrev pub has_section_in : Link → List ℕ → Bool
 has_section_in l name = list_any (λ s. bytes_eq (segment_name l s) name) (carried_of l)

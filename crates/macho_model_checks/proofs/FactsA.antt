@@ -178,7 +178,7 @@ unfolding header_of commands_from commands_of commands_end segment_of num_sectio
     le_bytes row_bytes reading words8 words name16 object_a
 names_a = refl
 
-pub ranks_a : map (segment_rank link_a) (codes "__PAGEZERO" ∷ codes "__TEXT" ∷ codes "__LINKEDIT" ∷ []) ≡ 0 ∷ 1 ∷ 5 ∷ []
+pub ranks_a : map (segment_rank link_a) (codes "__PAGEZERO" ∷ codes "__TEXT" ∷ codes "__LINKEDIT" ∷ []) ≡ 0 ∷ 1 ∷ 4 ∷ []
 unfolding header_of commands_from commands_of commands_end segment_of num_sections section_place section_at section_bytes symtab_of
     num_symbols symbol_place symbol_at strings_of symbol_name relocation_place relocation_at sections_of carried_of template_exponent
     placed_exponent symbols_of strong_of weak_of commons_of greatest_of libraries_with definition_of chosen_commons

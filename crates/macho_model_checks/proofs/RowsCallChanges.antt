@@ -38,8 +38,7 @@ use Rattle.macho_trie.specs.Exports.{Exported, as_value, as_reexport}
 use Rattle.macho_trie.specs.Nodes.{Node, node_at, terminal_at, terminal_between, export_in, edges_at, edge_at, ended_name}
 use Rattle.macho_trie.specs.Lookup.{Finds, trie_finds}
 use Rattle.macho_promise.specs.TrieSays.{table_bytes, TrieSays}
-use Rattle.macho_model.specs.Consumed.{entries_of_link}
-use Rattle.macho_promise.specs.UnwindSays.{resolved_entries, UnwindSays}
+use Rattle.macho_model.specs.Order.{HaveRoom}
 use Rattle.macho_records.specs.declared.header.SectionHeader.{SectionHeader}
 use Rattle.macho_model.specs.Stands.{IsAt}
 use Rattle.macho_promise.specs.Promise.{IsLaidOut}
@@ -138,23 +137,12 @@ entry_is_asked agrees =
     let place = code_is_at (base_of with_another_entry + enters.0 + 0) there in
     absurd (omega (arith, offset, place, entry_facts.1))
 
--- of the placement the range of unwind information: without entries there is none
+-- of the placement the range of unwind information: without entries it has no room
 abbrev pub with_range : Placed
 with_range = record placed_call { unwind = range 0x1000003ac 0x1000003b0 }
 
-none_resolved : resolved_entries calling with_range ≡ []
-unfolding commands_end commands_of commands_from header_of reading le_at row_bytes le_bytes words8 words halves name16 entry calls_exit
-    head_of_call fixups_of_call tables_of_call be_at be_bytes big_words signature_of_call call_image segment_of num_sections section_place
-    section_at section_bytes symtab_of num_symbols symbol_place symbol_at strings_of symbol_name relocation_place relocation_at
-    sections_of carried_of template_exponent placed_exponent symbols_of strong_of weak_of commons_of greatest_of libraries_with
-    definition_of chosen_commons initializer_sections unwind_sections uses_of imports_of libraries_needed target_of
-    target_of_relocation slots_of stubs_of fields_of plain_entries all_entries entries_of other_segments segment_names_of
-    output_keys_of table_symbols output_sections_of output_sections_for pieces_of
-    segments_for entries_of_link resolved_entries
-none_resolved = refl
-
-pub range_is_asked : UnwindSays calling call_image with_range → ⊥
-range_is_asked says = absurd (let none = says.empty none_resolved in omega (arith, none))
+pub range_is_asked : HaveRoom counts_of_call with_range → ⊥
+range_is_asked rooms = omega (arith, rooms.unwind)
 
 -- of the placement the place of the data, which its section header tells otherwise
 abbrev pub data_higher : Placed

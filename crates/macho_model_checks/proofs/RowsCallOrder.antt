@@ -1,19 +1,16 @@
 -- The placement of a link with an import stands in order, as low as it may. By computing.
 --
--- Neighbours and pairs are tested on the pieces that the link and the placement have: `__TEXT` with its head, the code and the stub,
+-- Neighbours are tested on the pieces that the link and the placement have: `__TEXT` with its head, the code and the stub,
 -- `__DATA_CONST` with the slot, and the five tables of `__LINKEDIT`. A test that passes shows what it tests.
-use Rattle.std.proofs.Common.{◌≡◌, ℕ, zero, suc, ◌+◌, ◌^◌, ◌≤◌, ◌==◌, ◌&&◌, nat_le, Bool, true, List, [], ◌∷◌, get_or, refl, ap, ◌∙◌}
-use Rattle.std.proofs.Common.{subst, arith, rules}
-use Rattle.std.proofs.lemmas.Bool.Decides.{nat_tests}
-use Rattle.std.specs.List.{All, AllPairs, list_all}
-use Rattle.std.proofs.lemmas.List.Kept.{AllPairs-cons}
+use Rattle.std.proofs.Common.{◌≡◌, ℕ, zero, suc, ◌+◌, ◌^◌, ◌==◌, ◌&&◌, Bool, true, List, [], ◌∷◌, get_or, refl, ap, ◌∙◌}
+use Rattle.std.proofs.Common.{subst, arith}
+use Rattle.std.specs.List.{list_all}
 use Rattle.macho_bytes.specs.Numbers.{rounded_up}
 use Rattle.macho_model.specs.declared.placed.PlacedSegment.{PlacedSegment}
 use Rattle.macho_model.specs.Lists.{EachNext}
-use Rattle.macho_model.specs.Placement.{linkedit_ranges}
 use Rattle.macho_model.specs.OutputSections.{OutputSection, Piece, end_of_piece}
-use Rattle.macho_model.specs.Order.{sections_in, row_of, table_pieces, EndsBefore, BeginsLeast, StandInOrder, AreLeast, least_size}
-use Rattle.macho_model.specs.Order.{least_file_size, HaveRoom, LiesInFile, IsLow}
+use Rattle.macho_model.specs.Order.{sections_in, row_of, table_pieces, BeginsLeast, StandInOrder, AreLeast, least_size}
+use Rattle.macho_model.specs.Order.{least_file_size, HaveRoom}
 use Rattle.macho_model.proofs.EachBelow.{and_left, and_right, is_equal, all_pass}
 use Rattle.macho_model_checks.proofs.ExampleCall.{calls_exit, calling, counts_of_call, placed_call, head_of_call, fixups_of_call}
 use Rattle.macho_model_checks.proofs.ExampleCall.{tables_of_call, big_words, signature_of_call, call_image}
@@ -36,13 +33,6 @@ use Rattle.macho_model_checks.proofs.Examples.{words8, words, halves, name16}
 use Rattle.macho_model_checks.proofs.ExampleLinks.{entry}
 
 -- pieces that pass the tests stand one behind the other, each as low as it may
-abbrev pub are_behind : Piece → List Piece → Bool
-are_behind c cs = list_all (λ d. nat_le (end_of_piece c) d.start) cs
-
-abbrev pub are_ordered : List Piece → Bool
-are_ordered [] = true
-are_ordered (c ∷ cs) = are_behind c cs && are_ordered cs
-
 abbrev pub is_next : Piece → Piece → Bool
 is_next c d = d.start == rounded_up (2 ^ d.exponent) (end_of_piece c)
 
@@ -50,17 +40,6 @@ abbrev pub are_least : List Piece → Bool
 are_least [] = true
 are_least (c ∷ []) = true
 are_least (c ∷ d ∷ cs) = is_next c d && are_least (d ∷ cs)
-
-le_of : (m n : ℕ) → nat_le m n ≡ true → m ≤ n
-le_of m n h = grind (arith, nat_tests)
-
-pub ordered_pieces : (cs : List Piece) → are_ordered cs ≡ true → AllPairs EndsBefore cs
-ordered_pieces [] h = λ i j d lt within. absurd (omega arith)
-ordered_pieces (c ∷ cs) h =
-    AllPairs-cons EndsBefore c cs
-    (λ k d lt. le_of (end_of_piece c) (get_or cs k d).start
-    (all_pass (λ x. nat_le (end_of_piece c) x.start) cs (and_left (are_behind c cs) (are_ordered cs) h) k d lt))
-    (ordered_pieces cs (and_right (are_behind c cs) (are_ordered cs) h))
 
 pub least_pieces : (cs : List Piece) → are_least cs ≡ true → EachNext BeginsLeast cs
 least_pieces [] h k x y one next = absurd (omega (arith, one.0))
@@ -90,19 +69,6 @@ abbrev pub file_size_in_call : PlacedSegment → ℕ
 file_size_in_call s = least_file_size calling counts_of_call placed_call s
 
 -- all of it is computed
-order_computed : (list_all (λ (s : PlacedSegment). are_ordered (row_in_call s)) placed_call.segments ≡ true)
-    × (list_all (λ (o : OutputSection). are_ordered (pieces_in_call o)) outputs_of_call ≡ true)
-    × (are_ordered (table_pieces placed_call) ≡ true)
-unfolding commands_end commands_of commands_from header_of reading le_at row_bytes le_bytes words8 words halves name16 entry calls_exit
-    head_of_call fixups_of_call tables_of_call be_at be_bytes big_words signature_of_call call_image segment_of num_sections section_place
-    section_at section_bytes symtab_of num_symbols symbol_place symbol_at strings_of symbol_name relocation_place relocation_at
-    sections_of carried_of template_exponent placed_exponent symbols_of strong_of weak_of commons_of greatest_of libraries_with
-    definition_of chosen_commons initializer_sections unwind_sections uses_of imports_of libraries_needed target_of
-    target_of_relocation slots_of stubs_of fields_of plain_entries all_entries entries_of other_segments segment_names_of
-    output_keys_of table_symbols output_sections_of output_sections_for pieces_of
-    segments_for row_of
-order_computed = (refl, refl, refl)
-
 least_computed : (list_all (λ (s : PlacedSegment). are_least (row_in_call s)) placed_call.segments ≡ true)
     × (list_all (λ (o : OutputSection). are_least (pieces_in_call o)) outputs_of_call ≡ true)
     × (are_least (table_pieces placed_call) ≡ true)
@@ -136,18 +102,12 @@ call_stands_in_order = record {
   names = refl;
   sections = refl;
   commons = refl;
-  rows = λ k d lt. ordered_pieces (row_in_call (get_or placed_call.segments k d))
-      (all_pass (λ (s : PlacedSegment). are_ordered (row_in_call s)) placed_call.segments
-      order_computed.0 k d lt);
-  pieces = λ k d lt. ordered_pieces (pieces_in_call (get_or outputs_of_call k d))
-      (all_pass (λ (o : OutputSection). are_ordered (pieces_in_call o)) outputs_of_call
-      order_computed.1 k d lt);
-  tables = ordered_pieces (table_pieces placed_call) order_computed.2;
 }
 
 -- THE least places
 pub call_is_least : AreLeast calling counts_of_call placed_call
 call_is_least = record {
+  front = λ s one. subst (λ (x : PlacedSegment). x.file_offset ≡ 0) one.1 refl;
   rows = λ k d lt. least_pieces (row_in_call (get_or placed_call.segments k d))
       (all_pass (λ (s : PlacedSegment). are_least (row_in_call s)) placed_call.segments least_computed.0 k d lt);
   pieces = λ k d lt. least_pieces (pieces_in_call (get_or outputs_of_call k d))
@@ -159,13 +119,3 @@ call_is_least = record {
       (all_pass (λ (s : PlacedSegment). s.file_size == file_size_in_call s) placed_call.segments least_computed.4 k d lt);
   rooms = call_rooms;
 }
-
--- and what the placement relation leaves free
-pub call_is_low : IsLow placed_call
-call_is_low = record {
-  front = λ s one. subst (λ (x : PlacedSegment). x.file_offset ≡ 0) one.1 refl;
-  tables = in_file;
-}
-  where
-    in_file : All (LiesInFile placed_call.segments) (linkedit_ranges placed_call)
-    in_file = search rules

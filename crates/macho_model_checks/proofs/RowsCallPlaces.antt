@@ -1,15 +1,16 @@
 -- Changes of the placement of a link with an import, each of which breaks its order or its least places.
 --
--- A gap: the data stands eight bytes higher than it may, and its section header with it; order, section headers and tables are as
+-- A gap: the data stands eight bytes higher than it may, and its section header with it; what is listed, and section headers, are as
 -- asked. Two sections exchanged: in the list of sections, where the places stay least; and in `__TEXT`, where the stub stands in front
 -- of the code.
 use Rattle.std.proofs.Common.{◌≡◌, ℕ, ◌≤◌, ◌==◌, ◌&&◌, Bool, true, List, [], ◌∷◌, get_or, map, refl, sym, ap, ◌∙◌, subst, arith}
 use Rattle.std.specs.List.{All, AllPairs, list_all}
 use Rattle.macho_model.specs.declared.placed.PlacedSegment.{PlacedSegment}
-use Rattle.macho_model.specs.Lists.{EachNext}
+use Rattle.macho_model.specs.Lists.{IsNumber, EachNext}
 use Rattle.macho_model.specs.OutputSections.{OutputSection, Piece}
-use Rattle.macho_model.specs.Order.{sections_in, row_of, table_pieces, EndsBefore, BeginsLeast, StandInOrder, AreLeast, least_size}
-use Rattle.macho_model.specs.Order.{least_file_size, HaveRoom, IsLow}
+use Rattle.macho_model.specs.Order.{sections_in, row_of, table_pieces, BeginsLeast, StandInOrder, AreLeast, least_size}
+use Rattle.macho_model.specs.Order.{least_file_size, HaveRoom}
+use Rattle.macho_model.proofs.Least.{EndsBefore, rows_in_order}
 use Rattle.macho_model.proofs.EachBelow.{and_left, and_right, is_equal, all_pass}
 use Rattle.macho_model_checks.proofs.ExampleCall.{calls_exit, calling, counts_of_call, placed_call, code_placed, data_placed, stub_placed}
 use Rattle.macho_model_checks.proofs.ExampleCall.{data_segment, stubs_header, slots_header, data_header, head_of_call, fixups_of_call}
@@ -32,19 +33,13 @@ use Rattle.macho_model.specs.SymbolTable.{table_symbols}
 use Rattle.macho_model_checks.proofs.Examples.{words8, words, halves, name16}
 use Rattle.macho_model_checks.proofs.ExampleLinks.{entry}
 use Rattle.macho_model_checks.proofs.ExamplePlacement.{header_a, section_a, text_from}
-use Rattle.macho_model_checks.proofs.RowsCallOrder.{are_ordered, are_least, ordered_pieces, least_pieces, outputs_of_call, call_is_low}
+use Rattle.macho_model_checks.proofs.RowsCallOrder.{are_least, least_pieces, outputs_of_call, call_is_least}
 use Rattle.macho_model.specs.Links.{SectionId}
 use Rattle.macho_model.specs.Placement.{Placed, id_of}
 
 -- what the link has with a placement
 abbrev row_with : Placed → PlacedSegment → List Piece
 row_with p s = row_of calling counts_of_call p s (sections_in calling counts_of_call s)
-
-abbrev are_rows_ordered : Placed → Bool
-are_rows_ordered p = list_all (λ (s : PlacedSegment). are_ordered (row_with p s)) p.segments
-
-abbrev are_pieces_ordered : Placed → Bool
-are_pieces_ordered p = list_all (λ (o : OutputSection). are_ordered (pieces_of calling p o)) outputs_of_call
 
 abbrev are_rows_least : Placed → Bool
 are_rows_least p = list_all (λ (s : PlacedSegment). are_least (row_with p s)) p.segments
@@ -57,20 +52,11 @@ are_sizes_least p =
     list_all (λ (s : PlacedSegment). (s.size == least_size calling counts_of_call p s)
     && (s.file_size == least_file_size calling counts_of_call p s)) p.segments
 
--- placements that pass the tests stand in order, and as low as they may
-rows_in_order : (p : Placed) → are_rows_ordered p ≡ true
-    → All (λ s. AllPairs EndsBefore (row_of calling counts_of_call p s (sections_in calling counts_of_call s))) p.segments
-rows_in_order p h k d lt =
-    ordered_pieces (row_with p (get_or p.segments k d)) (all_pass (λ (s : PlacedSegment). are_ordered (row_with p s)) p.segments h k d lt)
-
-pieces_in_order : (p : Placed) → are_pieces_ordered p ≡ true → All (λ o. AllPairs EndsBefore (pieces_of calling p o)) outputs_of_call
-pieces_in_order p h k d lt =
-    ordered_pieces (pieces_of calling p (get_or outputs_of_call k d))
-    (all_pass (λ (o : OutputSection). are_ordered (pieces_of calling p o)) outputs_of_call h k d lt)
-
-least_places : (p : Placed) → are_rows_least p ≡ true → are_pieces_least p ≡ true → are_least (table_pieces p) ≡ true
-    → are_sizes_least p ≡ true → HaveRoom counts_of_call p → AreLeast calling counts_of_call p
-least_places p rows pieces tables sizes rooms = record {
+-- placements that pass the tests stand as low as they may
+least_places : (p : Placed) → ((s : PlacedSegment) → IsNumber p.segments 0 s → s.file_offset ≡ 0) → are_rows_least p ≡ true
+    → are_pieces_least p ≡ true → are_least (table_pieces p) ≡ true → are_sizes_least p ≡ true → HaveRoom counts_of_call p → AreLeast calling counts_of_call p
+least_places p front rows pieces tables sizes rooms = record {
+  front = front;
   rows = λ k d lt. least_pieces (row_with p (get_or p.segments k d))
       (all_pass (λ (s : PlacedSegment). are_least (row_with p s)) p.segments rows k d lt);
   pieces = λ k d lt. least_pieces (pieces_of calling p (get_or outputs_of_call k d))
@@ -109,8 +95,7 @@ front_of_data = piece 0x100008000 0 0
 abbrev data_extent : Piece
 data_extent = piece 0x100008008 8 3
 
-gap_facts : (are_rows_ordered with_gap ≡ true) × (are_pieces_ordered with_gap ≡ true) × (are_ordered (table_pieces with_gap) ≡ true)
-    × (row_with with_gap data_segment ≡ front_of_data ∷ data_extent ∷ [])
+gap_row : row_with with_gap data_segment ≡ front_of_data ∷ data_extent ∷ []
 unfolding commands_end commands_of commands_from header_of reading le_at row_bytes le_bytes words8 words halves name16 entry calls_exit
     head_of_call fixups_of_call tables_of_call be_at be_bytes big_words signature_of_call call_image segment_of num_sections section_place
     section_at section_bytes symtab_of num_symbols symbol_place symbol_at strings_of symbol_name relocation_place relocation_at
@@ -119,9 +104,9 @@ unfolding commands_end commands_of commands_from header_of reading le_at row_byt
     target_of_relocation slots_of stubs_of fields_of plain_entries all_entries entries_of other_segments segment_names_of
     output_keys_of table_symbols output_sections_of output_sections_for pieces_of
     segments_for row_of
-gap_facts = (refl, refl, refl, refl)
+gap_row = refl
 
--- it stands in order, its section headers are those of the link, and its tables lie in the file
+-- it is listed in order, and its section headers are those of the link
 pub gap_in_order : StandInOrder calling counts_of_call with_gap
 unfolding commands_end commands_of commands_from header_of reading le_at row_bytes le_bytes words8 words halves name16 entry calls_exit
     head_of_call fixups_of_call tables_of_call be_at be_bytes big_words signature_of_call call_image segment_of num_sections section_place
@@ -136,9 +121,6 @@ gap_in_order = record {
   names = refl;
   sections = refl;
   commons = refl;
-  rows = rows_in_order with_gap gap_facts.0;
-  pieces = pieces_in_order with_gap gap_facts.1;
-  tables = ordered_pieces (table_pieces with_gap) gap_facts.2;
 }
 
 pub gap_in_headers : with_gap.output_sections ≡ output_sections_for calling counts_of_call with_gap
@@ -152,12 +134,9 @@ unfolding commands_end commands_of commands_from header_of reading le_at row_byt
     segments_for row_of
 gap_in_headers = refl
 
-pub gap_is_low : IsLow with_gap
-gap_is_low = record { front = call_is_low.front; tables = call_is_low.tables }
-
 pub least_is_asked : AreLeast calling counts_of_call with_gap → ⊥
 least_is_asked least =
-    let next = subst (λ (row : List Piece). EachNext BeginsLeast row) gap_facts.3 (least.rows 3 data_segment (omega arith)) in
+    let next = subst (λ (row : List Piece). EachNext BeginsLeast row) gap_row (least.rows 3 data_segment (omega arith)) in
     let place : 0x100008008 ≡ 0x100008000 = next 0 front_of_data data_extent (omega arith, refl) (omega arith, refl) in
     omega (arith, place)
 
@@ -193,7 +172,7 @@ exchanged_rooms = record {
 -- each part has its least place
 pub exchanged_is_least : AreLeast calling counts_of_call with_list_exchanged
 exchanged_is_least =
-    least_places with_list_exchanged exchanged_facts.0 exchanged_facts.1 exchanged_facts.2 exchanged_facts.3 exchanged_rooms
+    least_places with_list_exchanged call_is_least.front exchanged_facts.0 exchanged_facts.1 exchanged_facts.2 exchanged_facts.3 exchanged_rooms
 
 pub list_order_is_asked : StandInOrder calling counts_of_call with_list_exchanged → ⊥
 list_order_is_asked order =
@@ -223,8 +202,9 @@ unfolding commands_end commands_of commands_from header_of reading le_at row_byt
     segments_for row_of
 places_row = refl
 
-pub order_is_asked : StandInOrder calling counts_of_call with_places_exchanged → ⊥
-order_is_asked order =
-    let pairs = subst (λ (row : List Piece). AllPairs EndsBefore row) places_row (order.rows 1 data_segment (omega arith)) in
+pub order_is_asked : AreLeast calling counts_of_call with_places_exchanged → ⊥
+order_is_asked least =
+    let pairs = subst (λ (row : List Piece). AllPairs EndsBefore row) places_row
+    (rows_in_order calling counts_of_call with_places_exchanged least 1 data_segment (omega arith)) in
     let behind : 0x1000003ac ≤ 0x100000398 = pairs 1 2 (piece 0 0 0) (omega arith) (omega arith) in
     omega (arith, behind)

@@ -53,5 +53,4 @@ call_unwind = record {
         let header : 28 ≤ length (unwind_bytes call_image placed_call) = finds.tables.header in omega (arith, ap length no_bytes, header)),
     λ is. absurd (omega (arith, ap length no_entries, is.of_offset.one.1)),
   );
-  empty = λ none. refl;
 }

@@ -46,7 +46,7 @@ unfolding header_of commands_from commands_of commands_end segment_of num_sectio
     initializer_sections unwind_sections uses_of imports_of libraries_needed target_of target_of_relocation slots_of stubs_of
     fields_of plain_entries all_entries entries_of le_at le_bytes row_bytes reading words8 words halves name16 entry
     text_object data_object initializers_object offset_in_file section_address initializers_of offsets_file
-offsets_are_said = record { many = refl; are = refl }
+offsets_are_said = refl
 
 offsets_there :
     (map (initializer_at (offsets_file 20) placed_initializers) (range_with_len 0 (length (initializers_of two_initializers)))
@@ -63,7 +63,7 @@ offsets_there = (refl, refl)
 -- another offset is refused
 pub offset_is_asked : InitOffsetsSay two_initializers (offsets_file 20) placed_initializers → ⊥
 offset_is_asked says =
-    let second : 0x100000014 ≡ 0x100000010 = ap (λ (ns : List ℕ). get_or ns 1 0) (sym offsets_there.0 ∙ says.are ∙ offsets_there.1) in
+    let second : 0x100000014 ≡ 0x100000010 = ap (λ (ns : List ℕ). get_or ns 1 0) (sym offsets_there.0 ∙ says ∙ offsets_there.1) in
     absurd (omega (arith, second))
 
 -- a file of one segment with data, initial values and zeros of thread-local variables

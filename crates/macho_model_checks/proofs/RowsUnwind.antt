@@ -30,7 +30,7 @@ use Rattle.macho_unwind_pages.specs.Entries.{AreEntries, IsLast, inputs_of, ids_
 use Rattle.macho_unwind_pages.specs.Orders.{in_order, put_in_order}
 use Rattle.macho_unwind_pages.specs.Plans.{PageList, PlanList, IsPage, IsPlan, IsPlanOf, AreLocals, HasSlot}
 use Rattle.macho_unwind_pages.proofs.OnePlan.{plans_are_one}
-use Rattle.macho_unwind.specs.Texts.{section_text, page_text, HasPlaces}
+use Rattle.macho_unwind.specs.Texts.{section_text, page_text}
 use Rattle.macho_unwind.specs.declared.lookup.Found.{Found}
 use Rattle.macho_unwind.specs.Lookup.{UnwindFinds}
 use Rattle.macho_unwind.specs.Entries.{IsSectionOf, IsFoundFor, BeginsWith}
@@ -153,15 +153,11 @@ text_there : section_text plan_there ≡ unwind_section
 unfolding spelling words halves le_bytes row_bytes unwind_section section_text page_text
 text_there = refl
 
-places_there : HasPlaces plan_there
-places_there = record { some = omega arith; fits = omega arith }
-
 section_is_theirs : IsSectionOf 0x100000000 functions unwind_section
 section_is_theirs = record {
   plan = plan_there;
   of_entries = plan_is_theirs;
-  one = λ other is. plans_are_one 0x100000000 functions other plan_there (omega arith) is plan_is_theirs;
-  places = places_there;
+  near = omega arith;
   is = sym text_there;
 }
 
@@ -179,7 +175,7 @@ begins_there = rw range_there (record { within = omega (arith, long_section); sa
 finds_there : (offset : ℕ) (x : Found)
     → UnwindFinds (unwind_bytes unwind_file placed_unwind) offset x ↔ IsFoundFor 0x100000000 functions offset x
 finds_there offset x = (
-  finds-only-entries 0x100000000 functions unwind_section they_are_entries section_is_theirs (unwind_bytes unwind_file placed_unwind)
+  finds-only-entries 0x100000000 functions unwind_section they_are_entries (omega arith) section_is_theirs (unwind_bytes unwind_file placed_unwind)
       begins_there offset x,
   λ is. subst (λ (y : Found). UnwindFinds (unwind_bytes unwind_file placed_unwind) offset y) (sym is.is)
       (finds-entries 0x100000000 functions unwind_section they_are_entries section_is_theirs (unwind_bytes unwind_file placed_unwind)
@@ -193,7 +189,6 @@ entry_is_said = record {
   exact = rw resolved_are (inr (omega arith, section_is_theirs));
   begins = begins_there;
   finds = rw resolved_are finds_there;
-  empty = λ none. absurd (omega (arith, ap length (sym resolved_are ∙ none)));
 }
 
 -- entries have one plan, so they have one text

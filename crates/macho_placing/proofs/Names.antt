@@ -13,7 +13,7 @@ use Rattle.std.proofs.lemmas.List.Elements.{All-nil, All-cons, All-head, All-tai
 use Rattle.std.proofs.lemmas.List.Elements.{filter_passes, filter_agree}
 use Rattle.std.proofs.lemmas.List.Folds.{length-prefix_len}
 use Rattle.std.proofs.lemmas.List.Kept.{AllPairs-cons, AllPairs-filter}
-use Rattle.std.proofs.lemmas.List.Sums.{position_or_len_is, prefix_len-le-length, prefix_len_is, prefix_len_passes}
+use Rattle.std.proofs.lemmas.List.Sums.{position_or_len_is, prefix_len_is, prefix_len_passes}
 use Rattle.macho_bytes.specs.Texts.{name_of}
 use Rattle.macho_records.specs.declared.segments.SegmentName.{SegmentName}
 use Rattle.macho_records.specs.Segments.{name_field}
@@ -211,7 +211,7 @@ unknown_rank l n h =
     let b = or_parts (bytes_eq n PAGEZERO || bytes_eq n TEXT || bytes_eq n DATA_CONST) (bytes_eq n DATA) a.0 in
     let c = or_parts (bytes_eq n PAGEZERO || bytes_eq n TEXT) (bytes_eq n DATA_CONST) b.0 in
     let d = or_parts (bytes_eq n PAGEZERO) (bytes_eq n TEXT) c.0 in
-    rw (d.0, d.1, c.1, b.1, a.1) refl
+    rw (d.0, d.1, c.1, b.1) (omega arith)
 
 pub text_rank : (l : Link) → segment_rank l TEXT ≡ 1
 unfolding segment_rank
@@ -229,9 +229,19 @@ pub zero_rank : (l : Link) → segment_rank l PAGEZERO ≡ 0
 unfolding segment_rank
 zero_rank l = refl
 
-pub last_rank : (l : Link) → segment_rank l LINKEDIT ≡ 5 + length (other_segments l)
+-- that of `__LINKEDIT`, which isn't among the others
+last_place : (names : List (List ℕ)) → All (λ n. is_known_segment n ≡ false) names → position_or_len (bytes_eq LINKEDIT) names ≡ length names
+last_place names unknown =
+    position_or_len_is (bytes_eq LINKEDIT) names (length names) [] (omega arith)
+    (λ k low.
+    let n : List ℕ = get_or names k [] in
+    bytes_turn LINKEDIT n ∙ (or_parts (bytes_eq n PAGEZERO || bytes_eq n TEXT || bytes_eq n DATA_CONST || bytes_eq n DATA) (bytes_eq n LINKEDIT)
+    (unknown k [] low)).1)
+    (λ low. absurd (omega (arith, low)))
+
+pub last_rank : (l : Link) → segment_rank l LINKEDIT ≡ 4 + length (other_segments l)
 unfolding segment_rank
-last_rank l = refl
+last_rank l = omega (arith, last_place (other_segments l) (others_unknown l))
 
 abbrev pub RanksRise : Link → List ℕ → List ℕ → Type 0
 RanksRise l a b = segment_rank l a < segment_rank l b
@@ -253,11 +263,12 @@ others_rise l i j d before within =
     )
 
 -- the ranks of the other segments
-pub others_between : (l : Link) → All (λ n. (4 ≤ segment_rank l n) × (segment_rank l n < 5 + length (other_segments l))) (other_segments l)
+pub others_between : (l : Link) → All (λ n. (4 ≤ segment_rank l n) × (segment_rank l n < 4 + length (other_segments l))) (other_segments l)
 others_between l k d low =
     let u = unknown_rank l (get_or (other_segments l) k d) (others_unknown l k d low) in
-    let most = prefix_len-le-length (λ x. not (bytes_eq (get_or (other_segments l) k d) x)) (other_segments l) in
-    (omega (arith, u), omega (arith, u, most))
+    let place = place_is bytes_eq (other_segments l) k (get_or (other_segments l) k d) bytes_same bytes_turn (others_apart l) low
+    (get_or_default (other_segments l) k (get_or (other_segments l) k d) d low) in
+    (omega (arith, u), omega (arith, u, place, low))
 
 flag_rise : (l : Link) (b : Bool) (n : List ℕ) → AllPairs (RanksRise l) (list_if b (n ∷ []))
 flag_rise l true n i j d before within = absurd (omega arith)
@@ -293,31 +304,31 @@ mapped_rise l =
     (TEXT ∷ [] ++ c) low2)
     (flag_names (λ n. segment_rank l n < 4) bd DATA (omega (arith, data_rank l))) in
     rise_by l 4 (TEXT ∷ [] ++ c ++ d) (other_segments l) three (others_rise l) low3
-    (All-weaker (λ (n : List ℕ). (4 ≤ segment_rank l n) × (segment_rank l n < 5 + length (other_segments l)))
+    (All-weaker (λ (n : List ℕ). (4 ≤ segment_rank l n) × (segment_rank l n < 4 + length (other_segments l)))
     (λ (n : List ℕ). 4 ≤ segment_rank l n) (λ n h. h.0) (other_segments l) (others_between l))
 
 -- and so do those of all segments
 pub names_rise : (l : Link) → AllPairs (RanksRise l) (segment_names_of l)
 names_rise l =
     let z : List (List ℕ) = list_if l.executable (PAGEZERO ∷ []) in
-    let mid : All (λ n. (1 ≤ segment_rank l n) × (segment_rank l n < 5 + length (other_segments l))) (mapped_of l)
-    = mapped_all (λ n. (1 ≤ segment_rank l n) × (segment_rank l n < 5 + length (other_segments l))) l
+    let mid : All (λ n. (1 ≤ segment_rank l n) × (segment_rank l n < 4 + length (other_segments l))) (mapped_of l)
+    = mapped_all (λ n. (1 ≤ segment_rank l n) × (segment_rank l n < 4 + length (other_segments l))) l
     (omega (arith, text_rank l), omega (arith, text_rank l))
     (omega (arith, const_rank l), omega (arith, const_rank l)) (omega (arith, data_rank l), omega (arith, data_rank l))
-    (All-weaker (λ (n : List ℕ). (4 ≤ segment_rank l n) × (segment_rank l n < 5 + length (other_segments l)))
-    (λ (n : List ℕ). (1 ≤ segment_rank l n) × (segment_rank l n < 5 + length (other_segments l)))
+    (All-weaker (λ (n : List ℕ). (4 ≤ segment_rank l n) × (segment_rank l n < 4 + length (other_segments l)))
+    (λ (n : List ℕ). (1 ≤ segment_rank l n) × (segment_rank l n < 4 + length (other_segments l)))
     (λ n h. (omega (arith, h.0), h.1)) (other_segments l) (others_between l)) in
-    let m : ℕ = 5 + length (other_segments l) in
+    let m : ℕ = 4 + length (other_segments l) in
     let front = rise_by l 1 (list_if l.executable (PAGEZERO ∷ [])) (mapped_of l) (flag_rise l l.executable PAGEZERO) (mapped_rise l)
     (flag_names (λ n. segment_rank l n < 1) l.executable PAGEZERO (omega (arith, zero_rank l)))
-    (All-weaker (λ (n : List ℕ). (1 ≤ segment_rank l n) × (segment_rank l n < 5 + length (other_segments l)))
+    (All-weaker (λ (n : List ℕ). (1 ≤ segment_rank l n) × (segment_rank l n < 4 + length (other_segments l)))
     (λ (n : List ℕ). 1 ≤ segment_rank l n) (λ n h. h.0) (mapped_of l) mid) in
-    let low : All (λ n. segment_rank l n < 5 + length (other_segments l)) (list_if l.executable (PAGEZERO ∷ []) ++ mapped_of l)
-    = All-append (λ n. segment_rank l n < 5 + length (other_segments l)) (list_if l.executable (PAGEZERO ∷ [])) (mapped_of l)
-    (flag_names (λ n. segment_rank l n < 5 + length (other_segments l)) l.executable PAGEZERO (omega (arith, zero_rank l)))
-    (All-weaker (λ (n : List ℕ). (1 ≤ segment_rank l n) × (segment_rank l n < 5 + length (other_segments l)))
-    (λ (n : List ℕ). segment_rank l n < 5 + length (other_segments l)) (λ n h. h.1) (mapped_of l) mid) in
+    let low : All (λ n. segment_rank l n < 4 + length (other_segments l)) (list_if l.executable (PAGEZERO ∷ []) ++ mapped_of l)
+    = All-append (λ n. segment_rank l n < 4 + length (other_segments l)) (list_if l.executable (PAGEZERO ∷ [])) (mapped_of l)
+    (flag_names (λ n. segment_rank l n < 4 + length (other_segments l)) l.executable PAGEZERO (omega (arith, zero_rank l)))
+    (All-weaker (λ (n : List ℕ). (1 ≤ segment_rank l n) × (segment_rank l n < 4 + length (other_segments l)))
+    (λ (n : List ℕ). segment_rank l n < 4 + length (other_segments l)) (λ n h. h.1) (mapped_of l) mid) in
     subst (AllPairs (RanksRise l)) (sym (segment_names_are l))
-    (rise_by l (5 + length (other_segments l)) (list_if l.executable (PAGEZERO ∷ []) ++ mapped_of l) (LINKEDIT ∷ []) front
+    (rise_by l (4 + length (other_segments l)) (list_if l.executable (PAGEZERO ∷ []) ++ mapped_of l) (LINKEDIT ∷ []) front
     (flag_rise l true LINKEDIT) low
-    (flag_names (λ n. 5 + length (other_segments l) ≤ segment_rank l n) true LINKEDIT (omega (arith, last_rank l))))
+    (flag_names (λ n. 4 + length (other_segments l) ≤ segment_rank l n) true LINKEDIT (omega (arith, last_rank l))))

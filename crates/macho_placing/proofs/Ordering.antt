@@ -2,7 +2,7 @@
 --
 -- A stack stands in order, and each of its pieces at the least place. So do rows of segments, pieces of output sections, and tables;
 -- `__PAGEZERO` and `__LINKEDIT` have their front alone. The ends of rows tell the sizes.
-use Rattle.std.proofs.Common.{◌≡◌, ℕ, ◌-◌, Bool, true, false, List, [], ◌∷◌, ◌++◌, map, length, get_or, All, AllPairs, refl, sym, ap, ◌∙◌}
+use Rattle.std.proofs.Common.{◌≡◌, ℕ, ◌-◌, Bool, true, false, List, [], ◌∷◌, ◌++◌, map, length, get_or, All, refl, sym, ap, ◌∙◌}
 use Rattle.std.proofs.Common.{subst, arith}
 use Rattle.std.specs.Str.{bytes_eq}
 use Rattle.std.proofs.lemmas.List.Elements.{All-nil, All-cons, All-append, All-weaker}
@@ -16,17 +16,17 @@ use Rattle.macho_model.specs.Links.{Link}
 use Rattle.macho_model.specs.Segments.{PAGEZERO, LINKEDIT, SEGMENT_PAGE, segment_names_of, list_if}
 use Rattle.macho_model.specs.Placement.{Placed}
 use Rattle.macho_model.specs.OutputSections.{OutputSection, Piece, pieces_of, output_sections_in, output_sections_of}
-use Rattle.macho_model.specs.Order.{EndsBefore, BeginsLeast, row_of, sections_in, least_size, least_file_size, StandInOrder, AreLeast}
+use Rattle.macho_model.specs.Order.{BeginsLeast, row_of, sections_in, least_size, least_file_size, StandInOrder, AreLeast}
 use Rattle.macho_layout.specs.Plans.{Planning, IsPlanOf}
 use Rattle.macho_layout.specs.Keys.{padded}
 use Rattle.macho_layout.specs.Sums.{FitsLimits}
 use Rattle.macho_layout.specs.Laid.{IsLaidOut, zero_page}
 use Rattle.macho_layout.proofs.Rooms.{unmapped}
 use Rattle.macho_layout.proofs.Whole.{map_map, sections_are_listed, commons_are_listed}
-use Rattle.macho_placing.proofs.Stacks.{stack_next, stack_order}
+use Rattle.macho_placing.proofs.Stacks.{stack_next}
 use Rattle.macho_placing.proofs.Names.{mapped_of, mapped_names_are}
 use Rattle.macho_placing.proofs.Segments.{segments_are, last_segment, row_names, texts_are, fields_are, map_whole, mapped_not_last}
-use Rattle.macho_placing.proofs.Rooms.{tables_order, tables_least, rooms}
+use Rattle.macho_placing.proofs.Rooms.{front_is, tables_least, rooms}
 use Rattle.macho_placing.proofs.Standing.{IsGood, all_good, all_flat, zero_sections, last_sections, IsRowOf, rows_are, mapped_not_zero}
 
 module _ (l : Link) (p : Planning) (counts : Counts) (q : Placed) (plan : IsPlanOf l p) (fits : FitsLimits p counts)
@@ -64,18 +64,6 @@ module _ (l : Link) (p : Planning) (counts : Counts) (q : Placed) (plan : IsPlan
   alone_next s none k x y hx hy =
       let long = ap (λ (os : List OutputSection). length (row_of l counts q s os)) none in absurd (omega (arith, hy.0, long))
 
-  alone_order : (s : PlacedSegment) → sections_in l counts s ≡ [] → AllPairs EndsBefore (row s)
-  unfolding row_of
-  alone_order s none i j d before within =
-      let long = ap (λ (os : List OutputSection). length (row_of l counts q s os)) none in absurd (omega (arith, before, within, long))
-
-  rows_order : All (λ s. AllPairs EndsBefore (row s)) q.segments
-  rows_order =
-      segments_all (λ s. AllPairs EndsBefore (row s)) (alone_order zero_page (zero_sections l p counts q plan fits h))
-      (All-weaker (IsRowOf l p counts q plan fits h) (λ s. AllPairs EndsBefore (row s))
-      (λ s r. stack_order s.address (row s) r.end r.stack) h.segments (rows_are l p counts q plan fits h))
-      (alone_order last (last_sections l p counts q plan fits h))
-
   rows_least : All (λ s. EachNext BeginsLeast (row s)) q.segments
   rows_least =
       segments_all (λ s. EachNext BeginsLeast (row s)) (alone_next zero_page (zero_sections l p counts q plan fits h))
@@ -89,11 +77,6 @@ module _ (l : Link) (p : Planning) (counts : Counts) (q : Placed) (plan : IsPlan
   outputs_good =
       all_flat (IsGood l p counts q plan fits h) (output_sections_in l counts) (segment_names_of l)
       (λ k d low. all_good l p counts q plan fits h (get_or (segment_names_of l) k d))
-
-  pieces_order : All (λ o. AllPairs EndsBefore (pieces_of l q o)) (output_sections_of l counts)
-  pieces_order =
-      All-weaker (IsGood l p counts q plan fits h) (λ o. AllPairs EndsBefore (pieces_of l q o))
-      (λ o g. stack_order _ (pieces_of l q o) _ g.fit.stack) (output_sections_of l counts) outputs_good
 
   pieces_least : All (λ o. EachNext BeginsLeast (pieces_of l q o)) (output_sections_of l counts)
   pieces_least =
@@ -130,13 +113,11 @@ module _ (l : Link) (p : Planning) (counts : Counts) (q : Placed) (plan : IsPlan
     names = fields_are l p counts q plan fits h;
     sections = sections_are_listed l p counts q plan h;
     commons = commons_are_listed l p counts q plan h;
-    rows = rows_order;
-    pieces = pieces_order;
-    tables = tables_order l p counts q plan fits h;
   }
 
   pub are_least : AreLeast l counts q
   are_least = record {
+    front = front_is l p counts q plan fits h;
     rows = rows_least;
     pieces = pieces_least;
     tables = tables_least l p counts q plan fits h;

@@ -34,7 +34,7 @@ use Rattle.macho_placing.proofs.Segments.{all_paged, all_follow}
 use Rattle.macho_placing.proofs.Lying.{is_aligned, in_segment, ranges_between}
 use Rattle.macho_placing.proofs.Apart.{all_apart}
 use Rattle.macho_placing.proofs.Template.{template_holds}
-use Rattle.macho_placing.proofs.Rooms.{low_is, rooms, sum_kept}
+use Rattle.macho_placing.proofs.Rooms.{rooms, sum_kept}
 use Rattle.macho_placing.proofs.Ordering.{stand_in_order, are_least}
 use Rattle.macho_placing.proofs.Outputs.{headers_are}
 
@@ -61,7 +61,6 @@ laid_out_is_placed l p counts q plan fits h = record {
   placed = is_placed l p counts q plan fits h;
   order = stand_in_order l p counts q plan fits h;
   least = are_least l p counts q plan fits h;
-  low = low_is l p counts q plan fits h;
   sections = headers_are l p counts q plan fits h;
 }
 

@@ -2,8 +2,8 @@
 --
 -- The tables are one stack from the offset of `__LINKEDIT` on. A row's file part is whole pages, so its pages rounded up or down are the
 -- same; the segments in which the loader writes pointers are two of the rows, in the link's words and in the plan's.
-use Rattle.std.proofs.Common.{◌≡◌, ℕ, ◌+◌, ◌*◌, ◌-◌, ◌/◌, ◌%◌, ◌<◌, ◌≤◌, ◌||◌, Bool, true, false, cond, List, [], ◌∷◌, ◌++◌, map, filter}
-use Rattle.std.proofs.Common.{length, get_or, sum_by, All, AllPairs, refl, sym, ap, ◌∙◌, subst, arith}
+use Rattle.std.proofs.Common.{◌≡◌, ℕ, ◌+◌, ◌*◌, ◌-◌, ◌/◌, ◌%◌, ◌<◌, ◌||◌, Bool, true, false, cond, List, [], ◌∷◌, ◌++◌, map, filter}
+use Rattle.std.proofs.Common.{length, get_or, sum_by, All, refl, sym, ap, ◌∙◌, subst, arith}
 use Rattle.std.specs.Str.{bytes_eq}
 use Rattle.std.proofs.lemmas.List.{get_or-map, length-map, append-nil}
 use Rattle.std.proofs.lemmas.List.Elements.{All-nil, All-cons, All-head, All-tail, filter-append}
@@ -17,10 +17,9 @@ use Rattle.macho_model.specs.declared.placed.PlacedSegment.{PlacedSegment}
 use Rattle.macho_model.specs.Lists.{IsNumber, EachNext, of_first}
 use Rattle.macho_model.specs.Links.{Link}
 use Rattle.macho_model.specs.Segments.{DATA, DATA_CONST, SEGMENT_PAGE, may_hold_pointers, list_if}
-use Rattle.macho_model.specs.Placement.{Placed, linkedit_ranges}
+use Rattle.macho_model.specs.Placement.{Placed}
 use Rattle.macho_model.specs.OutputSections.{Piece}
-use Rattle.macho_model.specs.Order.{table_pieces, EndsBefore, BeginsLeast, pages_of, pointer_pages, fixup_room, signature_room, HaveRoom}
-use Rattle.macho_model.specs.Order.{LiesInFile, IsLow}
+use Rattle.macho_model.specs.Order.{table_pieces, BeginsLeast, pages_of, pointer_pages, fixup_room, signature_room, HaveRoom}
 use Rattle.macho_cells.specs.Blocks.{StandLeast}
 use Rattle.macho_cells.proofs.Multiples.{rounded-multiple}
 use Rattle.macho_layout.specs.Plans.{Planning, IsPlanOf}
@@ -31,12 +30,11 @@ use Rattle.macho_rows.specs.Rows.{RowCells, row_segment, row_at, segments_from}
 use Rattle.macho_layout.specs.Sums.{FitsLimits, base_of, head_size}
 use Rattle.macho_layout.specs.Laid.{IsLaidOut, zero_page}
 use Rattle.macho_layout.proofs.Named.{name_in_field, fields_agree}
-use Rattle.macho_placing.proofs.Stacks.{piece_block, stack_next, stack_order}
+use Rattle.macho_placing.proofs.Stacks.{piece_block, stack_next}
 use Rattle.macho_placing.proofs.Tables.{tables_stack, pieces_from}
 use Rattle.macho_placing.proofs.Names.{mapped_of}
 use Rattle.macho_placing.proofs.Made.{init_range, unwind_range}
 use Rattle.macho_placing.proofs.Segments.{Chain, segments_are, last_segment, last_alone, keep, all_chain, row_names}
-use Rattle.macho_placing.proofs.Lying.{ranges_between}
 
 -- a sum over what a filter keeps
 pub sum_kept : {X : Type 0} (f : X → ℕ) (t : X → Bool) (xs : List X) → sum_by f (filter t xs) ≡ sum_by (λ x. cond (t x) (f x) 0) xs
@@ -85,9 +83,6 @@ module _ (l : Link) (p : Planning) (counts : Counts) (q : Placed) (plan : IsPlan
       subst (λ (cs : List Piece). StandLeast h.offset (map piece_block cs) q.linkedit.signature.end) (sym one)
       (subst (λ (t : Linkedit). StandLeast h.offset (map piece_block (pieces_from h.offset t)) t.signature.end) (sym h.from_them.linkedit)
       (tables_stack counts h.offset (row_pages h.segments) (keep l p counts q plan fits h).offset))
-
-  pub tables_order : AllPairs EndsBefore (table_pieces q)
-  tables_order = stack_order h.offset (table_pieces q) q.linkedit.signature.end table_stack
 
   pub tables_least : EachNext BeginsLeast (table_pieces q)
   tables_least = stack_next h.offset (table_pieces q) q.linkedit.signature.end table_stack
@@ -157,24 +152,12 @@ module _ (l : Link) (p : Planning) (counts : Counts) (q : Placed) (plan : IsPlan
             (sym (ap (λ (x : Linkedit). x.signature.start) t));
       }
 
-  -- what the placement relation leaves free
-  pub low_is : IsLow q
-  low_is = record {
-    front = first_is q.segments (all_chain l p counts q plan fits h).0 (all_chain l p counts q plan fits h).1
-        (all_chain l p counts q plan fits h).2;
-    tables = tables_lie;
-  }
+  -- the first segment begins the file
+  pub front_is : (s : PlacedSegment) → IsNumber q.segments 0 s → s.file_offset ≡ 0
+  front_is =
+      first_is q.segments (all_chain l p counts q plan fits h).0 (all_chain l p counts q plan fits h).1
+      (all_chain l p counts q plan fits h).2
     where
       first_is : (ss : List PlacedSegment) (a' o' : ℕ) → Chain 0 0 ss a' o' → (s : PlacedSegment) → IsNumber ss 0 s → s.file_offset ≡ 0
       first_is [] a' o' chain s at = absurd (omega (arith, at.0))
       first_is (x ∷ ss) a' o' chain s at = ap (λ (y : PlacedSegment). y.file_offset) (sym at.1) ∙ chain.1
-
-      tables_lie : All (LiesInFile q.segments) (linkedit_ranges q)
-      tables_lie k d low =
-          let r = ranges_between l p counts q plan fits h k d low in
-          let end = ap (λ (t : Linkedit). t.signature.end) h.from_them.linkedit in
-          let Q : PlacedSegment → Type 0 = λ s. (s.file_offset ≤ (get_or (linkedit_ranges q) k d).start) ×
-          ((get_or (linkedit_ranges q) k d).start ≤ (get_or (linkedit_ranges q) k d).end)
-          × ((get_or (linkedit_ranges q) k d).end ≤ s.file_offset + s.file_size) in
-          subst (All Q) (sym (last_alone l p counts q plan fits h))
-          (All-cons Q (last_segment l p counts q plan fits h) [] (r.0, r.1, omega (arith, r.0, r.1, r.2, end)) (All-nil Q))

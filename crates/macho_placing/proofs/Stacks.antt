@@ -3,17 +3,17 @@
 -- Each begins at the least multiple behind the one before it, and ends before those behind it begin. The greatest end is that of
 -- the last. Where the row begins at a multiple of the first one's alignment, the first stands at its start, which is the least of
 -- all places; so the piece around them is from the start to the end.
-use Rattle.std.proofs.Common.{◌≡◌, ℕ, zero, suc, ◌+◌, ◌-◌, ◌%◌, ◌^◌, ◌≤◌, List, [], ◌∷◌, map, get_or, fold, min, AllPairs, refl, ap, ◌∙◌}
+use Rattle.std.proofs.Common.{◌≡◌, ℕ, zero, suc, ◌+◌, ◌-◌, ◌%◌, ◌^◌, ◌≤◌, List, [], ◌∷◌, map, get_or, fold, min, refl, ap, ◌∙◌}
 use Rattle.std.proofs.Common.{subst, arith}
 use Rattle.std.specs.List.{AllByRecursion}
 use Rattle.std.proofs.lemmas.Nat.{pow_pos}
 use Rattle.macho_model.specs.Lists.{EachNext}
 use Rattle.macho_model.specs.Links.{greatest}
 use Rattle.macho_model.specs.OutputSections.{Piece, end_of_piece, around, least}
-use Rattle.macho_model.specs.Order.{EndsBefore, BeginsLeast}
+use Rattle.macho_model.specs.Order.{BeginsLeast}
 use Rattle.macho_cells.specs.Blocks.{Block, StandLeast}
 use Rattle.macho_cells.proofs.Multiples.{rounded-same}
-use Rattle.macho_cells.proofs.Rows.{row-rises, row-begins, row-order}
+use Rattle.macho_cells.proofs.Rows.{row-rises, row-begins}
 
 abbrev pub piece_block : Piece → Block
 piece_block c = record { start = c.start; size = c.size; exponent = c.exponent }
@@ -27,9 +27,6 @@ stack_next n (c ∷ d ∷ cs) m h (suc k) x y hx hy =
     let e : suc k + 1 ≡ suc (k + 1) = omega arith in
     stack_next (c.start + c.size) (d ∷ cs) m h.1 k x y (omega (arith, hx.0), hx.1)
     (omega (arith, hy.0), subst (λ (i : ℕ). get_or (c ∷ d ∷ cs) i y ≡ y) e hy.1)
-
-pub stack_order : (n : ℕ) (cs : List Piece) (m : ℕ) → StandLeast n (map piece_block cs) m → AllPairs EndsBefore cs
-stack_order n cs m h = row-order piece_block n cs m h
 
 pub stack_end : (n : ℕ) (c : Piece) (cs : List Piece) (m : ℕ) → StandLeast n (map piece_block (c ∷ cs)) m → greatest
     (map end_of_piece (c ∷ cs)) ≡ m

@@ -12,7 +12,7 @@ use Rattle.macho_model.specs.Links.{Link}
 use Rattle.macho_model.specs.Segments.{may_hold_pointers}
 use Rattle.macho_model.specs.Placement.{Placed, IsPlaced, linkedit_ranges}
 use Rattle.macho_model.specs.OutputSections.{output_sections_for}
-use Rattle.macho_model.specs.Order.{StandInOrder, AreLeast, IsLow, pages_of, fixup_room}
+use Rattle.macho_model.specs.Order.{StandInOrder, AreLeast, pages_of, fixup_room}
 use Rattle.macho_model.specs.Limits.{PassesLimit, IsTooLarge as ImageIsTooLarge, LIMIT_32}
 use Rattle.macho_layout.specs.declared.fault.LayoutFault.{LayoutFault}
 use Rattle.macho_layout.specs.declared.fault.LayoutFault.TheVariants.{TooMany, TooLarge, OutOfMemory}
@@ -28,7 +28,6 @@ pub record IsWhollyPlaced (l : Link) (counts : Counts) (q : Placed) : Type 0 whe
   -- parts stand in the stated order, each as low as it may
   pub order : StandInOrder l counts q
   pub least : AreLeast l counts q
-  pub low : IsLow q
   -- the output sections are the link's, with all that their headers say
   pub sections : q.output_sections ≡ output_sections_for l counts q
 

@@ -1,21 +1,24 @@
 -- THE promise of an image, whole: what is true of the bytes and the placement that a link is answered with.
-use Rattle.std.specs.Prelude.{◌≡◌, ℕ, ◌^◌, List, length, min}
+use Rattle.std.specs.Prelude.{◌≡◌, ℕ, ◌^◌, ◌↔◌, List, length, min}
 use Rattle.macho_model.specs.declared.placed.Counts.{Counts}
 use Rattle.macho_model.specs.Links.{Link}
 use Rattle.macho_model.specs.Placement.{Placed, IsPlaced}
 use Rattle.macho_model.specs.OutputSections.{output_sections_for}
-use Rattle.macho_model.specs.Order.{StandInOrder, AreLeast, IsLow}
+use Rattle.macho_model.specs.Order.{StandInOrder, AreLeast}
 use Rattle.macho_model.specs.Stands.{IsLoadable}
-use Rattle.macho_model.specs.Fixups.{ChainIsWhole}
+use Rattle.macho_model.specs.Chain.{OnChainOf}
 use Rattle.macho_model.specs.Agreement.{CommandsAgree, TablesAgree}
-use Rattle.macho_model.specs.Signature.{UuidSays, IsSigned}
+use Rattle.macho_model.specs.Signature.{IsSigned}
 use Rattle.macho_model.specs.Head.{HeadSays}
 use Rattle.macho_model.specs.SymbolEntries.{SymbolsSay}
-use Rattle.macho_model.specs.ImportTable.{ImportTableSays, LibrariesSay}
+use Rattle.macho_model.specs.Images.{libraries_of}
+use Rattle.macho_model.specs.Needs.{libraries_needed}
+use Rattle.macho_model.specs.ImportTable.{ImportTableSays}
 use Rattle.macho_model.specs.Zeros.{IsZeroElsewhere}
 use Rattle.macho_model.specs.Made.{InitOffsetsSay, TemplateHeaders}
 use Rattle.macho_model.specs.Told.{ToldImport, ToldExport, IsTold, ExportsAreTold}
 use Rattle.macho_model.specs.Faults.{NoneStands}
+use Rattle.macho_fixups.specs.Chains.{IsAddressOf}
 use Rattle.macho_promise.specs.Sizes.{AreCounts}
 use Rattle.macho_promise.specs.TrieSays.{TrieSays}
 use Rattle.macho_promise.specs.UnwindSays.{UnwindSays}
@@ -23,12 +26,10 @@ use Rattle.macho_promise.specs.FixupsSay.{FixupsSay}
 
 -- Where things are, beside `IsPlaced`: of the link and the placement alone.
 pub record IsLaidOut (l : Link) (counts : Counts) (p : Placed) : Type 0 where
-  -- parts stand in the stated order
+  -- what is listed has the stated order
   pub order : StandInOrder l counts p
-  -- each part begins as low as it may, and each segment ends with the page of what it holds
+  -- parts stand in the stated order, each as low as it may, and each segment ends with the page of what it holds
   pub least : AreLeast l counts p
-  -- the first segment's file offset is 0, and each table, also an empty one, lies in the file bytes of `__LINKEDIT`
-  pub low : IsLow p
   -- the output sections are those of the link, with all that their headers say
   pub sections : p.output_sections ≡ output_sections_for l counts p
 
@@ -41,12 +42,10 @@ pub record Agrees (l : Link) (counts : Counts) (b : List ℕ) (p : Placed) : Typ
 
 -- What the dynamic linker reads beside the bytes of sections.
 pub record Tells (l : Link) (b : List ℕ) (p : Placed) : Type 0 where
-  -- it writes the slots and the pointers that move or lead to imports, and no other word
-  pub chain : ChainIsWhole l b p
   -- the import table has the entries of the link, in order, each with its library, name and addend
   pub imports : ImportTableSays l b
   -- the file names the libraries that the link needs, in order
-  pub libraries : LibrariesSay l b
+  pub libraries : libraries_of b ≡ libraries_needed l
   -- look-up of a name in the exports trie finds exactly what it is exported as
   pub exports : TrieSays l b p
   -- there is one offset for each initializer, in order, which leads to it
@@ -61,10 +60,10 @@ pub record Tells (l : Link) (b : List ℕ) (p : Placed) : Type 0 where
 pub record IsWritten (l : Link) (counts : Counts) (uuid : List ℕ) (b : List ℕ) (p : Placed) (unwind : ℕ) : Type 0 where
   -- header and load commands, with every field
   pub head : HeadSays l counts uuid b p
-  -- the file has one UUID, which is this one with its version and variant set
-  pub uuid_is : UuidSays uuid b
   -- the fixup table, and the words of its chains
   pub fixups : FixupsSay l b p
+  -- the loader writes these words, and no other
+  pub chain : (a : ℕ) → OnChainOf b a ↔ IsAddressOf fixups.fixups a
   -- the entries of the symbol table and the names of the string table, to the last byte
   pub symbols : SymbolsSay l counts b p
   -- the digests are those of the final bytes

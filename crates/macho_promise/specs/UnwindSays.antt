@@ -59,5 +59,3 @@ pub record UnwindSays (l : Link) (b : List ℕ) (p : Placed) : Type 0 where
   pub begins : Stands (unwind_bytes b p) (record { at = 0; text = content })
   -- look-up of an offset finds exactly what its entry says
   pub finds : (offset : ℕ) (x : Found) → UnwindFinds (unwind_bytes b p) offset x ↔ IsFoundFor p.base (resolved_entries l p) offset x
-  -- without entries there is no range
-  pub empty : resolved_entries l p ≡ [] → p.unwind.end ≡ p.unwind.start

@@ -46,7 +46,7 @@ is_kept l counts q are w = record {
   counts = kept_counts counts;
   counted = record { whole = counts; are = are; capped = refl };
   placed = w.placed;
-  laid_out = record { order = w.order; least = w.least; low = w.low; sections = w.sections };
+  laid_out = record { order = w.order; least = w.least; sections = w.sections };
 }
 
 -- a number that a layout tells passes its limit

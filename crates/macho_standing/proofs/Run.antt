@@ -22,7 +22,7 @@ use Rattle.macho_fixups.specs.Runs.{Holds}
 use Rattle.macho_fixups.specs.Chains.{chain_seen, IsAddressOf}
 use Rattle.macho_fixups.specs.Readings.{IsRead}
 use Rattle.macho_fixups.specs.Laws.{ChainsAreTold}
-use Rattle.macho_parts.specs.FixupsSay.{IsFixupOf, fixup_segments}
+use Rattle.macho_parts.specs.FixupsSay.{FixupsSay, IsFixupOf, fixup_segments}
 use Rattle.macho_parts.specs.FixupsSay as asked
 use Rattle.macho_model.specs.ImportTable.{names_text}
 use Rattle.macho_standing.specs.Composed.{FixupsAreWritten}
@@ -53,19 +53,29 @@ pub place_of_fixup : (l : Link) (p : Placed) (f : Fixup) → IsFixupOf l p f →
 place_of_fixup l p _ (asked.IsFixupOf.slot s one) = place.IsFixupPlace.slot s one
 place_of_fixup l p _ (asked.IsFixupOf.pointer q f one field needs) = place.IsFixupPlace.pointer q f one field needs
 
-fixup_of_place : (l : Link) (b : List ℕ) (p : Placed) (w : FixupsAreWritten l b p) (a : ℕ) → IsFixupPlace l p a → IsAddressOf w.say.fixups a
-fixup_of_place l b p w _ (place.IsFixupPlace.slot s one) =
-    (record { address = s.address; kind = _ }, w.say.all _ (asked.IsFixupOf.slot s one), refl)
-fixup_of_place l b p w _ (place.IsFixupPlace.pointer q f one field needs) =
-    (record { address = q.address + f.offset; kind = _ }, w.say.all _ (asked.IsFixupOf.pointer q f one field needs), refl)
+fixup_of_place : (l : Link) (b : List ℕ) (p : Placed) (say : FixupsSay l b p) (a : ℕ) → IsFixupPlace l p a → IsAddressOf say.fixups a
+fixup_of_place l b p say _ (place.IsFixupPlace.slot s one) =
+    (record { address = s.address; kind = _ }, say.all _ (asked.IsFixupOf.slot s one), refl)
+fixup_of_place l b p say _ (place.IsFixupPlace.pointer q f one field needs) =
+    (record { address = q.address + f.offset; kind = _ }, say.all _ (asked.IsFixupOf.pointer q f one field needs), refl)
+
+place_of_address : (l : Link) (b : List ℕ) (p : Placed) (say : FixupsSay l b p) (a : ℕ) → IsAddressOf say.fixups a → IsFixupPlace l p a
+place_of_address l b p say a at =
+    subst (IsFixupPlace l p) at.2 (place_of_fixup l p at.0 (All-contains (IsFixupOf l p) say.fixups at.0 say.each at.1))
+
+-- so 'the chain has the words of the fixups' and 'the chain has the words that the link asks for' say the same
+pub whole_by_run : (l : Link) (b : List ℕ) (p : Placed) (say : FixupsSay l b p) → ((a : ℕ) → OnChainOf b a ↔ IsAddressOf say.fixups a)
+    → ChainIsWhole l b p
+whole_by_run l b p say run a =
+    (λ on. place_of_address l b p say a ((run a).0 on), λ is. (run a).1 (fixup_of_place l b p say a is))
+
+pub run_by_whole : (l : Link) (b : List ℕ) (p : Placed) (say : FixupsSay l b p) → ChainIsWhole l b p
+    → (a : ℕ) → OnChainOf b a ↔ IsAddressOf say.fixups a
+run_by_whole l b p say whole a =
+    (λ on. fixup_of_place l b p say a ((whole a).0 on), λ at. (whole a).1 (place_of_address l b p say a at))
 
 pub chain_is_whole : ChainsAreTold → (l : Link) (b : List ℕ) (p : Placed) → FixupsAreWritten l b p → SegmentsAgree b p → ChainIsWhole l b p
-chain_is_whole told l b p w agree a = (
-  λ on.
-      let at = (on_run told l b p w agree a).0 on in
-      subst (IsFixupPlace l p) at.2 (place_of_fixup l p at.0 (All-contains (IsFixupOf l p) w.say.fixups at.0 w.say.each at.1)),
-  λ is. (on_run told l b p w agree a).1 (fixup_of_place l b p w a is),
-)
+chain_is_whole told l b p w agree = whole_by_run l b p w.say (on_run told l b p w agree)
 
 -- a word of the chain, which says what was asked, and in which no other word begins
 pub record HasWord (b : List ℕ) (f : Fixup) : Type 0 where

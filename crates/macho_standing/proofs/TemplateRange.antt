@@ -12,7 +12,7 @@ use Rattle.macho_model.specs.declared.placed.Range64.{Range64}
 use Rattle.macho_model.specs.Links.{Link, greatest}
 use Rattle.macho_model.specs.Placement.{Placed}
 use Rattle.macho_model.specs.OutputSections.{OutputSection, Piece, end_of_piece, around, extent_of, output_header}
-use Rattle.macho_model.specs.Order.{EndsBefore}
+use Rattle.macho_model.proofs.Least.{EndsBefore}
 use Rattle.macho_model.specs.Made.{FillTemplate}
 use Rattle.macho_standing.proofs.Members.{at_front, at_rest, front_or_rest, in_none, of_map, in_map, pairs_across}
 

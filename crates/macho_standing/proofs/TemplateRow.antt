@@ -24,7 +24,8 @@ use Rattle.macho_model.specs.Segments.{segment_name, PAGEZERO, TEXT, DATA_CONST,
 use Rattle.macho_model.specs.Segments.{has_section_in, segment_names_of, list_if}
 use Rattle.macho_model.specs.Placement.{Placed}
 use Rattle.macho_model.specs.OutputSections.{OutputSection, Piece, output_sections_in, output_sections_of, extent_of}
-use Rattle.macho_model.specs.Order.{StandInOrder, EndsBefore, row_of, sections_in}
+use Rattle.macho_model.specs.Order.{StandInOrder, AreLeast, row_of, sections_in}
+use Rattle.macho_model.proofs.Least.{EndsBefore, rows_in_order}
 use Rattle.macho_model.specs.Grammar.{ObjectsAreRead}
 use Rattle.macho_standing.proofs.Members.{at_front, of_map, of_filter}
 use Rattle.macho_standing.proofs.TemplateRange.{IsBehind}
@@ -141,22 +142,22 @@ data_named l has =
     (Contains-append_right (names_before l) (list_if (has_data l) (DATA ∷ [])) DATA
     (subst (λ (b : Bool). Contains (list_if b (DATA ∷ [])) DATA) (sym has) (at_front DATA []))))
 
-data_row : (l : Link) (counts : Counts) (p : Placed) (s : PlacedSegment) → StandInOrder l counts p → Contains p.segments s
+data_row : (l : Link) (counts : Counts) (p : Placed) (s : PlacedSegment) → AreLeast l counts p → Contains p.segments s
     → AllPairs (IsBehind l p) (output_sections_in l counts (text_of s.name))
 unfolding row_of
-data_row l counts p s order there i j d lt within =
+data_row l counts p s least there i j d lt within =
     let os = output_sections_in l counts (text_of s.name) in
     let row = All-contains (λ (t : PlacedSegment). AllPairs EndsBefore (row_of l counts p t (sections_in l counts t)))
-    p.segments s order.rows there in
+    p.segments s (rows_in_order l counts p least) there in
     let pair = row (suc i) (suc j) (extent_of l p d) (omega (arith, lt)) (omega (arith, within, length-map os (extent_of l p))) in
     let first = get_or-map (extent_of l p) os i d (extent_of l p d) (omega (arith, lt, within)) in
     let second = get_or-map (extent_of l p) os j d (extent_of l p d) within in
     subst (λ (x : Piece). EndsBefore x (extent_of l p (get_or os j d))) first
     (subst (λ (y : Piece). EndsBefore (get_or (map (extent_of l p) os) i (extent_of l p d)) y) second pair)
 
-pub templates_in_order : (l : Link) (counts : Counts) (p : Placed) → ObjectsAreRead l → StandInOrder l counts p
+pub templates_in_order : (l : Link) (counts : Counts) (p : Placed) → ObjectsAreRead l → StandInOrder l counts p → AreLeast l counts p
     → AllPairs (IsBehind l p) (filter (is_template_output l) (output_sections_of l counts))
-templates_in_order l counts p objects order =
+templates_in_order l counts p objects order least =
     subst (λ (os : List OutputSection). AllPairs (IsBehind l p) os) (sym (templates_are l counts objects)) (by (has_data l) refl)
   where
     by : (b : Bool) → has_data l ≡ b → AllPairs (IsBehind l p) (templates_of l counts (list_if b (DATA ∷ [])))
@@ -164,7 +165,7 @@ templates_in_order l counts p objects order =
     by true has =
         let names = subst (λ (ns : List (List ℕ)). Contains ns DATA) (sym order.segments) (data_named l has) in
         let m = of_map (λ (s : PlacedSegment). text_of s.name) p.segments DATA names in
-        let row = data_row l counts p m.0 order m.1 in
+        let row = data_row l counts p m.0 least m.1 in
         let here = subst (λ (n : List ℕ). AllPairs (IsBehind l p) (output_sections_in l counts n)) m.2 row in
         subst (λ (os : List OutputSection). AllPairs (IsBehind l p) (filter (is_template_output l) os))
         (sym (flat_map-cons (output_sections_in l counts) DATA [] ∙ append-nil (output_sections_in l counts DATA)))

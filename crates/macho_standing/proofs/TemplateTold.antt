@@ -29,7 +29,7 @@ use Rattle.macho_model.specs.Placement.{TemplateHolds}
 use Rattle.macho_model.specs.OutputSections.{OutputSection, Merged, Piece, piece, end_of_piece, placed_members, pieces_of, output_header}
 use Rattle.macho_model.specs.OutputSections.{output_sections_in, output_sections_of, output_sections_for, merged_in, sections_of_data}
 use Rattle.macho_model.specs.OutputSections.{is_zeros}
-use Rattle.macho_model.specs.Order.{StandInOrder}
+use Rattle.macho_model.specs.Order.{StandInOrder, AreLeast}
 use Rattle.macho_model.specs.Made.{template_headers, FillTemplate}
 use Rattle.macho_model.specs.Grammar.{ObjectsAreRead}
 use Rattle.macho_standing.specs.Template.{TemplateIsTight, HeadersTellTemplate}
@@ -166,22 +166,22 @@ is_member l counts p q objects order there =
     }
 
 -- by the range
-filled : (l : Link) (counts : Counts) (p : Placed) (range : Option Range64) → ObjectsAreRead l → StandInOrder l counts p
+filled : (l : Link) (counts : Counts) (p : Placed) (range : Option Range64) → ObjectsAreRead l → StandInOrder l counts p → AreLeast l counts p
     → TemplateHolds l counts p range → TemplateIsTight l p range
     → MatchOption range (map (output_header l p) (templates l counts) ≡ []) (FillTemplate (map (output_header l p) (templates l counts)))
-filled l counts p None objects order holds tight =
+filled l counts p None objects order least holds tight =
     ap (map (output_header l p)) (no_elements (templates l counts) (λ o there.
     let t = a_template l counts o objects there in
     let m = a_member l counts p t.0 order t.2 in
     in_none m.0 (subst (λ (qs : List PlacedSection). Contains qs m.0) holds (placed_template l counts p t.0 m.0 order t.2.type m.1))))
-filled l counts p (Some r) objects order holds tight =
+filled l counts p (Some r) objects order least holds tight =
     let a = is_member l counts p tight.first objects order tight.begins.0 in
     let z = is_member l counts p tight.last objects order tight.ends.0 in
     let key_a = key_of (header_at l (id_of tight.first)) in
     let key_z = key_of (header_at l (id_of tight.last)) in
     let around_a = around_key l counts p r key_a tight.first order holds a.key.type a.member in
     let around_z = around_key l counts p r key_z tight.last order holds z.key.type z.member in
-    fills l p r (templates l counts) (Merged key_a) (Merged key_z) (templates_in_order l counts p objects order) within
+    fills l p r (templates l counts) (Merged key_a) (Merged key_z) (templates_in_order l counts p objects order least) within
     (key_output l counts key_a a.key) (omega (arith, around_a.from, around_a.start, tight.begins.1))
     (key_output l counts key_z z.key) (omega (arith, around_z.end, around_z.to, tight.ends.1))
   where
@@ -213,4 +213,4 @@ headers_tell_template l counts b p objects placed laid headers tight =
     = ap (filter (λ (h : SectionHeader). is_template_type (type_of h))) (headers ∙ laid.sections)
     ∙ filter_of_map (output_header l p) (λ (h : SectionHeader). is_template_type (type_of h)) (output_sections_of l counts) in
     subst (λ (hs : List SectionHeader). MatchOption p.template (hs ≡ []) (FillTemplate hs)) (sym are)
-    (filled l counts p p.template objects laid.order placed.template tight)
+    (filled l counts p p.template objects laid.order laid.least placed.template tight)

@@ -25,7 +25,8 @@ use Rattle.macho_model.specs.Segments.{segment_names_of, other_segments, has_sec
 use Rattle.macho_model.specs.OutputSections.{OutputSection, Merged, InitOffsets, UnwindInfo, Stubs, Slots, Piece, piece, pieces_of}
 use Rattle.macho_model.specs.OutputSections.{extent_of, around, flags_of_key, is_zeros, is_code, merged_in, output_sections_in}
 use Rattle.macho_model.specs.OutputSections.{output_sections_of, output_header, POINTER_EXPONENT}
-use Rattle.macho_model.specs.Order.{EndsBefore, row_of, sections_in}
+use Rattle.macho_model.specs.Order.{row_of, sections_in}
+use Rattle.macho_model.proofs.Least.{EndsBefore, rows_in_order, pieces_in_order}
 use Rattle.macho_model.specs.Placement.{Placed, slot_span, range_span}
 use Rattle.macho_placing.specs.Laws.{IsWhollyPlaced}
 use Rattle.macho_placing.proofs.Names.{name_twice}
@@ -65,7 +66,7 @@ ends_before : (l : Link) (counts : Counts) (p : Placed) (s : PlacedSegment) (o m
 unfolding row_of
 ends_before l counts p s o m placed one in_o in_m =
     let pairs = all_contains (λ (t : PlacedSegment). AllPairs EndsBefore (row_of l counts p t (sections_in l counts t))) p.segments s
-    placed.order.rows one in
+    (rows_in_order l counts p placed.least) one in
     let behind : AllPairs EndsBefore (map (extent_of l p) (sections_in l counts s)) =
     λ i j d lt within. pairs (suc i) (suc j) d (omega arith) (omega (arith, within)) in
     one_or_pair (λ x y. EndsBefore (extent_of l p x) (extent_of l p y)) (sections_in l counts s) o m (mapped behind) in_o in_m
@@ -183,8 +184,8 @@ pub slots_begin : (l : Link) (counts : Counts) (p : Placed) (s : Slot) (rest : L
 unfolding pieces_of
 slots_begin l counts p s rest placed are there =
     let pairs = subst (λ (slots : List Slot). AllPairs EndsBefore (map slot_piece slots)) are
-    (all_contains (λ (o : OutputSection). AllPairs EndsBefore (pieces_of l p o)) (output_sections_of l counts) Slots placed.order.pieces
-    there) in
+    (all_contains (λ (o : OutputSection). AllPairs EndsBefore (pieces_of l p o)) (output_sections_of l counts) Slots
+    (pieces_in_order l counts p placed.least) there) in
     let b = subst
     (λ (slots : List Slot). ((around (map slot_piece slots)).start ≡ s.address) × (1 ≤ (around (map slot_piece slots)).size)) (sym are)
     (around_slots s rest pairs) in

@@ -5,8 +5,7 @@
 -- is `__PAGEZERO`, which no carried section is in. Sections and commons stand in segments that are not in front of `__TEXT`.
 use Rattle.std.proofs.Common.{◌≡◌, ℕ, zero, suc, ◌+◌, ◌-◌, ◌<◌, ◌≤◌, ◌||◌, not, nat_lt, Bool, true, false, List, length, get_or, refl}
 use Rattle.std.proofs.Common.{sym, ap, subst, ◌∙◌, arith}
-use Rattle.std.specs.Prelude.{Contains, codes, if◌then◌else◌}
-use Rattle.std.specs.List.{position_or_len}
+use Rattle.std.specs.Prelude.{Contains, codes}
 use Rattle.std.proofs.lemmas.Bool.{ltb-true}
 use Rattle.std.proofs.lemmas.Bool.Decides.{nat_tests}
 use Rattle.std.specs.Str.{bytes_eq}
@@ -26,7 +25,7 @@ use Rattle.macho_lists.proofs.Members.{filter_contains, all_contains}
 use Rattle.macho_targets.specs.Laws.{TargetsStandAbove}
 use Rattle.macho_targets.proofs.Places.{section_place, common_place}
 use Rattle.macho_model.specs.Links.{Link, SectionId, section_id, header_at, is_carried, sections_of, carried_of}
-use Rattle.macho_model.specs.Segments.{PAGEZERO, TEXT, DATA_CONST, DATA, LINKEDIT, base_of_link, segment_rank, segment_name, other_segments}
+use Rattle.macho_model.specs.Segments.{PAGEZERO, TEXT, DATA, base_of_link, segment_rank, segment_name}
 use Rattle.macho_model.specs.Placement.{Placed, IsPlaced, IsInOrder, Follows, is_segment_named, SectionLies, LiesInNamed, common_span}
 use Rattle.macho_model.specs.Placement.{id_of}
 
@@ -71,17 +70,7 @@ rises l segments d follow i (suc n) j is lt =
 -- only `__PAGEZERO` has the least rank
 pub positive : (l : Link) (name : List ℕ) → bytes_eq name PAGEZERO ≡ false → 1 ≤ segment_rank l name
 unfolding segment_rank
-positive l name other =
-    rw other (by (bytes_eq name TEXT) (bytes_eq name DATA_CONST) (bytes_eq name DATA) (bytes_eq name LINKEDIT) refl refl refl refl)
-  where
-    by : (t c d k : Bool) → bytes_eq name TEXT ≡ t → bytes_eq name DATA_CONST ≡ c → bytes_eq name DATA ≡ d → bytes_eq name LINKEDIT ≡ k
-        → 1 ≤ (if bytes_eq name TEXT then 1 else if bytes_eq name DATA_CONST then 2 else if bytes_eq name DATA then 3
-        else if bytes_eq name LINKEDIT then 5 + length (other_segments l) else 4 + position_or_len (bytes_eq name) (other_segments l))
-    by true c d k e f g h = rw e (omega arith)
-    by false true d k e f g h = rw (e, f) (omega arith)
-    by false false true k e f g h = rw (e, f, g) (omega arith)
-    by false false false true e f g h = rw (e, f, g, h) (omega arith)
-    by false false false false e f g h = rw (e, f, g, h) (omega arith)
+positive l name other = rw other (omega arith)
 
 pub text_rank : (l : Link) (s : PlacedSegment) → is_segment_named TEXT s ≡ true → segment_rank l (text_of s.name) ≡ 1
 unfolding segment_rank

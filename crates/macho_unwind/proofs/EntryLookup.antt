@@ -26,12 +26,24 @@ stands-whole bytes text is =
     stands_by_bytes bytes (record { at = 0; text = text }) (omega (arith, ap (λ (t : List ℕ). length t) is))
     (λ i h. ap (λ (k : ℕ). get_or bytes k 0) (omega arith) ∙ ap (λ (t : List ℕ). get_or t i 0) is)
 
+-- an entry that isn't there
+abbrev pub no_entry : ResolvedUnwindInfo
+no_entry = record { start = 0; length = 0; encoding = 0; personality = None; lsda = None }
+
+-- a plan of an entry or more has a page or more
+pub some-page : (text : ℕ) (entries : List ResolvedUnwindInfo) (plan : PlanList) → IsPlanOf text entries plan
+    → 0 < length entries → 0 < length plan.pages
+some-page text entries plan p some =
+    let e : ResolvedUnwindInfo = get_or entries 0 no_entry in
+    let row = row_there plan _ (row-of-entry text entries plan p e (0, some, get_or_default entries 0 e no_entry some)) in
+    omega (arith, row.one)
+
 -- the section's plan, in bytes that begin with the section
 pub section-given : (text : ℕ) (entries : List ResolvedUnwindInfo) (section bytes : List ℕ) (s : IsSectionOf text entries section)
-    → BeginsWith bytes section → IsGiven bytes s.plan
-section-given text entries section bytes s begins = record {
+    → 0 < length entries → BeginsWith bytes section → IsGiven bytes s.plan
+section-given text entries section bytes s some begins = record {
   formed = s.of_entries.formed;
-  places = s.places;
+  places = record { some = some-page text entries s.plan s.of_entries some; fits = s.near };
   stands = section-parts bytes s.plan (subst (λ (t : List ℕ). BeginsWith bytes t) s.is begins);
 }
 
@@ -39,18 +51,14 @@ section-given text entries section bytes s begins = record {
 pub finds-entries : (text : ℕ) (entries : List ResolvedUnwindInfo) (section : List ℕ) → AreEntries text entries
     → IsSectionOf text entries section → FindsEntries text entries section
 finds-entries text entries section are s bytes begins offset e of =
-    found-where-said bytes s.plan offset (found_for text e) (section-given text entries section bytes s begins)
+    found-where-said bytes s.plan offset (found_for text e) (section-given text entries section bytes s (omega (arith, of.one.1)) begins)
     (said-of-entry text entries s.plan offset e are s.of_entries of)
-
--- an entry that isn't there
-abbrev pub no_entry : ResolvedUnwindInfo
-no_entry = record { start = 0; length = 0; encoding = 0; personality = None; lsda = None }
 
 -- what look-up finds there of an offset is what the entry of the offset says
 pub finds-only-entries : (text : ℕ) (entries : List ResolvedUnwindInfo) (section : List ℕ) → AreEntries text entries
-    → IsSectionOf text entries section → FindsOnlyEntries text entries section
-finds-only-entries text entries section are s bytes begins offset x finds =
-    let covered = covered-where-found bytes s.plan offset x (section-given text entries section bytes s begins) finds in
+    → 0 < length entries → IsSectionOf text entries section → FindsOnlyEntries text entries section
+finds-only-entries text entries section are some s bytes begins offset x finds =
+    let covered = covered-where-found bytes s.plan offset x (section-given text entries section bytes s some begins) finds in
     let m = entry-of-row text entries s.plan s.of_entries no_entry covered.row covered.one in
     let start = ap (λ (r : Row). r.start) m.is in
     let top = top-of (λ (e : ResolvedUnwindInfo). e.start) (text + offset) entries m.item m.one (omega (arith, start, covered.up_to)) in
@@ -77,11 +85,3 @@ pub no-ids : (entries : List ResolvedUnwindInfo) → length entries ≡ 0 → le
 unfolding named_ids in_order
 no-ids [] none = omega arith
 no-ids (e ∷ entries) none = absurd (omega arith)
-
--- a plan of an entry or more has a page or more
-pub some-page : (text : ℕ) (entries : List ResolvedUnwindInfo) (plan : PlanList) → IsPlanOf text entries plan
-    → 0 < length entries → 0 < length plan.pages
-some-page text entries plan p some =
-    let e : ResolvedUnwindInfo = get_or entries 0 no_entry in
-    let row = row_there plan _ (row-of-entry text entries plan p e (0, some, get_or_default entries 0 e no_entry some)) in
-    omega (arith, row.one)

@@ -1,6 +1,6 @@
 -- The section of entries is that of their one plan.
 --
--- Entries have one plan. So where the last page of one has a place of 32 bits, there is no plan of the entries whose last page
+-- Entries have one plan, so the plan of a section is the only one. So where the last page of one has a place of 32 bits, there is no plan of the entries whose last page
 -- hasn't. No entries have no page, and the tables before it are small. The last page stands in the section, which has no more bytes
 -- than are told before: so where it is far, these are many.
 use Rattle.std.proofs.Common.{◌≡◌, ℕ, ◌-◌, ◌<◌, List, [], ◌∷◌, length, map, take, get_or, refl, ap, ◌∙◌, arith, length-append, inl, inr}
@@ -24,10 +24,14 @@ pub is_section : (text : ℕ) (entries : List ResolvedUnwindInfo) (plan : PlanLi
 is_section text entries plan bytes some a places is = record {
   plan = plan;
   of_entries = a;
-  one = λ other b. plans_are_one text entries other plan some b a;
-  places = places;
+  near = places.fits;
   is = is;
 }
+
+-- it is the section of no other plan
+pub section_plan : (text : ℕ) (entries : List ResolvedUnwindInfo) (bytes : List ℕ) → 0 < length entries
+    → (s : IsSectionOf text entries bytes) → (other : PlanList) → IsPlanOf text entries other → other ≡ s.plan
+section_plan text entries bytes some s other b = plans_are_one text entries other s.plan some b s.of_entries
 
 -- where a plan has its places, no plan has its last page too far away
 pub no_far_page : (text : ℕ) (entries : List ResolvedUnwindInfo) (plan : PlanList) → 0 < length entries → IsPlanOf text entries plan

@@ -9,7 +9,7 @@ use Rattle.macho_unwind_pages.specs.Bounds.{unwind_bound_of}
 use Rattle.macho_unwind_pages.specs.Plans.{PlanList, IsPlanOf, HasFarOffset}
 use Rattle.macho_unwind_pages.specs.Calls.{HasTooMany}
 use Rattle.macho_unwind.specs.Lookup.{UnwindFinds}
-use Rattle.macho_unwind.specs.Texts.{HasPlaces, last_place, section_text}
+use Rattle.macho_unwind.specs.Texts.{last_place, section_text}
 use Rattle.macho_unwind.specs.declared.lookup.Found.{Found}
 
 -- what is to be found of an entry: its encoding, and its addresses less the text's start
@@ -59,12 +59,11 @@ abbrev pub FitsTheBound : List ResolvedUnwindInfo → List ℕ → Type 0
 FitsTheBound entries bytes =
     (span : ℕ) → SpansAtMost span entries → length bytes ≤ unwind_bound_of (inputs_of entries) span
 
--- The bytes are those of the plan of the entries, which is the only one; its tables and pages have places of 32 bits.
+-- The bytes are those of the plan of the entries, of which there is only one; its last page has a place of 32 bits.
 pub record IsSectionOf (text : ℕ) (entries : List ResolvedUnwindInfo) (bytes : List ℕ) : Type 0 where
   pub plan : PlanList
   pub of_entries : IsPlanOf text entries plan
-  pub one : (other : PlanList) → IsPlanOf text entries other → other ≡ plan
-  pub places : HasPlaces plan
+  pub near : last_place plan < 2 ^ 32
   pub is : bytes ≡ section_text plan
 
 -- The last page of a plan of the entries has no place of 32 bits.

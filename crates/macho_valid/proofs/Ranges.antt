@@ -3,7 +3,7 @@
 -- Ranks rise and `__TEXT` begins at the base, so every segment but the one that keeps addresses free stands there or later; and each
 -- ends at most the written sum behind the base, which is small. What lies in such a segment is near the base too. In the file the
 -- segments stand one behind the other from 0 on, and none has more bytes there than in memory.
-use Rattle.std.proofs.Common.{◌≡◌, ℕ, zero, suc, ◌+◌, ◌<◌, ◌≤◌, if◌then◌else◌, Bool, true, false, List, length, get_or, refl, sym, ap}
+use Rattle.std.proofs.Common.{◌≡◌, ℕ, zero, suc, ◌+◌, ◌<◌, ◌≤◌, Bool, true, false, not, cond, List, ◌∷◌, length, get_or, refl, sym, ap}
 use Rattle.std.proofs.Common.{subst, ◌∙◌, arith, inl, inr, All}
 use Rattle.std.specs.Prelude.{Contains}
 use Rattle.std.specs.List.{position_or_len}
@@ -22,7 +22,7 @@ use Rattle.macho_model.specs.declared.placed.Stub.{Stub}
 use Rattle.macho_model.specs.Lists.{IsNumber, EachNext}
 use Rattle.macho_model.specs.Links.{Link, header_at}
 use Rattle.macho_model.specs.Resolution.{entry_at}
-use Rattle.macho_model.specs.Segments.{PAGEZERO, TEXT, DATA_CONST, DATA, LINKEDIT, other_segments, segment_rank}
+use Rattle.macho_model.specs.Segments.{PAGEZERO, TEXT, DATA_CONST, DATA, other_segments, segment_rank}
 use Rattle.macho_model.specs.WrittenSum.{written_sum_of}
 use Rattle.macho_model.specs.Placement.{Placed, id_of, common_of, section_span, common_span, slot_span, stub_span, is_segment_named}
 use Rattle.macho_model.specs.Placement.{Follows, IsPaged, LiesInNamed, SectionLies, IsPlaced}
@@ -94,18 +94,14 @@ rank_text l name is = rw is refl
 
 pub low_rank : (l : Link) (name : List ℕ) → segment_rank l name < 1 → bytes_eq name PAGEZERO ≡ true
 unfolding segment_rank
-low_rank l name low =
-    by (bytes_eq name PAGEZERO) (bytes_eq name TEXT) (bytes_eq name DATA_CONST) (bytes_eq name DATA) (bytes_eq name LINKEDIT) low
+low_rank l name low = by (bytes_eq name PAGEZERO) low
   where
-    by : (a b c d e : Bool)
-        → (if a then 0 else if b then 1 else if c then 2 else if d then 3 else if e then 5 + length (other_segments l)
-        else 4 + position_or_len (bytes_eq name) (other_segments l)) < 1 → a ≡ true
-    by true b c d e h = refl
-    by false true c d e h = absurd (omega (arith, h))
-    by false false true d e h = absurd (omega (arith, h))
-    by false false false true e h = absurd (omega (arith, h))
-    by false false false false true h = absurd (omega (arith, h))
-    by false false false false false h = absurd (omega (arith, h))
+    rest : ℕ
+    rest = position_or_len (bytes_eq name) (TEXT ∷ DATA_CONST ∷ DATA ∷ other_segments l)
+
+    by : (a : Bool) → cond (not a) (1 + rest) 0 < 1 → a ≡ true
+    by true h = refl
+    by false h = absurd (omega (arith, h))
 
 -- `__TEXT`, by its number
 pub record HasText (l : Link) (p : Placed) : Type 0 where
@@ -138,7 +134,7 @@ has_text l counts p placed laid =
 
     front : (k : ℕ) → k < length p.segments → get_or p.segments k placed.in_order.begins.0 ≡ placed.in_order.begins.0
         → segment_rank l (text_of placed.in_order.begins.0.name) ≡ 1 → placed.in_order.begins.0.file_offset ≡ 0
-    front zero lt at rank = laid.low.front placed.in_order.begins.0 (lt, at)
+    front zero lt at rank = laid.least.front placed.in_order.begins.0 (lt, at)
     front (suc zero) lt at rank =
         let e = placed.in_order.begins.0 in
         let step = follow_at l p.segments placed.in_order.follow 0 e lt in
@@ -147,7 +143,7 @@ has_text l counts p placed laid =
         (λ (s : PlacedSegment). segment_rank l (text_of s.name)) at ∙ rank in
         let zero_page = low_rank l (text_of first.name) (omega (arith, step.rank, same)) in
         let size : first.file_size ≡ 0 = laid.least.file_sizes 0 e (omega (arith, lt)) ∙ none first zero_page in
-        let offset : first.file_offset ≡ 0 = laid.low.front first
+        let offset : first.file_offset ≡ 0 = laid.least.front first
         (omega (arith, lt), get_or_default p.segments 0 first e (omega (arith, lt))) in
         omega (arith, step.file_offset, ap (λ (s : PlacedSegment). s.file_offset) at, size, offset)
     front (suc (suc k)) lt at rank =

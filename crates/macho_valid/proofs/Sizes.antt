@@ -38,7 +38,8 @@ use Rattle.macho_model.specs.Consumed.{EntryId, entries_of_link, entry_count, is
 use Rattle.macho_model.specs.Consumed.{initializer_relocation_fits, relocations_in_entry, unwind_entry}
 use Rattle.macho_model.specs.Consumed.{START_PLACE, LSDA_PLACE, holds_functions, lies_in, starts_in}
 use Rattle.macho_model.specs.Placement.{Placed, id_of, is_segment_named, linkedit_ranges}
-use Rattle.macho_model.specs.Order.{least_file_size, LiesInFile}
+use Rattle.macho_model.specs.Order.{least_file_size}
+use Rattle.macho_model.proofs.Least.{LiesInFile, tables_lie}
 use Rattle.macho_model.specs.Stands.{SectionAt, IsAt}
 use Rattle.macho_model.specs.Values.{is_absolute_target}
 use Rattle.macho_model.specs.Limits.{PassesLimit, ImagePasses, IsWritten32}
@@ -70,7 +71,7 @@ pagezero_file l counts p s h (k, lt, at) named = (
     none = rw named refl
 
     front : (k : ℕ) → k < length p.segments → get_or p.segments k s ≡ s → s.file_offset ≡ 0
-    front zero lt at = h.laid.low.front s (lt, at)
+    front zero lt at = h.laid.least.front s (lt, at)
     front (suc k) lt at =
         let step = follow_at l p.segments h.placed.in_order.follow k s lt in
         let rank : segment_rank l (text_of (get_or p.segments (suc k) s).name) ≡ 0 =
@@ -114,7 +115,7 @@ linkedit_end l counts p r h one =
     let m = of_map (λ (s : PlacedSegment). text_of s.name) p.segments LINKEDIT names in
     let named : is_segment_named LINKEDIT m.0 ≡ true = ap (λ (n : List ℕ). bytes_eq n LINKEDIT) m.2 ∙ itself LINKEDIT in
     let there = in_filter (is_segment_named LINKEDIT) p.segments m.0 m.1 named in
-    let lies = All-contains (LiesInFile p.segments) (linkedit_ranges p) r h.laid.low.tables one in
+    let lies = All-contains (LiesInFile p.segments) (linkedit_ranges p) r (tables_lie l counts p h.laid.order h.laid.least) one in
     let part = All-contains (λ (s : PlacedSegment). (s.file_offset ≤ r.start) × (r.start ≤ r.end) × (r.end ≤ s.file_offset + s.file_size))
     (filter (is_segment_named LINKEDIT) p.segments) m.0 lies there in
     let near = segment_near l counts p m.0 h m.1 (ap (λ (n : List ℕ). bytes_eq n PAGEZERO) m.2) in

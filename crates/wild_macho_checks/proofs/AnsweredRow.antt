@@ -15,7 +15,7 @@ use Rattle.macho_model.specs.Links.{Object}
 use Rattle.macho_devices.proofs.Lookups.{get_by_path}
 use Rattle.wild_macho.specs.Head.TheVariants as head
 use Rattle.wild_macho.specs.Heads.{head_of}
-use Rattle.wild_macho.specs.Search.{IsMissing}
+use Rattle.wild_macho.specs.Search.{FileIs}
 use Rattle.wild_macho.specs.Job.{Job, IsJob, uuid_of}
 use Rattle.wild_macho_checks.proofs.RowsAnswered.{calls, calls_is_object, begins_as_file, is_object_type, calling, calling_is_owed}
 use Rattle.wild_macho.specs.Runs.{outside, Says, SayJob, IsOwed}
@@ -75,7 +75,7 @@ is_job = record {
     are = (
       record {
         bytes = calls;
-        found = record { before = []; behind = []; split = refl; missing = All-nil (IsMissing (Some held)); held = is_held };
+        found = record { before = []; behind = []; split = refl; missing = All-nil (FileIs (Some held) None); held = is_held };
         is = record { same = refl; head = begins; sound = calls_is_object };
       },
       tt,

@@ -6,11 +6,11 @@ use Rattle.macho_devices.specs.declared.file_system.FileFault.{FileFault}
 use Rattle.macho_devices.specs.declared.file_system.FileFault.TheVariants.{Failed, OutOfMemory}
 use Rattle.macho_devices.specs.Faults.{CountRose}
 use Rattle.macho_job.specs.declared.search.FoundFile.{FoundFile}
-use Rattle.macho_job.specs.Search.{IsMissing, IsFirstHeld}
+use Rattle.macho_job.specs.Search.{FileIs, IsFirstHeld}
 
 -- the first of the paths that holds a file, or none where none does
 abbrev pub IsSearched : Option Store → List (List ℕ) → Option FoundFile → Type 0
-IsSearched told paths None = All (IsMissing told) paths
+IsSearched told paths None = All (FileIs told None) paths
 IsSearched told paths (Some found) = IsFirstHeld told paths (string_bytes found.path) found.bytes.items
 
 -- one of several calls failed: their count rose

@@ -1,5 +1,5 @@
 -- What is known while the files of a link are gathered.
-use Rattle.std.specs.Prelude.{◌≡◌, ◌⊎◌, ℕ, List, [], ◌∷◌, ◌++◌, map, Option, All, IsUtf8}
+use Rattle.std.specs.Prelude.{◌≡◌, ◌⊎◌, ℕ, List, [], ◌∷◌, ◌++◌, map, Option, None, All, IsUtf8}
 use Rattle.std.specs.List.{AllZip}
 use Rattle.macho_args.specs.Settings as args
 use Rattle.macho_args.specs.Settings.{Settings, word_of}
@@ -15,11 +15,12 @@ use Rattle.macho_image.specs.Refusals.{StubRefused}
 use Rattle.macho_devices.specs.Faults.{CountRose}
 use Rattle.macho_job.specs.declared.fault.Fault.{Fault}
 use Rattle.macho_job.specs.declared.fault.Fault.TheVariants.{MissingFile, UnknownKind, Input as InputFault, Read, OutOfMemory}
+use Rattle.macho_job.specs.declared.heads.Head.{Head}
 use Rattle.macho_job.specs.declared.heads.Head.TheVariants as head
 use Rattle.macho_job.specs.Heads.{head_of}
-use Rattle.macho_job.specs.Search.{candidates_of, IsMissing}
+use Rattle.macho_job.specs.Search.{candidates_of, FileIs, IsFirstHeld}
 use Rattle.macho_job.specs.Job.{SourceFile, IsReadAs, IsTaken, IsListed, AreFiles}
-use Rattle.macho_job.specs.Causes.{BytesRefused, InputRefused, IsUnknown}
+use Rattle.macho_job.specs.Causes.{BytesRefused}
 
 -- An input that was asked for is found and added.
 pub record TakesFile (told : Option Store) (s : Settings) (asked : args.Input) (old_paths paths : List (List ℕ)) (old new : Link) : Type 0 where
@@ -50,9 +51,29 @@ BytesFail word bytes (InputFault at refusal) = (at ≡ word) × BytesRefused (he
 BytesFail word bytes OutOfMemory = Unit {0}
 BytesFail word bytes fault = ⊥
 
+-- the last of the files that were read has this path
+pub record EndsWith (paths : List (List ℕ)) (path : List ℕ) : Type 0 where
+  pub before : List (List ℕ)
+  pub split : paths ≡ before ++ path ∷ []
+
+-- an input's bytes are refused: those of the first of its paths that holds a file, the last that was read
+pub record InputRefused (told : Option Store) (s : Settings) (paths : List (List ℕ)) (asked : args.Input) (refusal : LinkError) : Type 0 where
+  pub path : List ℕ
+  pub bytes : List ℕ
+  pub found : IsFirstHeld told (candidates_of s asked) path bytes
+  pub last : EndsWith paths path
+  pub refused : BytesRefused (head_of bytes) bytes refusal
+
+-- the bytes of a path, where none of the paths before it holds a file, begin as no input
+pub record IsUnknown (told : Option Store) (s : Settings) (asked : args.Input) (head : Head) : Type 0 where
+  pub path : List ℕ
+  pub bytes : List ℕ
+  pub found : IsFirstHeld told (candidates_of s asked) path bytes
+  pub is : head_of bytes ≡ head
+
 -- why an input that was asked for isn't added
 abbrev pub InputFails : Option Store → Settings → List (List ℕ) → args.Input → ℕ → ℕ → Fault → Type 0
-InputFails told s paths asked old new (MissingFile word) = (word ≡ word_of asked) × All (IsMissing told) (candidates_of s asked)
+InputFails told s paths asked old new (MissingFile word) = (word ≡ word_of asked) × All (FileIs told None) (candidates_of s asked)
 InputFails told s paths asked old new (UnknownKind word kind) = (word ≡ word_of asked) × IsUnknown told s asked (head.Unknown kind)
 InputFails told s paths asked old new (InputFault word refusal) = (word ≡ word_of asked) × InputRefused told s paths asked refusal
 InputFails told s paths asked old new (Read word) = (word ≡ word_of asked) × CountRose old new
@@ -61,7 +82,7 @@ InputFails told s paths asked old new fault = ⊥
 
 -- why a list isn't added
 abbrev pub ListFails : Option Store → ℕ → List ℕ → ℕ → ℕ → Fault → Type 0
-ListFails told word path old new (MissingFile at) = (at ≡ word) × IsMissing told path
+ListFails told word path old new (MissingFile at) = (at ≡ word) × FileIs told None path
 ListFails told word path old new (Read at) = (at ≡ word) × CountRose old new
 ListFails told word path old new OutOfMemory = Unit {0}
 ListFails told word path old new fault = ⊥

@@ -49,7 +49,7 @@ returns-clause-found c =
     finds-entries c.args.text_start c.args.entries.now _ c.requires (returns-clause-done c some)
 
 pub returns-clause-only : goal.returns-clause-only
-returns-clause-only c some = finds-only-entries c.args.text_start c.args.entries.now _ c.requires (returns-clause-done c some)
+returns-clause-only c some = finds-only-entries c.args.text_start c.args.entries.now _ c.requires some (returns-clause-done c some)
 
 pub returns-clause-room : goal.returns-clause-room
 returns-clause-room c span spans =
