@@ -144,5 +144,6 @@ unwind_said l counts p b text make made stands = record {
     by : (offset : ℕ) (x : Found) → UnwindFinds (unwind_bytes b p) offset x → IsUnwindText p.base (resolved_entries l p) text
         → IsFoundFor p.base (resolved_entries l p) offset x
     by offset x finds (inl none) =
-        absurd (nothing-finds (unwind_bytes b p) (no_bytes b p (no_room l counts p make.counted make.placed.least.rooms none.0)) offset x finds)
+        absurd (nothing-finds (unwind_bytes b p) (no_bytes b p (no_room l counts p make.counted make.placed.least.rooms none.0)) offset
+        x finds)
     by offset x finds (inr some) = made.only some.0 (unwind_bytes b p) front offset x finds

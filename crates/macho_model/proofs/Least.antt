@@ -105,7 +105,8 @@ behind_others others none =
     filter-append is_last others (LINKEDIT ∷ []) ∙ ap (λ (ns : List (List ℕ)). ns ++ LINKEDIT ∷ []) none
 
 one_of : (a b c : Bool) (others : List (List ℕ)) → filter is_last others ≡ []
-    → filter is_last (list_if a (PAGEZERO ∷ []) ++ TEXT ∷ [] ++ list_if b (DATA_CONST ∷ []) ++ list_if c (DATA ∷ []) ++ others ++ LINKEDIT ∷ [])
+    → filter is_last (list_if a (PAGEZERO ∷ []) ++ TEXT ∷ [] ++ list_if b (DATA_CONST ∷ []) ++ list_if c (DATA ∷ []) ++ others
+    ++ LINKEDIT ∷ [])
     ≡ LINKEDIT ∷ []
 one_of true true true others none = behind_others others none
 one_of true true false others none = behind_others others none
@@ -204,7 +205,9 @@ tables_lie l counts p order least k d lt =
         (omega (arith, a), fixups, omega (arith, t, trie, s, symbols, n, strings, g, signature))
         (All-cons Lie p.linkedit.trie (p.linkedit.symtab ∷ p.linkedit.strtab ∷ p.linkedit.signature ∷ [])
         (omega (arith, a, t, fixups), trie, omega (arith, s, symbols, n, strings, g, signature))
-        (All-cons Lie p.linkedit.symtab (p.linkedit.strtab ∷ p.linkedit.signature ∷ []) (omega (arith, a, t, fixups, s, trie), symbols, omega (arith, n, strings, g, signature))
-        (All-cons Lie p.linkedit.strtab (p.linkedit.signature ∷ []) (omega (arith, a, t, fixups, s, trie, n, symbols), strings, omega (arith, g, signature))
+        (All-cons Lie p.linkedit.symtab (p.linkedit.strtab ∷ p.linkedit.signature ∷ [])
+        (omega (arith, a, t, fixups, s, trie), symbols, omega (arith, n, strings, g, signature))
+        (All-cons Lie p.linkedit.strtab (p.linkedit.signature ∷ [])
+        (omega (arith, a, t, fixups, s, trie, n, symbols), strings, omega (arith, g, signature))
         (All-cons Lie p.linkedit.signature []
         (omega (arith, a, t, fixups, s, trie, n, symbols, g, strings), signature, omega arith) (All-nil Lie)))))

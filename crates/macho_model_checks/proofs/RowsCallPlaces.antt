@@ -172,7 +172,8 @@ exchanged_rooms = record {
 -- each part has its least place
 pub exchanged_is_least : AreLeast calling counts_of_call with_list_exchanged
 exchanged_is_least =
-    least_places with_list_exchanged call_is_least.front exchanged_facts.0 exchanged_facts.1 exchanged_facts.2 exchanged_facts.3 exchanged_rooms
+    least_places with_list_exchanged call_is_least.front exchanged_facts.0 exchanged_facts.1 exchanged_facts.2
+    exchanged_facts.3 exchanged_rooms
 
 pub list_order_is_asked : StandInOrder calling counts_of_call with_list_exchanged → ⊥
 list_order_is_asked order =

@@ -95,9 +95,7 @@ page_fits = record {
   named = one_of (λ word. word / 2 ^ 24 < 1) 0 (omega arith);
   locals = omega arith;
   room = omega arith;
-  full = λ some. absurd (omega (arith, some));
   start = omega arith;
-  words = one_of (λ word. word < 2 ^ 32) 0 (omega arith);
   codes = All-nil (λ code. code < 2 ^ 32);
 }
 
@@ -175,8 +173,8 @@ begins_there = rw range_there (record { within = omega (arith, long_section); sa
 finds_there : (offset : ℕ) (x : Found)
     → UnwindFinds (unwind_bytes unwind_file placed_unwind) offset x ↔ IsFoundFor 0x100000000 functions offset x
 finds_there offset x = (
-  finds-only-entries 0x100000000 functions unwind_section they_are_entries (omega arith) section_is_theirs (unwind_bytes unwind_file placed_unwind)
-      begins_there offset x,
+  finds-only-entries 0x100000000 functions unwind_section they_are_entries (omega arith) section_is_theirs
+      (unwind_bytes unwind_file placed_unwind) begins_there offset x,
   λ is. subst (λ (y : Found). UnwindFinds (unwind_bytes unwind_file placed_unwind) offset y) (sym is.is)
       (finds-entries 0x100000000 functions unwind_section they_are_entries section_is_theirs (unwind_bytes unwind_file placed_unwind)
       begins_there offset is.entry is.of_offset),

@@ -230,13 +230,14 @@ unfolding segment_rank
 zero_rank l = refl
 
 -- that of `__LINKEDIT`, which isn't among the others
-last_place : (names : List (List ℕ)) → All (λ n. is_known_segment n ≡ false) names → position_or_len (bytes_eq LINKEDIT) names ≡ length names
+last_place : (names : List (List ℕ)) → All (λ n. is_known_segment n ≡ false) names
+    → position_or_len (bytes_eq LINKEDIT) names ≡ length names
 last_place names unknown =
     position_or_len_is (bytes_eq LINKEDIT) names (length names) [] (omega arith)
     (λ k low.
     let n : List ℕ = get_or names k [] in
-    bytes_turn LINKEDIT n ∙ (or_parts (bytes_eq n PAGEZERO || bytes_eq n TEXT || bytes_eq n DATA_CONST || bytes_eq n DATA) (bytes_eq n LINKEDIT)
-    (unknown k [] low)).1)
+    bytes_turn LINKEDIT n
+    ∙ (or_parts (bytes_eq n PAGEZERO || bytes_eq n TEXT || bytes_eq n DATA_CONST || bytes_eq n DATA) (bytes_eq n LINKEDIT) (unknown k [] low)).1)
     (λ low. absurd (omega (arith, low)))
 
 pub last_rank : (l : Link) → segment_rank l LINKEDIT ≡ 4 + length (other_segments l)

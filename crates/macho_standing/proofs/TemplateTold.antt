@@ -166,8 +166,8 @@ is_member l counts p q objects order there =
     }
 
 -- by the range
-filled : (l : Link) (counts : Counts) (p : Placed) (range : Option Range64) → ObjectsAreRead l → StandInOrder l counts p → AreLeast l counts p
-    → TemplateHolds l counts p range → TemplateIsTight l p range
+filled : (l : Link) (counts : Counts) (p : Placed) (range : Option Range64) → ObjectsAreRead l → StandInOrder l counts p
+    → AreLeast l counts p → TemplateHolds l counts p range → TemplateIsTight l p range
     → MatchOption range (map (output_header l p) (templates l counts) ≡ []) (FillTemplate (map (output_header l p) (templates l counts)))
 filled l counts p None objects order least holds tight =
     ap (map (output_header l p)) (no_elements (templates l counts) (λ o there.

@@ -1,8 +1,8 @@
 -- The section of entries is that of their one plan.
 --
--- Entries have one plan, so the plan of a section is the only one. So where the last page of one has a place of 32 bits, there is no plan of the entries whose last page
--- hasn't. No entries have no page, and the tables before it are small. The last page stands in the section, which has no more bytes
--- than are told before: so where it is far, these are many.
+-- Entries have one plan, so the plan of a section is the only one. So where the last page of one has a place of 32 bits, there is no
+-- plan of the entries whose last page hasn't. No entries have no page, and the tables before it are small. The last page stands in the
+-- section, which has no more bytes than are told before: so where it is far, these are many.
 use Rattle.std.proofs.Common.{◌≡◌, ℕ, ◌-◌, ◌<◌, List, [], ◌∷◌, length, map, take, get_or, refl, ap, ◌∙◌, arith, length-append, inl, inr}
 use Rattle.std.specs.List.{flat_map, sum_by}
 use Rattle.std.proofs.lemmas.List.{length-map, nil_from_length}

@@ -17,6 +17,7 @@ use Rattle.macho_bytes.proofs.Tables.{table-stands}
 use Rattle.macho_bytes.proofs.Layouts.{reading-stands_little}
 use Rattle.macho_unwind_pages.specs.declared.plans.Lsda.{Lsda}
 use Rattle.macho_unwind_pages.specs.Plans.{PlanList, IsPlan, IsPage}
+use Rattle.macho_unwind_pages.proofs.Implied.{word_fits}
 use Rattle.macho_unwind.specs.declared.records.CompactUnwindInfoHeader.{CompactUnwindInfoHeader}
 use Rattle.macho_unwind.specs.declared.records.PageEntry.{PageEntry}
 use Rattle.macho_unwind.specs.declared.records.CompressedPage.{CompressedPage}
@@ -111,7 +112,7 @@ word-read bytes plan k j formed places s lt within =
     ∙ ap (λ (h : CompressedPage). le_at 4 bytes (page_place plan k + h.functions_offset + 4 * j))
     (head-read bytes plan k formed places s lt)
     ∙ word-stands (page_of plan k).words bytes (page_place plan k + 12) j within
-    ((formed_at plan k formed lt).words j 0 within) (page-here bytes plan k s lt).words
+    (word_fits plan k j (record { first = 0; words = []; locals = [] }) 0 formed lt within) (page-here bytes plan k s lt).words
 
 -- the encoding of a number, by the records that tell where encodings are
 abbrev encoding_by : List ℕ → CompactUnwindInfoHeader → PageEntry → CompressedPage → ℕ → Option ℕ

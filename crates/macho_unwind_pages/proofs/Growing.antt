@@ -42,9 +42,7 @@ is_page globals page some p = record {
   named = p.named;
   locals = p.locals;
   room = p.room;
-  full = p.full;
   start = p.start;
-  words = p.words;
   codes = p.codes;
 }
 

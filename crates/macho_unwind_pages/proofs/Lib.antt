@@ -17,3 +17,4 @@ pub mod OneTables
 pub mod OnePlan
 pub mod PlansShort
 pub mod NamedIds
+pub mod Implied

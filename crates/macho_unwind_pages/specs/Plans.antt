@@ -66,7 +66,7 @@ size_of plan =
     + LSDA_SIZE * length plan.lsdas + sum_by page_size plan.pages
 
 -- A page that can be written: its first function stands at its first offset, and each word names a code. Its own codes are numbered
--- behind those that every page may name, and there are some only where these are all taken.
+-- behind those that every page may name.
 pub record IsPage (globals : List ℕ) (page : PageList) : Type 0 where
   pub some : 0 < length page.words
   pub first : slice_index page.words 0 % PAGE_SPAN ≡ 0
@@ -74,9 +74,7 @@ pub record IsPage (globals : List ℕ) (page : PageList) : Type 0 where
   pub named : All (λ word. word / PAGE_SPAN < length globals + length page.locals) page.words
   pub locals : length page.locals ≤ MOST_LOCALS
   pub room : length page.words + length page.locals ≤ MOST_WORDS
-  pub full : 0 < length page.locals → length globals ≡ MOST_GLOBALS
   pub start : page.first < 2 ^ 32
-  pub words : All (λ word. word < 2 ^ 32) page.words
   pub codes : All (λ code. code < 2 ^ 32) page.locals
 
 -- A plan that can be written, whatever its entries are: a page begins behind the last function of the page before it,
