@@ -1,7 +1,6 @@
 -- What is made is answered, and its refusal is the link's.
-use Rattle.std.proofs.Common.{ap, ◌∙◌, ◌≡◌, map, length, arith}
+use Rattle.std.proofs.Common.{ap, ◌≡◌, map, length, arith}
 use Rattle.std.proofs.lemmas.List.{length-map}
-use Rattle.std.proofs.lemmas.Result.{err_from_is_err_and}
 use Rattle.macho_model.specs.Needs.{libraries_needed}
 use Rattle.macho_linking.specs.Linking.{link_asked}
 use Rattle.macho_linking.proofs.Closing.{fine_link, refused_with, refused_memory, libraries_few}

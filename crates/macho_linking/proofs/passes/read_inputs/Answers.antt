@@ -2,7 +2,7 @@
 use Rattle.std.proofs.Common.{refl}
 use Rattle.std.proofs.lemmas.Result.{err_from_is_err_and}
 use Rattle.macho_linking.specs.Linking.{link_asked}
-use Rattle.macho_linking.specs.steps.Imaged.{StandsAlways, IsSingle}
+use Rattle.macho_linking.specs.steps.Imaged.{IsSingle}
 use Rattle.macho_linking.proofs.Given.{same_inputs, link_handed, on_ok, stands_always}
 use Rattle.macho_linking.proofs.passes.read_inputs.Goals as goal
 

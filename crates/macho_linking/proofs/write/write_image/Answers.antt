@@ -1,9 +1,7 @@
 -- The look-ups tell of the link, so the parts are written, and the buffer is what they were written into.
 use Rattle.std.proofs.Common.{subst, sym, refl, arith}
 use Rattle.std.proofs.lemmas.Result.{err_from_is_err_and}
-use Rattle.macho_linking.specs.declared.fault.Unwritten.TheVariants.{OutOfMemory}
 use Rattle.macho_linking.specs.steps.Planned.{placement_of, counts_of}
-use Rattle.macho_linking.specs.steps.Unwritten.{UnwrittenStands}
 use Rattle.macho_linking.specs.steps.Imaged.{IsImaged}
 use Rattle.macho_linking.proofs.Ready.{planned_of_link}
 use Rattle.macho_linking.proofs.Answering.{whole_buffer}
