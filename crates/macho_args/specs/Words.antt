@@ -24,7 +24,7 @@ read_plain i word s =
     else if starts_with nat_eq word (codes "@") then Err (Unsupported i)
     else Ok (record s { inputs = s.inputs ++ file i word ∷ [] })
 
--- What was read of a word: the settings after it, and how many of the words behind it are its values.
+-- A meaning, with the number of values that it took: the settings after a word, and how many of the words behind it are its values.
 abbrev pub taking : ℕ → Result Settings ArgsFault → Result (Settings × ℕ) ArgsFault
 taking values meaning = meaning >>= λ s. Ok (s, values)
 

@@ -18,5 +18,6 @@ pub record IsListOf (texts : List (List ℕ)) (e : ListEntries) : Type 0 where
 abbrev pub is_within : ListEntries → List ℕ → Bool
 is_within e name = list_any (bytes_eq name) e.plain || list_any (λ p. matches p name) e.patterns
 
+-- the bytes of texts that are owned
 abbrev pub texts_of : {A : Type 0} → List (Vec ℕ A) → List (List ℕ)
 texts_of vs = map (λ v. v.items) vs

@@ -1,5 +1,5 @@
--- Which words of an image the loader writes: the slots, and the pointers that move with the image or lead to an import;
--- and the entries of the import table that they need.
+-- The entries of the import table that a link needs; and which words of an image the loader writes: the slots, and the
+-- pointers that move with the image or lead to an import.
 use Rattle.std.specs.Prelude.{◌≡◌, ℕ, ◌+◌, ◌==◌, ◌&&◌, ◌↔◌, nat_lt, not, if◌then◌else◌, Bool, true, List, ◌++◌, length, map, Option, Some, None, Contains}
 use Rattle.std.specs.List.{flat_map, filter_map, range_with_len}
 use Rattle.macho_model.specs.declared.placed.PlacedSection.{PlacedSection}

@@ -27,7 +27,7 @@ initializers_of l = flat_map (initializers_in l) (initializer_sections l)
 abbrev pub initializer_at : List ℕ → Placed → ℕ → ℕ
 initializer_at b p k = p.base + le_at INITIALIZER_SIZE b (offset_in_file p (p.init_offsets.start + INITIALIZER_SIZE * k))
 
--- the range of initializers, which has room for no more (`HaveRoom`), holds one offset for each, in order
+-- the range of initializers holds one offset for each, in order (that it has room for no more is part of the sizes)
 abbrev pub InitOffsetsSay : Link → List ℕ → Placed → Type 0
 InitOffsetsSay l b p = map (initializer_at b p) (range_with_len 0 (length (initializers_of l))) ≡ map (address_of p) (initializers_of l)
 

@@ -59,7 +59,7 @@ is_known_segment name =
 unfoldable pub other_segments : Link → List (List ℕ)
 other_segments l = filter (λ name. not (is_known_segment name)) (distinct bytes_eq (map (segment_name l) (carried_of l)))
 
--- The rank of a segment: its place among these, the others as first seen, and behind all of them `__LINKEDIT`.
+-- The rank of a segment: `__PAGEZERO`, `__TEXT`, `__DATA_CONST`, `__DATA`, the others as first seen. `__LINKEDIT` is behind all of them.
 unfoldable pub segment_rank : Link → List ℕ → ℕ
 segment_rank l name = position_or_len (bytes_eq name) (PAGEZERO ∷ TEXT ∷ DATA_CONST ∷ DATA ∷ other_segments l)
 

@@ -25,8 +25,9 @@ use Rattle.macho_layout.specs.Laid.{IsLaidOut, IsSmall, IsTooLarge, FaultStands}
 pub record IsWhollyPlaced (l : Link) (counts : Counts) (q : Placed) : Type 0 where
   -- each part has its place: THE placement relation
   pub placed : IsPlaced l counts q
-  -- parts stand in the stated order, each as low as it may
+  -- what is listed has the stated order
   pub order : StandInOrder l counts q
+  -- parts stand in the stated order, each as low as it may
   pub least : AreLeast l counts q
   -- the output sections are the link's, with all that their headers say
   pub sections : q.output_sections ≡ output_sections_for l counts q

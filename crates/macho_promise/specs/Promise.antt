@@ -56,13 +56,13 @@ pub record Tells (l : Link) (b : List ℕ) (p : Placed) : Type 0 where
   -- look-up of an offset in the unwind information finds exactly what its entry says
   pub unwind : UnwindSays l b p
 
--- What the file says of itself, byte for byte. Its unwind information has so many bytes.
+-- What the file says of itself, byte for byte, and which words the loader writes. Its unwind information has so many bytes.
 pub record IsWritten (l : Link) (counts : Counts) (uuid : List ℕ) (b : List ℕ) (p : Placed) (unwind : ℕ) : Type 0 where
   -- header and load commands, with every field
   pub head : HeadSays l counts uuid b p
   -- the fixup table, and the words of its chains
   pub fixups : FixupsSay l b p
-  -- the loader writes these words, and no other
+  -- the loader writes the words of these fixups (the slots, and the pointers that need one), and no other
   pub chain : (a : ℕ) → OnChainOf b a ↔ IsAddressOf fixups.fixups a
   -- the entries of the symbol table and the names of the string table, to the last byte
   pub symbols : SymbolsSay l counts b p
@@ -81,9 +81,9 @@ pub record IsLinked (l : Link) (counts : Counts) (uuid : List ℕ) (b : List ℕ
   pub laid_out : IsLaidOut l counts p
   -- the load commands say what the placement does
   pub agrees : Agrees l counts b p
-  -- fixups, imports, exports, initializers, unwind information
+  -- imports, libraries, exports, initializers, the thread-local template, unwind information
   pub tells : Tells l b p
-  -- header, commands, fixup table, symbols, signature, zeros
+  -- header, commands, fixup table and the words that the loader writes, symbols, signature, zeros
   pub written : IsWritten l counts uuid b p (length tells.unwind.content)
 
 -- THE answer of a link: an image with its placement, and what is told beside its bytes.

@@ -51,7 +51,7 @@ abbrev pub IsUnwindText : ℕ → List ResolvedUnwindInfo → List ℕ → Type 
 IsUnwindText text entries bytes = ((entries ≡ []) × (bytes ≡ [])) ⊎ ((1 ≤ length entries) × IsSectionOf text entries bytes)
 
 -- THE unwind information of the file: every offset finds the entry with the greatest start not above it, and nothing before
--- the first start or from the end of the last function on.
+-- the first start or from the end of the last function on. (That there is no range without entries is part of the sizes.)
 pub record UnwindSays (l : Link) (b : List ℕ) (p : Placed) : Type 0 where
   -- what the range begins with; the room behind it is for zeros
   pub content : List ℕ

@@ -59,7 +59,8 @@ abbrev pub FitsTheBound : List ResolvedUnwindInfo → List ℕ → Type 0
 FitsTheBound entries bytes =
     (span : ℕ) → SpansAtMost span entries → length bytes ≤ unwind_bound_of (inputs_of entries) span
 
--- The bytes are those of the plan of the entries, of which there is only one; its last page has a place of 32 bits.
+-- The bytes are those of a plan of the entries, of which one entry or more have only one (`PlansAreOne`); its last page has a place of
+-- 32 bits.
 pub record IsSectionOf (text : ℕ) (entries : List ResolvedUnwindInfo) (bytes : List ℕ) : Type 0 where
   pub plan : PlanList
   pub of_entries : IsPlanOf text entries plan

@@ -141,7 +141,7 @@ pub record AreLocals (globals : List ℕ) (page : PageList) : Type 0 where
 abbrev pub HasSlot : ℕ → List ℕ → List ℕ → ResolvedUnwindInfo → Type 0
 HasSlot text ids slots e = IfSome e.personality (λ p. slice_get slots (place_in ids p.id) ≡ Some (p.slot - text))
 
--- A plan of entries: its rows are theirs by rising start.
+-- A plan of entries: its rows are theirs by rising start. (So a page has codes of its own only where all shared numbers are taken.)
 pub record IsPlanOf (text : ℕ) (entries : List ResolvedUnwindInfo) (plan : PlanList) : Type 0 where
   pub formed : IsPlan plan
   -- the entries by rising start
