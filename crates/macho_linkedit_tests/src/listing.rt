@@ -96,7 +96,7 @@ fn object_of(alloc: Global, symbols: &[Symbol<'_>]) -> Result<Vec<u8>, AllocErro
 }
 
 /// The symbols of a link of one object, resolved.
-fn resolve<'a>(alloc: Global, file: &File<'a>) -> Result<Resolved<'a>, Fail>
+pub(crate) fn resolve<'a>(alloc: Global, file: &File<'a>) -> Result<Resolved<'a>, Fail>
     requires { file.now.is_dynamic ≡ false }
     ensures { IfOk result (IsAlone file.now.bytes) }
 {
