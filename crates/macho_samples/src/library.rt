@@ -54,16 +54,8 @@ fn id_bytes(alloc: Global, name: &str) -> Result<Vec<u8>, AllocError> {
     Ok(out)
 }
 
-/// The bytes of a dynamic library that offers its names.
-pub fn dylib_bytes(alloc: Global, library: &Library<'_>) -> Result<Vec<u8>, AllocError> {
-    let mut offered = Vec::new(alloc);
-    add_symbols(&mut offered, library.names, 0)?;
-    add_symbols(&mut offered, library.weak, 0x80)?;
-    dylib_with(alloc, library.install_name, &offered)
-}
-
-/// The bytes of a dynamic library with some symbols: a header, its install name and its symbol table.
-pub fn dylib_with(
+// The bytes of a dynamic library with some symbols: a header, its install name and its symbol table.
+fn dylib_with(
     alloc: Global,
     install_name: &str,
     symbols: &[Symbol<'_>],
@@ -79,6 +71,14 @@ pub fn dylib_with(
     out.extend_from_slice(&symbols.rows)?;
     out.extend_from_slice(&symbols.names)?;
     Ok(out)
+}
+
+/// The bytes of a dynamic library that offers its names.
+pub fn dylib_bytes(alloc: Global, library: &Library<'_>) -> Result<Vec<u8>, AllocError> {
+    let mut offered = Vec::new(alloc);
+    add_symbols(&mut offered, library.names, 0)?;
+    add_symbols(&mut offered, library.weak, 0x80)?;
+    dylib_with(alloc, library.install_name, &offered)
 }
 
 // A list of names on a line, under a key; no line where there is none.
