@@ -2,7 +2,7 @@
 --
 -- The functions are those of the run, so there is one, they start in order, and the code of each is ranked. So they can be
 -- put on pages beside the first ranks. With the slots and the data of the run these are the parts of a plan.
-use Rattle.std.proofs.Common.{◌≡◌, ◌==◌, ◌<◌, ℕ, List, length, map, true, refl, sym, ap, subst, ◌∙◌, arith}
+use Rattle.std.proofs.Common.{◌≡◌, ◌==◌, ◌<◌, List, length, map, true, refl, sym, ap, subst, ◌∙◌, arith}
 use Rattle.std.specs.List.{All, AllPairs, list_any}
 use Rattle.std.proofs.lemmas.List.{length-map}
 use Rattle.std.proofs.lemmas.List.Elements.{All-map}
