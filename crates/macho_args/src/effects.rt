@@ -1,6 +1,9 @@
 //! What each option does to the fields.
 
-ghost use Rattle.std.specs.Prelude.{◌≡◌, ◌+◌, ◌<◌, ◌^◌, ◌∷◌, ◌++◌, [], Ok, Err, OnOk, IfErr, MatchBool};
+ghost use Rattle.std.specs.Prelude.{◌≡◌, ◌+◌, ◌<◌, ◌^◌, ◌∷◌, ◌++◌, [], map, Some, Ok, Err, OnOk, IfErr, MatchBool, MatchResult};
+ghost use Rattle.std.specs.Option.{option_map};
+ghost use Rattle.std.specs.String.{string_bytes};
+ghost use Rattle.macho_args.specs.declared.fault.ArgsFault.TheVariants.{OutOfMemory};
 ghost use Rattle.macho_args.specs.Effects.{uuid_of, count_of};
 
 use crate::fault::ArgsFault;
@@ -10,7 +13,7 @@ use crate::options::{Flag, Valued};
 use crate::version::SemanticVersion;
 use crate::words::{begins_with, contains_text};
 use hex::FromHex;
-use std::alloc::{AllocError, Global};
+use std::alloc::Global;
 
 /// The one architecture.
 const ARM64: &str = "arm64";
@@ -56,32 +59,30 @@ impl MachOArgs {
         ensures why { IfErr result (HasCause (with_value keep_root option word value.now (settings_of self.old))) }
     {
         match option {
-            Valued::Output => self.output = String::from_str(alloc, value)?,
-            Valued::Entry => self.entry = String::from_str(alloc, value)?,
-            Valued::InstallName => self.install_name = Some(String::from_str(alloc, value)?),
-            Valued::LtoLibrary => self.plugin_path = Some(String::from_str(alloc, value)?),
-            Valued::ExportedSymbolsList => self.add_export_list(alloc, word, value)?,
-            Valued::Rpath => self.add_rpath(alloc, value)?,
-            Valued::LibraryPath => self.add_library_path(alloc, value)?,
-            Valued::FrameworkPath => self.add_framework_path(alloc, value)?,
-            Valued::Root => self.keep_root(alloc, value)?,
-            Valued::Library => self.add_library(alloc, word, value)?,
-            Valued::Framework => self.add_framework(alloc, word, value)?,
-            Valued::Arch => check(value == ARM64, ArgsFault::BadArch { word })?,
-            Valued::Mllvm => check(value == OUTLINING, ArgsFault::Unsupported { word })?,
-            Valued::Uuid => self.uuid = Some(uuid(value).ok_or(ArgsFault::BadUuid { word })?),
-            Valued::Generate => self.generate = Some(object_count(value).ok_or(
-                ArgsFault::BadNumber { word },
-            )?),
+            Valued::Output => set_text(alloc, &mut self.output, value),
+            Valued::Entry => set_text(alloc, &mut self.entry, value),
+            Valued::InstallName => set_optional_text(alloc, &mut self.install_name, value),
+            Valued::LtoLibrary => set_optional_text(alloc, &mut self.plugin_path, value),
+            Valued::ExportedSymbolsList => self.add_export_list(alloc, word, value),
+            Valued::Rpath => self.add_rpath(alloc, value),
+            Valued::LibraryPath => add_text(alloc, &mut self.lib_search_path, value),
+            Valued::FrameworkPath => add_text(alloc, &mut self.framework_search_path, value),
+            Valued::Root => self.keep_root(alloc, value),
+            Valued::Library => self.add_library(alloc, word, value),
+            Valued::Framework => self.add_framework(alloc, word, value),
+            Valued::Arch => check(value == ARM64, ArgsFault::BadArch { word }),
+            Valued::Mllvm => check(value == OUTLINING, ArgsFault::Unsupported { word }),
+            Valued::Uuid => self.set_uuid(word, value),
+            Valued::Generate => self.set_object_count(word, value),
         }
-        Ok(())
     }
 
     // Adds a list of exported names, by its path.
-    fn add_export_list(&mut self, alloc: Global, word: u32, path: &str) -> Result<(), AllocError>
-        ensures { OnOk result (settings_of self.new ≡ record (settings_of self.old) {
+    fn add_export_list(&mut self, alloc: Global, word: u32, path: &str) -> Result<(), ArgsFault>
+        ensures done { OnOk result (settings_of self.new ≡ record (settings_of self.old) {
           export_list_paths = (settings_of self.old).export_list_paths ++ (word, path.now) ∷ [];
         }) }
+        ensures why { IfErr result (λ fault. fault ≡ OutOfMemory) }
     {
         self.export_list_paths
             .push((word, String::from_str(alloc, path)?))?;
@@ -89,42 +90,22 @@ impl MachOArgs {
     }
 
     // Adds a run path, if it isn't there.
-    fn add_rpath(&mut self, alloc: Global, path: &str) -> Result<(), AllocError>
-        ensures { OnOk result (settings_of self.new ≡ record (settings_of self.old) {
+    fn add_rpath(&mut self, alloc: Global, path: &str) -> Result<(), ArgsFault>
+        ensures done { OnOk result (settings_of self.new ≡ record (settings_of self.old) {
           rpaths = with_once path.now (settings_of self.old).rpaths;
         }) }
+        ensures why { IfErr result (λ fault. fault ≡ OutOfMemory) }
     {
         if contains_text(&self.rpaths, path) {
             return Ok(());
         }
-        self.rpaths.push(String::from_str(alloc, path)?)?;
-        Ok(())
-    }
-
-    // Adds a path of libraries.
-    fn add_library_path(&mut self, alloc: Global, path: &str) -> Result<(), AllocError>
-        ensures { OnOk result (settings_of self.new ≡ record (settings_of self.old) {
-          lib_search_path = (settings_of self.old).lib_search_path ++ path.now ∷ [];
-        }) }
-    {
-        self.lib_search_path.push(String::from_str(alloc, path)?)?;
-        Ok(())
-    }
-
-    // Adds a path of frameworks.
-    fn add_framework_path(&mut self, alloc: Global, path: &str) -> Result<(), AllocError>
-        ensures { OnOk result (settings_of self.new ≡ record (settings_of self.old) {
-          framework_search_path = (settings_of self.old).framework_search_path ++ path.now ∷ [];
-        }) }
-    {
-        self.framework_search_path
-            .push(String::from_str(alloc, path)?)?;
-        Ok(())
+        add_text(alloc, &mut self.rpaths, path)
     }
 
     // Keeps the path of the root as it is given, and drops the library paths before it.
-    fn keep_root(&mut self, alloc: Global, path: &str) -> Result<(), AllocError>
-        ensures { OnOk result (settings_of self.new ≡ keep_root path.now (settings_of self.old)) }
+    fn keep_root(&mut self, alloc: Global, path: &str) -> Result<(), ArgsFault>
+        ensures done { OnOk result (settings_of self.new ≡ keep_root path.now (settings_of self.old)) }
+        ensures why { IfErr result (λ fault. fault ≡ OutOfMemory) }
     {
         self.sysroot = Some(String::from_str(alloc, path)?);
         self.lib_search_path.clear();
@@ -147,13 +128,36 @@ impl MachOArgs {
     }
 
     // Adds a framework by its name.
-    fn add_framework(&mut self, alloc: Global, word: u32, name: &str) -> Result<(), AllocError>
-        ensures { OnOk result (settings_of self.new ≡ record (settings_of self.old) {
+    fn add_framework(&mut self, alloc: Global, word: u32, name: &str) -> Result<(), ArgsFault>
+        ensures done { OnOk result (settings_of self.new ≡ record (settings_of self.old) {
           inputs = (settings_of self.old).inputs ++ framework word name.now ∷ [];
         }) }
+        ensures why { IfErr result (λ fault. fault ≡ OutOfMemory) }
     {
         let name = String::from_str(alloc, name)?;
         self.inputs.push(InputSpec::Framework { word, name })?;
+        Ok(())
+    }
+
+    // Sets the UUID.
+    #[tactic(auto, unfolding(crate::specs::Effects::with_value))]
+    fn set_uuid(&mut self, word: u32, text: &str) -> Result<(), ArgsFault>
+        ensures { MatchResult result
+            (λ _. with_value keep_root Valued.Uuid word text.now (settings_of self.old) ≡ Ok (settings_of self.new))
+            (λ fault. with_value keep_root Valued.Uuid word text.now (settings_of self.old) ≡ Err fault) }
+    {
+        self.uuid = Some(uuid(text).ok_or(ArgsFault::BadUuid { word })?);
+        Ok(())
+    }
+
+    // Sets how many objects are made.
+    #[tactic(auto, unfolding(crate::specs::Effects::with_value))]
+    fn set_object_count(&mut self, word: u32, text: &str) -> Result<(), ArgsFault>
+        ensures { MatchResult result
+            (λ _. with_value keep_root Valued.Generate word text.now (settings_of self.old) ≡ Ok (settings_of self.new))
+            (λ fault. with_value keep_root Valued.Generate word text.now (settings_of self.old) ≡ Err fault) }
+    {
+        self.generate = Some(object_count(text).ok_or(ArgsFault::BadNumber { word })?);
         Ok(())
     }
 
@@ -188,6 +192,33 @@ impl MachOArgs {
         });
         Ok(())
     }
+}
+
+// Puts a text into a field.
+fn set_text(alloc: Global, field: &mut String, text: &str) -> Result<(), ArgsFault>
+    ensures done { OnOk result (string_bytes field.new ≡ text.now) }
+    ensures why { IfErr result (λ fault. fault ≡ OutOfMemory) }
+{
+    *field = String::from_str(alloc, text)?;
+    Ok(())
+}
+
+// Puts a text into a field that may have none.
+fn set_optional_text(alloc: Global, field: &mut Option<String>, text: &str) -> Result<(), ArgsFault>
+    ensures done { OnOk result (option_map string_bytes field.new ≡ Some text.now) }
+    ensures why { IfErr result (λ fault. fault ≡ OutOfMemory) }
+{
+    *field = Some(String::from_str(alloc, text)?);
+    Ok(())
+}
+
+// Adds a text behind others.
+fn add_text(alloc: Global, texts: &mut Vec<String>, text: &str) -> Result<(), ArgsFault>
+    ensures done { OnOk result (map string_bytes texts.new.items ≡ map string_bytes texts.old.items ++ text.now ∷ []) }
+    ensures why { IfErr result (λ fault. fault ≡ OutOfMemory) }
+{
+    texts.push(String::from_str(alloc, text)?)?;
+    Ok(())
 }
 
 // Refuses what doesn't hold.

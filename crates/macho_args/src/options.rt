@@ -15,7 +15,7 @@ ghost use Rattle.macho_args.specs.Options.{option_named as option_of};
 ghost use Rattle.macho_args.specs.steps.Options.{plain_row};
 
 /// What a word that is an option's name stands for.
-#[derive(Clone, Copy, Debug, PartialEq, Eq)]
+#[derive(Clone, Copy)]
 pub(crate) enum LinkOption {
     /// It sets a flag, and takes no value.
     Sets(Flag),
@@ -30,7 +30,7 @@ pub(crate) enum LinkOption {
 }
 
 /// A field that an option sets to true.
-#[derive(Clone, Copy, Debug, PartialEq, Eq)]
+#[derive(Clone, Copy)]
 pub(crate) enum Flag {
     Dylib,
     DeadStripDylibs,
@@ -39,7 +39,7 @@ pub(crate) enum Flag {
 }
 
 /// An option with one value.
-#[derive(Clone, Copy, Debug, PartialEq, Eq)]
+#[derive(Clone, Copy)]
 pub(crate) enum Valued {
     Output,
     Entry,

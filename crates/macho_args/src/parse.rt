@@ -13,7 +13,7 @@ ghost use Rattle.macho_args.specs.Options.{joined_option};
 ghost use Rattle.macho_args.specs.SearchPaths.{IsParsed, IsRefused};
 ghost use Rattle.macho_args.specs.Settings.{settings_of, fresh};
 ghost use Rattle.macho_args.specs.Store.{KeepsOutside};
-ghost use Rattle.macho_args.specs.Words.{read_all, read_from, read_option, read_plain, read_unnamed, read_word};
+ghost use Rattle.macho_args.specs.Words.{read_from, read_option, read_plain, read_unnamed, read_word};
 ghost use Rattle.macho_args.specs.Words.{texts_of, without_inputs};
 
 use crate::fault::ArgsFault;
@@ -43,10 +43,31 @@ impl MachOArgs {
             paths.old paths.new }
     {
         let alloc = *self.inputs.allocator();
-        let mut args = read_args(alloc, words)?;
-        args.settle_root(alloc, paths)?;
-        args.move_frameworks(alloc, paths)?;
+        let mut args = MachOArgs::new(alloc)?;
+        args.read_command_line(alloc, words, paths)?;
         *self = args;
+        Ok(())
+    }
+
+    // Reads all words into fresh fields, and then follows the root.
+    fn read_command_line<D: Paths>(
+        &mut self,
+        alloc: Global,
+        words: &[String],
+        paths: &mut D,
+    ) -> Result<(), ArgsFault>
+        requires fresh { settings_of self.old ≡ fresh }
+        requires few { length words.now < 2 ^ 32 - 1 }
+        ensures done { OnOk result (IsParsed (D.directories paths.old) (D.canonical_paths paths.old)
+            (texts_of words.now) (settings_of self.new)) }
+        ensures why { IfErr result (λ fault. (fault ≡ OutOfMemory) ⊎ IsRefused (texts_of words.now) fault) }
+        ensures outside { KeepsOutside D.directories D.canonical_paths D.holds D.faults D.write_faults
+            paths.old paths.new }
+    {
+        self.read_words(alloc, words)?;
+        self.refuse_inputs()?;
+        self.settle_root(alloc, paths)?;
+        self.move_frameworks(alloc, paths)?;
         Ok(())
     }
 
@@ -202,16 +223,4 @@ impl MachOArgs {
         self.inputs.push(InputSpec::File { word, path })?;
         Ok(())
     }
-}
-
-// What the words say, where the root is kept as it is given.
-fn read_args(alloc: Global, words: &[String]) -> Result<MachOArgs, ArgsFault>
-    requires { length words.now < 2 ^ 32 - 1 }
-    ensures done { IfOk result (λ args. read_all keep_root (texts_of words.now) ≡ Ok (settings_of args)) }
-    ensures why { IfErr result (HasCause (read_all keep_root (texts_of words.now))) }
-{
-    let mut args = MachOArgs::new(alloc)?;
-    args.read_words(alloc, words)?;
-    args.refuse_inputs()?;
-    Ok(args)
 }

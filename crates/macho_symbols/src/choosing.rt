@@ -1,7 +1,7 @@
 //! Which symbols define their names, and the commons among them.
-ghost use Rattle.std.specs.Prelude.{◌≡◌, ◌^◌, ◌<◌, ◌++◌, ◌&&◌, ◌==◌, map, filter, length, true, IfOk, IfErr, OnOk};
+ghost use Rattle.std.specs.Prelude.{◌≡◌, ◌^◌, ◌<◌, ◌++◌, ◌&&◌, ◌==◌, map, filter, length, true, Some, IfOk, IfErr, OnOk};
 ghost use Rattle.macho_bytes.specs.Numbers.{rounded_up};
-ghost use Rattle.macho_names.specs.Events.{row_at, row_count, event_at, events, events_of_file, strength};
+ghost use Rattle.macho_names.specs.Events.{row_at, row_count, event_at, events, events_of_file, best_of, strength};
 ghost use Rattle.macho_names.specs.Found.{AreFound};
 ghost use Rattle.macho_names.specs.Tables.{heads_of, IsKnown};
 ghost use Rattle.macho_symbols.specs.Targets.{defines_in, chosen_in};
@@ -9,7 +9,7 @@ ghost use Rattle.macho_symbols.specs.steps.Targets.{is_chosen_in, is_of_object};
 ghost use Rattle.macho_symbols.specs.steps.Solved.{common_told};
 
 use crate::solved::Common;
-use macho_names::{FileNames, Sort, SymbolFault, Table, note_in, rows_in};
+use macho_names::{Entry, FileNames, Sort, SymbolFault, Table, note_in, rows_in};
 use macho_records::rounded_up;
 use std::alloc::Global;
 
@@ -21,6 +21,27 @@ pub(crate) fn is_of_object(sort: Sort) -> bool
         Sort::Section | Sort::Absolute | Sort::Common => true,
         Sort::Offered | Sort::Nowhere => false,
     }
+}
+
+/// The entry of a global row's name, which leads to the best row of that name.
+#[tactic(auto, using(crate::proofs::Leading::best_of_entry))]
+fn best_entry(
+    files: &[FileNames<'_>],
+    table: &Table,
+    found: &[Vec<u32>],
+    file: u32,
+    row: usize,
+) -> Entry
+    requires file { file < length files.now }
+    requires row { row < row_count files.now file }
+    requires global { (row_at files.now file row).global ≡ true }
+    requires found { AreFound files.now table.now.entries.items (length files.now) found.now }
+    requires known { IsKnown files.now (heads_of table.now) table.now.entries.items (events files.now) }
+    ensures best { best_of (row_at files.now file row).name (events files.now) ≡ Some (event_at files.now result.file result.row) }
+    ensures file { result.file < length files.now }
+    ensures row { result.row < row_count files.now result.file }
+{
+    table.entry(found[file as usize][row] as usize)
 }
 
 /// Whether a row is the definition of its name: one of an object to which the entry of its name leads.
@@ -40,7 +61,7 @@ pub(crate) fn is_definition(
     if !note_in(files, file, row).global {
         return false;
     }
-    let best = table.entry(found[file as usize][row] as usize);
+    let best = best_entry(files, table, found, file, row);
     is_of_object(note_in(files, best.file, best.row as usize).sort)
         && best.file == file
         && best.row as usize == row

@@ -1,7 +1,10 @@
 //! The plan of entries.
-ghost use Rattle.std.specs.Prelude.{◌≡◌, ◌<◌, ◌≤◌, length, IfOk, IfErr, OnOk};
-ghost use Rattle.macho_unwind_pages.specs.Entries.{MOST_PERSONALITIES, AreEntries, inputs_of, ids_of};
-ghost use Rattle.macho_unwind_pages.specs.Plans.{plan_list, IsPlanOf, HasFarOffset};
+ghost use Rattle.std.specs.Prelude.{◌≡◌, ◌==◌, ◌^◌, ◌<◌, ◌≤◌, true, length, map, All, IfOk, IfErr, OnOk};
+ghost use Rattle.std.specs.List.{AllPairs, list_any};
+ghost use Rattle.macho_unwind_pages.specs.Bounds.{globals_of};
+ghost use Rattle.macho_unwind_pages.specs.Entries.{MOST_PERSONALITIES, AreEntries, inputs_of, ids_of, ranked};
+ghost use Rattle.macho_unwind_pages.specs.Plans.{plan_list, page_list, IsPlanOf, HasFarOffset};
+ghost use Rattle.macho_unwind_pages.specs.steps.Paging.{ArePages};
 ghost use Rattle.macho_unwind_pages.specs.steps.Planning.{IsReady, IsAssembled};
 ghost use Rattle.macho_unwind_pages.specs.Laws.{HasFewPages, IsShort};
 ghost use Rattle.macho_unwind_pages.specs.Calls.{PlanFault};
@@ -9,10 +12,29 @@ ghost use Rattle.macho_unwind_pages.specs.Calls.{PlanFault};
 use crate::entries::{ResolvedUnwindInfo, UnwindFault};
 use crate::numbering::{codes, inputs, personality_ids};
 use crate::offsets::{by_start, end, globals, lsdas, rows, slots};
-use crate::paging::paged;
-use crate::plans::Plan;
+use crate::paging::{Row, paged};
+use crate::plans::{Page, Plan};
 use crate::ranking::ranks;
 use std::alloc::{AllocError, Global};
+
+/// The codes that every page may name, and the pages of functions in order of their starts, one or more.
+fn globals_and_pages(
+    alloc: Global,
+    codes: &[u64],
+    rows: &[Row],
+) -> Result<(Vec<u32>, Vec<Page>), AllocError>
+    requires fit { All (λ code. code < 2 ^ 32) codes.now }
+    requires some { 0 < length rows.now }
+    requires rising { AllPairs (λ r s. r.start < s.start) rows.now }
+    requires ranked { All (λ r. list_any (λ other. r.code == other) (ranked codes.now) ≡ true) rows.now }
+    ensures globals { IfOk result (λ made. made.0.items ≡ globals_of codes.now) }
+    ensures pages { IfOk result (λ made. ArePages (globals_of codes.now) rows.now (map page_list made.1.items)) }
+{
+    let ranks = ranks(alloc, codes)?;
+    let globals = globals(alloc, &ranks)?;
+    let pages = paged(alloc, &ranks, rows)?;
+    Ok((globals, pages))
+}
 
 /// The plan of a run of entries that ends at an offset.
 fn assembled(
@@ -27,12 +49,10 @@ fn assembled(
     ensures done { IfOk result (λ p. IsAssembled text_start ids.now codes.now run.now (plan_list p)) }
     ensures end { IfOk result (λ p. p.end ≡ end) }
 {
-    let ranks = ranks(alloc, codes)?;
-    let rows = rows(alloc, text_start, ids, run)?;
-    let pages = paged(alloc, &ranks, rows.as_slice())?;
-    let globals = globals(alloc, &ranks)?;
     let personalities = slots(alloc, text_start, ids, run)?;
     let lsdas = lsdas(alloc, text_start, run)?;
+    let rows = rows(alloc, text_start, ids, run)?;
+    let (globals, pages) = globals_and_pages(alloc, codes, rows.as_slice())?;
     Ok(Plan {
         globals,
         personalities,
