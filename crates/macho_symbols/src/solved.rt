@@ -294,6 +294,39 @@ pub(crate) fn is_nothing(target: Target) -> bool
 }
 
 impl<'data> Solved<'data> {
+    /// The fault of a use whose name leads nowhere.
+    fn undefined(&self, file: u32, row: usize) -> SymbolFault
+        requires file { file < length self.now.files.items }
+        requires row { row < row_count self.now.files.items file }
+        requires global { (row_at self.now.files.items file row).global ≡ true }
+        requires nothing { is_nothing (named_in self.now.files.items (noted_of self.now.imports.items) (row_at self.now.files.items file row).name) ≡ true }
+        ensures { IsUndefinedIn self.now.files.items (noted_of self.now.imports.items) (event_at self.now.files.items file row) result }
+    {
+        let alloc = *self.imports.allocator();
+        match Vec::from_slice(alloc, name_in(&self.files, file, row)) {
+            Ok(name) => SymbolFault::UndefinedSymbol { name, file },
+            Err(_) => SymbolFault::OutOfMemory,
+        }
+    }
+
+    /// Notes the name of a global row, which a library defines and which isn't noted yet.
+    fn note_import(&mut self, file: u32, row: usize) -> Result<(), SymbolFault>
+        requires file { file < length self.old.files.items }
+        requires row { row < row_count self.old.files.items file }
+        requires global { (row_at self.old.files.items file row).global ≡ true }
+        requires solved { IsSolved self.old }
+        requires import { named_in self.old.files.items (noted_of self.old.imports.items) (row_at self.old.files.items file row).name ≡ Target.Import (length (noted_of self.old.imports.items)) }
+        ensures solved { OnOk result (IsSolved self.new) }
+        ensures noted { OnOk result (noted_of self.new.imports.items ≡ noted_of self.old.imports.items ++ (row_at self.old.files.items file row).name ∷ []) }
+        ensures files { self.new.files.items ≡ self.old.files.items }
+        ensures kept { OnErr result (IsUnchanged self.old self.new) }
+        ensures why { IfErr result (λ fault. fault ≡ SymbolFault.OutOfMemory) }
+    {
+        let alloc = *self.imports.allocator();
+        let name = Vec::from_slice(alloc, name_in(&self.files, file, row))?;
+        self.note(self.entry_of(file, row), name)
+    }
+
     /// Notes a use of a symbol, and tells what it leads to.
     #[inline(always)]
     pub(crate) fn note_use(&mut self, file: u32, row: usize) -> Result<Target, SymbolFault>
@@ -313,18 +346,12 @@ impl<'data> Solved<'data> {
             return Ok(target);
         }
         if is_nothing(target) {
-            let alloc = *self.imports.allocator();
-            return Err(SymbolFault::UndefinedSymbol {
-                name: Vec::from_slice(alloc, name_in(&self.files, file, row))?,
-                file,
-            });
+            return Err(self.undefined(file, row));
         }
         if !is_import(target, self.imports.len()) {
             return Ok(target);
         }
-        let alloc = *self.imports.allocator();
-        let name = Vec::from_slice(alloc, name_in(&self.files, file, row))?;
-        self.note(self.entry_of(file, row), name)?;
+        self.note_import(file, row)?;
         Ok(target)
     }
 }
