@@ -1,7 +1,11 @@
 -- The conditions on an image with four fixups, on the first and the third page of its last segment.
+--
+-- Each condition on a list holds of it where it holds of its head and of its tail, so on these lists it is a row of
+-- facts on numerals.
 use Rattle.std.proofs.Common.{◌≡◌, ◌<◌, ◌≤◌, ◌⊎◌, ◌+◌, ◌%◌, ◌^◌, ℕ, pos, negsuc, refl, inr, List, [], ◌∷◌, arith, rules}
-use Rattle.std.specs.List.{Contains}
-use Rattle.std.proofs.lemmas.List.Elements.{All-contains_itself}
+use Rattle.std.specs.List.{All, AllPairs, Contains}
+use Rattle.std.proofs.lemmas.List.Elements.{All-nil, All-cons, All-contains_itself}
+use Rattle.std.proofs.lemmas.List.Kept.{AllPairs-cons}
 use Rattle.macho_model.specs.Segments.{SEGMENT_PAGE}
 use Rattle.macho_model.specs.Chain.{STRIDE}
 use Rattle.macho_model.specs.Needs.{POINTER_SIZE}
@@ -13,7 +17,24 @@ use Rattle.macho_fixups.specs.Runs.{AreFixups, AreSegments, Holds, pages_of}
 use Rattle.macho_fixups.specs.Chains.{HaveRoom}
 use Rattle.macho_fixups.specs.declared.imports.ImportEntry.{ImportEntry}
 use Rattle.macho_fixups.specs.Calls.{FitsTable, AreEntries}
-use Rattle.macho_linkedit_tests.proofs.ExampleTables.{all, all_pairs}
+
+-- a fact of each element, as a row
+abbrev pub Each : {X : Type 0} → (X → Type 0) → List X → Type 0
+Each P [] = Unit {0}
+Each P (x ∷ xs) = P x × Each P xs
+
+-- a fact of each pair, as rows
+abbrev pub EachPair : {X : Type 0} → (X → X → Type 0) → List X → Type 0
+EachPair R [] = Unit {0}
+EachPair R (x ∷ xs) = Each (R x) xs × EachPair R xs
+
+all : {X : Type 0} (P : X → Type 0) (xs : List X) → Each P xs → All P xs
+all P [] each = All-nil P
+all P (x ∷ xs) each = All-cons P x xs each.0 (all P xs each.1)
+
+all_pairs : {X : Type 0} (R : X → X → Type 0) (xs : List X) → EachPair R xs → AllPairs R xs
+all_pairs R [] each = λ i j d lt within. absurd (omega arith)
+all_pairs R (x ∷ xs) each = AllPairs-cons R x xs (all (R x) xs each.0) (all_pairs R xs each.1)
 
 abbrev pub last_segment : FixupSegment
 last_segment = record { address = 0x100004000; size = 0xc000; file_offset = 0x4000; file_size = 0x8010 }

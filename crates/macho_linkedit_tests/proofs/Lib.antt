@@ -1,3 +1,2 @@
 pub mod Listable
-pub mod ExampleTables
 pub mod ExampleImages

@@ -1,7 +1,6 @@
 //! An image with words and a table of both writers, read by the plain functions of the chain, of memory and of the loader.
 ghost use Rattle.std.specs.Prelude.{◌≡◌, ◌≤◌, IfOk, length, vec_len};
 
-use crate::segments::{PAGEZERO, TEXT};
 use macho_fixups::{
     Fixup, FixupKind, FixupSegment, ImportEntry, table_size, write_chained_fixup_table,
     write_chains,
@@ -10,6 +9,22 @@ use macho_model_walks::{first_broken_rule, is_on_chain, memory_byte};
 use macho_samples::chained_image;
 use std::alloc::{AllocError, Global};
 use std::test::Fail;
+
+/// `__PAGEZERO`: 4 GiB from address 0, nothing of the file.
+const PAGEZERO: FixupSegment = FixupSegment {
+    address: 0,
+    size: 0x1_0000_0000,
+    file_offset: 0,
+    file_size: 0,
+};
+
+/// `__TEXT`: one page at the base.
+const TEXT: FixupSegment = FixupSegment {
+    address: 0x1_0000_0000,
+    size: 0x4000,
+    file_offset: 0,
+    file_size: 0x4000,
+};
 
 const SEGMENTS: [FixupSegment; 3] = [
     PAGEZERO,

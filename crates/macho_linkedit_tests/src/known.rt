@@ -1,5 +1,5 @@
 //! Look-ups that are told what they answer, and an object with one section of 16 bytes, two relocations and two symbols.
-ghost use Rattle.std.specs.Prelude.{if◌then◌else◌, ◌==◌};
+ghost use Rattle.std.specs.Prelude.{if◌then◌else◌, ◌==◌, false, None};
 
 use macho_fields::{FillFault, Places, fill_section};
 use macho_fixups::Fixup;
@@ -9,7 +9,7 @@ use macho_samples::{Content, Object, Section, Symbol, UNDEFINED, object_bytes};
 use std::alloc::{AllocError, Global};
 use std::process::Abort;
 
-/// What is looked up.
+/// What is looked up. No link here has a thread-local template, or a pointer to an import.
 #[derive(Clone, Copy)]
 pub struct Known {
     /// What symbol 0 leads to.
@@ -24,12 +24,6 @@ pub struct Known {
     pub slot: u64,
     /// The address of any stub.
     pub stub: u64,
-    /// The number of any import's own entry.
-    pub own: u32,
-    /// Whether any section is in the thread-local template.
-    pub in_template: bool,
-    /// The addresses of the thread-local template, None where there is none.
-    pub template: Option<Range64>,
 }
 
 /// The base of an executable.
@@ -49,26 +43,23 @@ pub fn leading_to(address: u64) -> Known {
         common: 0,
         slot: 0,
         stub: 0,
-        own: 7,
-        in_template: false,
-        template: None,
     }
 }
 
 impl Places for Known {
-    ghost use Rattle.std.specs.Prelude.{if◌then◌else◌, ◌==◌};
+    ghost use Rattle.std.specs.Prelude.{if◌then◌else◌, ◌==◌, false, None};
     ghost use Rattle.macho_fields.specs.Looks.{Look};
 
     ghost look = { λ k. record {
       target = λ file symbol. if symbol == 0 then k.first else k.second;
-      in_template = λ file section. k.in_template;
-      own = λ id addend. k.own;
+      in_template = λ file section. false;
+      own = λ id addend. 0;
       base = 4294967296;
       section = λ file section. k.section;
       common = λ id. k.common;
       slot = λ t. k.slot;
       stub = λ id. k.stub;
-      template = k.template;
+      template = None;
     } };
 
     ghost has_symbol = { λ k file symbol. Unit {0} };
@@ -78,7 +69,7 @@ impl Places for Known {
     }
 
     fn template(&self) -> Option<Range64> {
-        self.template
+        None
     }
 
     fn target(&self, _file: u32, symbol: u32) -> Target {
@@ -86,7 +77,7 @@ impl Places for Known {
     }
 
     fn is_in_template(&self, _file: u32, _section: u32) -> bool {
-        self.in_template
+        false
     }
 
     fn section(&self, _file: u32, _section: u32) -> u64 {
@@ -106,7 +97,7 @@ impl Places for Known {
     }
 
     fn own_entry(&self, _import: u32, _addend: u64) -> u32 {
-        self.own
+        0
     }
 }
 
@@ -122,8 +113,6 @@ pub struct Given {
     pub relocations: [Relocation; 2],
     /// How many relocations are there, at most 2.
     pub count: u8,
-    /// The type of the section.
-    pub kind: u8,
     /// Its address in the object, below 256.
     pub input: u8,
     /// The address of its first byte in the image.
@@ -158,7 +147,7 @@ fn object(alloc: Global, given: &Given) -> Result<Vec<u8>, AllocError> {
         name: b"__data",
         address: u64::from(given.input),
         exponent: 2,
-        flags: u32::from(given.kind),
+        flags: 0,
         content: Content::Bytes(&given.text),
         relocations: &relocations[..count],
     };
