@@ -73,6 +73,13 @@ def tails():
     return object_of([text_alone()], RETURN, b"", symbols, names)
 
 
+def few_tails():
+    """3,000 local symbols that are named by tails of one name of 1 MB: the image has each name."""
+    names = b"\0_main\0" + b"l" * 1_000_000 + b"\0"
+    symbols = [(1, *MAIN[1:])] + [(7 + number, 0x0E, 1, 0, 0) for number in range(3_000)]
+    return object_of([text_alone()], RETURN, b"", symbols, names)
+
+
 def offered():
     """100,000 global functions that are named by tails of one name of 10 MB: exports of 900 GB."""
     names = b"\0_main\0" + b"g" * 10_000_000 + b"\0"
@@ -113,6 +120,23 @@ def alike():
     """3,800 undefined symbols whose names of 4,104 bytes differ in the middle alone."""
     symbols = [MAIN] + [(b"_" + b"a" * 2_050 + b"%04d" % number + b"a" * 2_049, 1, 0, 0, 0) for number in range(3_800)]
     return object_of([text_alone()], RETURN, b"", symbols)
+
+
+def letters(choices, count):
+    """So many texts of different letters in a row, the first ones in the order of the alphabet."""
+    rows = itertools.chain.from_iterable(itertools.combinations(choices, number) for number in (5, 6, 4, 7))
+    return list(itertools.islice(map("".join, rows), count))
+
+
+def backwards():
+    """20,000 global functions, each named by letters in the order against the alphabet."""
+    names = [text[::-1].encode() for text in letters("abcdefghijklmnopqrstuvwxyz", 20_000)]
+    return object_of([text_alone()], RETURN, b"", [MAIN, *((b"_" + name, 0x0F, 1, 0, 0) for name in names)])
+
+
+def starred():
+    """20,000 patterns of letters in the order of the alphabet, with a star on each side of each: none matches."""
+    return "".join("*" + "*".join(text) + "*\n" for text in letters("abcdefghijklmnopqrstuvwxyz", 20_000))
 
 
 def shared(sections, count, section=b"__data"):
@@ -172,10 +196,12 @@ def pages(sections, last=0):
 CASES = {
     "one-name": ("100,000 local symbols that share one name of 10 MB", one_name, "image too large", 20, 400),
     "tails": ("100,000 local symbols named by tails of one name of 10 MB", tails, "image too large", 20, 400),
+    "few-tails": ("3,000 local symbols named by tails of one name of 1 MB", few_tails, None, 240, 6_000),
     "offered": ("100,000 global functions named by tails of one name of 10 MB", offered, "memory", 20, 400),
     "sought": ("100,000 undefined symbols that share one name of 10 MB", sought, None, 20, 400),
     "bucket": ("524,286 undefined symbols whose names share a bucket, were it chosen without a seed", bucket, None, 20, 400),
     "alike": ("3,800 undefined symbols whose names of 4,104 bytes differ in the middle", alike, None, 20, 400),
+    "stars": ("20,000 functions, and a list of 20,000 patterns with five stars or more that none matches", backwards, None, 120, 400),
     "overlap": ("2,000 sections that share one table of 100,000 relocations at one place", overlapping, "overlap", 60, 400),
     "branches": ("2,000 sections that share one table of 100,000 branches", lambda: branches(2_000), "out of range", 240, 3_000),
     "reach": ("320 sections that share one table of 100,000 branches", lambda: branches(320), None, 240, 3_000),
@@ -188,8 +214,9 @@ CASES = {
     "more-pages": ("a chain of 65,536 pages", lambda: pages(2048), "pages", 60, 400),
 }
 
-# What a case gives the linker beside its object.
+# What a case gives the linker beside its object: words, and the text of an export list.
 WORDS = {"map": ["-map"]}
+LISTS = {"stars": starred}
 
 
 def run(words):
@@ -223,7 +250,13 @@ if __name__ == "__main__":
             subprocess.run([sys.executable, __file__, "--make", given, name], check=True)
             length = os.path.getsize(given)
             assert length <= (2 * LARGEST if name == "more-commands" else LARGEST), f"{name} has {length} bytes"
-            status, line, took, peak = run([os.path.abspath(asked.program), *WORDS.get(name, []), "-o", out, given])
+            words = [*WORDS.get(name, []), "-o", out, given]
+            if name in LISTS:
+                listed = os.path.join(folder, "list")
+                with open(listed, "w", encoding="utf-8") as file:
+                    file.write(LISTS[name]())
+                words += ["-exported_symbols_list", listed]
+            status, line, took, peak = run([os.path.abspath(asked.program), *words])
             size = os.path.getsize(out) if os.path.exists(out) else 0
         answer = f"an image of {size / 1e6:.1f} MB" if status == 0 else line.replace(folder + "/", "")
         print(f"| {what} | {length / 1e6:.1f} MB | {answer[:100]} | {took:.1f} s, {peak} MB |", flush=True)
