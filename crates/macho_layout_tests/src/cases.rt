@@ -1,4 +1,4 @@
-//! Plans as tables, and placements as rows of numbers.
+//! Plans as tables.
 ghost use Rattle.std.specs.Prelude.{◌≡◌, ◌≤◌, IsTrue};
 ghost use Rattle.std.specs.Str.{bytes_eq};
 ghost use Rattle.macho_records.specs.Segments.{text_of};
@@ -21,26 +21,23 @@ pub(crate) const DATA_CONST: u8 = 1;
 
 pub(crate) const DATA: u8 = 2;
 
-pub(crate) const A: u8 = 3;
-
-pub(crate) const B: u8 = 4;
-
 /// Their names.
-const SEGMENTS: [[u8; 16]; 5] = [
+const SEGMENTS: [[u8; 16]; 3] = [
     *b"__TEXT\0\0\0\0\0\0\0\0\0\0",
     *b"__DATA_CONST\0\0\0\0",
     *b"__DATA\0\0\0\0\0\0\0\0\0\0",
-    *b"__A\0\0\0\0\0\0\0\0\0\0\0\0\0",
-    *b"__B\0\0\0\0\0\0\0\0\0\0\0\0\0",
 ];
 
 /// A carried section: its segment, its name, its type and attributes, its alignment as an exponent of 2, its bytes.
 pub(crate) type Row = (u8, [u8; 16], u32, u8, u64);
 
-/// What is placed: sections of one file, commons by size and alignment, slots, stubs, and what is counted beside.
+/// Eight bytes of code.
+pub(crate) const CODE: Row = (TEXT, *b"__text\0\0\0\0\0\0\0\0\0\0", 0x8000_0400, 2, 8);
+
+/// What is placed in an executable: sections of one file, commons by size and alignment, slots, stubs, and what is counted
+/// beside.
 #[derive(Clone, Copy)]
 pub(crate) struct Case<'a> {
-    pub(crate) executable: bool,
     pub(crate) sections: &'a [Row],
     pub(crate) commons: &'a [(u64, u8)],
     pub(crate) slots: u32,
@@ -170,7 +167,7 @@ fn add_all(plan: &mut Plan, case: &Case<'_>) -> Result<(), Fail> {
 
 /// The plan of a case.
 pub(crate) fn plan_of(alloc: Global, case: &Case<'_>) -> Result<Plan, Fail> {
-    let mut plan = Plan::new(alloc, case.executable);
+    let mut plan = Plan::new(alloc, true);
     add_all(&mut plan, case)?;
     Ok(plan)
 }
@@ -193,39 +190,4 @@ pub(crate) fn placement(alloc: Global, case: &Case<'_>) -> Result<Placement, Fai
         Ok(placement) => Ok(placement),
         Err(_) => Err(Fail::from("no placement")),
     }
-}
-
-fn push_places(list: &mut Vec<u64>, placement: &Placement) -> Result<(), AllocError> {
-    for one in &placement.sections {
-        list.push(one.address)?;
-    }
-    for one in &placement.commons {
-        list.push(one.address)?;
-    }
-    for one in &placement.slots {
-        list.push(one.address)?;
-    }
-    for one in &placement.stubs {
-        list.push(one.address)?;
-    }
-    Ok(())
-}
-
-/// The addresses of sections, commons, slots and stubs, in this order.
-pub(crate) fn places(alloc: Global, placement: &Placement) -> Result<Vec<u64>, AllocError> {
-    let mut list = Vec::new(alloc);
-    push_places(&mut list, placement)?;
-    Ok(list)
-}
-
-/// Where each table of `__LINKEDIT` begins and ends.
-pub(crate) fn tables(placement: &Placement) -> [[u64; 2]; 5] {
-    let tables = &placement.linkedit;
-    [
-        [tables.fixups.start, tables.fixups.end],
-        [tables.trie.start, tables.trie.end],
-        [tables.symtab.start, tables.symtab.end],
-        [tables.strtab.start, tables.strtab.end],
-        [tables.signature.start, tables.signature.end],
-    ]
 }

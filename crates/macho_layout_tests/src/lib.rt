@@ -1,13 +1,9 @@
-//! Tests of placements: plans whose addresses are counted by hand, and plans of chance with a plain judge.
+//! Tests of what only a caller of a plan sees: its written sum, and what its placement tells besides the image.
 #![tactic(auto)]
 
 #[cfg(test)]
 mod cases;
 #[cfg(test)]
-mod chance;
-#[cfg(test)]
-mod judged;
-#[cfg(test)]
 mod placed;
 #[cfg(test)]
-mod refused;
+mod sums;
