@@ -1,4 +1,6 @@
-use StubRule::{S1, S2, S3, S4, S5, S6, S7, S8, S9};
+//! Texts of stubs and what they are, where no image shows it. The rest is shown by whole runs, as cases.
+
+use StubRule::{S1, S2};
 use macho_stub::{DefinedStubLibrary, StubFault, StubRule, parse_defined_library};
 use std::alloc::{AllocError, Global};
 use std::fmt::Write;
@@ -42,34 +44,6 @@ reexports:
   - targets:         [ arm64e-macos ]
     symbols:         [ _b_exported_arm64 ]
     weak-symbols:    [ _b_weak_exported_arm64 ]
-";
-
-const SYSTEM: &str = "--- !tapi-tbd
-tbd-version:     4
-targets:         [ x86_64-macos, arm64-macos,
-                   arm64e-macos ]
-install-name:    '/usr/lib/libSystem.B.dylib'
-current-version: 1351
-exports:
-  - targets:         [ x86_64-macos, arm64-macos, arm64e-macos ]
-    symbols:         [ _exit,
-                       _write ]
-    objc-classes:    [ Skipped ]
-...
-";
-
-/// The same without the target in the document's own targets.
-const OTHER_TARGETS: &str = "--- !tapi-tbd
-tbd-version:     4
-targets:         [ x86_64-macos, arm64-macos ]
-install-name:    '/usr/lib/libSystem.B.dylib'
-current-version: 1351
-exports:
-  - targets:         [ x86_64-macos, arm64-macos, arm64e-macos ]
-    symbols:         [ _exit,
-                       _write ]
-    objc-classes:    [ Skipped ]
-...
 ";
 
 /// Comments, line ends of two bytes, blank lines, quotes, a trailing comma, an empty list, skipped
@@ -151,23 +125,16 @@ fn is_stub(alloc: Global, text: &str, wanted: Stub) -> bool {
 #[derive(Clone, Copy)]
 enum Front {
     Nothing,
-    /// The line of a document.
-    Document,
     OneTarget,
     Main,
-    System,
-    OtherTargets,
     Varied,
 }
 
 fn front_of(front: Front) -> &'static str {
     match front {
         Front::Nothing => "",
-        Front::Document => "--- !tapi-tbd\n",
         Front::OneTarget => ONE_TARGET,
         Front::Main => MAIN,
-        Front::System => SYSTEM,
-        Front::OtherTargets => OTHER_TARGETS,
         Front::Varied => VARIED,
     }
 }
@@ -184,14 +151,6 @@ fn is_joined_stub(
     Ok(is_stub(alloc, text.as_str(), wanted))
 }
 
-/// A further document, for a library that the main one doesn't list.
-const FURTHER: &str = "--- !tapi-tbd
-tbd-version:     4
-targets:         [ x86_64-macos, arm64e-macos ]
-install-name:    '/usr/lib/libC.dylib'
-current-version: 12
-";
-
 /// A library `a` up to its lists of symbols.
 const ONE_TARGET: &str =
     "--- !tapi-tbd\ntbd-version: 4\ntargets: [ arm64e-macos ]\ninstall-name: a\ncurrent-version: 1\nexports:\n";
@@ -200,7 +159,7 @@ const ONE_TARGET: &str =
 const ONE_OF_EACH: Stub = Stub::Names("a", "1", "_s ", "_w ");
 
 /// Texts by what begins them and what follows, and what they are.
-static STUBS: [(Front, &str, Stub); 46] = [
+static STUBS: [(Front, &str, Stub); 13] = [
     (
         Front::Main,
         "",
@@ -212,11 +171,6 @@ static STUBS: [(Front, &str, Stub); 46] = [
         ),
     ),
     (Front::Main, "", Stub::Symbols(7)),
-    (
-        Front::System,
-        "",
-        Stub::Names("/usr/lib/libSystem.B.dylib", "1351", "_exit _write ", ""),
-    ),
     (
         Front::Varied,
         "",
@@ -253,136 +207,15 @@ static STUBS: [(Front, &str, Stub); 46] = [
         "  - weak-symbols: [ _w ]\n    symbols: [ _s ]\n    targets: [ arm64e-macos ]\n",
         ONE_OF_EACH,
     ),
-    // texts outside the grammar
+    // texts that a run doesn't take for stubs
     (Front::Nothing, "a: b\n", Stub::Refused(1, S1)),
     (Front::Nothing, "\n--- !tapi-tbd x\n", Stub::Refused(2, S1)),
-    (
-        Front::Document,
-        "targets: [ a,\n  b\n",
-        Stub::Refused(2, S1),
-    ),
-    (Front::Document, "targets: [ , ]\n", Stub::Refused(2, S1)),
-    (Front::Document, "targets: [ a b ]\n", Stub::Refused(2, S1)),
-    (Front::Document, "targets: a\n", Stub::Refused(2, S1)),
-    (Front::Document, "tbd-version: '4'\n", Stub::Refused(2, S1)),
-    (
-        Front::Document,
-        "install-name: \"a\\b\"\n",
-        Stub::Refused(2, S1),
-    ),
-    (Front::Document, "install-name: a#b\n", Stub::Refused(2, S1)),
-    (Front::Document, "install-name:a\n", Stub::Refused(2, S1)),
-    (Front::Document, "other: [ a\n...\n", Stub::Refused(3, S1)),
-    (
-        Front::Document,
-        "targets: [ a,\n...\n]\n",
-        Stub::Refused(3, S1),
-    ),
-    (
-        Front::Document,
-        "targets: [ a,\n  'b\n",
-        Stub::Refused(3, S1),
-    ),
-    (
-        Front::Document,
-        "exports:\ntbd-version: 4\n",
-        Stub::Refused(3, S1),
-    ),
-    (
-        Front::Document,
-        "exports:\n  - a: b\n   c: d\n",
-        Stub::Refused(4, S1),
-    ),
-    (Front::Document, "\ttbd-version: 4\n", Stub::Refused(2, S1)),
-    (
-        Front::Document,
-        "install-name: a\u{85}b\n",
-        Stub::Refused(2, S1),
-    ),
-    (
-        Front::Document,
-        "targets: [ a ]\nother: [ b,\n\n  c,\n",
-        Stub::Refused(3, S1),
-    ),
-    (
-        Front::Document,
-        "exports: # none\n\n# a comment\n",
-        Stub::Refused(2, S1),
-    ),
-    (
-        Front::Document,
-        "exports:\n  - symbols: [ a ]\n - targets: [ b ]\n",
-        Stub::Refused(4, S1),
-    ),
-    // texts that break another rule
     (Front::Nothing, "", Stub::Refused(1, S2)),
     (
         Front::Nothing,
         "\n--- !tapi-tbd\ntbd-version: 4\n",
         Stub::Refused(2, S2),
     ),
-    (
-        Front::Document,
-        "exports:\n  - symbols: [ a ]\n  - targets: [ a b ]\n",
-        Stub::Refused(1, S2),
-    ),
-    (
-        Front::Document,
-        "reexported-libraries:\n  - targets: [ a ]\nexports: a\n",
-        Stub::Refused(1, S2),
-    ),
-    (
-        Front::Document,
-        "targets: []\ntargets: []\n",
-        Stub::Refused(3, S3),
-    ),
-    (
-        Front::Document,
-        "targets: []\ntargets: [ a b ]\n",
-        Stub::Refused(3, S3),
-    ),
-    (
-        Front::Document,
-        "targets: []\nexports:\n  - symbols: []\ntargets: []\n",
-        Stub::Refused(1, S2),
-    ),
-    (
-        Front::Document,
-        "exports:\n  - targets: []\n    targets: []\n",
-        Stub::Refused(4, S3),
-    ),
-    (
-        Front::Document,
-        "tbd-version: 3\ntargets: [ arm64e-macos ]\ninstall-name: a\ncurrent-version: 1\n",
-        Stub::Refused(1, S4),
-    ),
-    (
-        Front::Document,
-        "tbd-version: 3\ntargets: [ arm64-macos ]\ninstall-name: a\n",
-        Stub::Refused(1, S5),
-    ),
-    (
-        Front::Document,
-        "tbd-version: 4\ntargets: [ arm64e-macos ]\ninstall-name: a\ncurrent-version: ''\n",
-        Stub::Refused(1, S6),
-    ),
-    (
-        Front::Document,
-        "tbd-version: 4\ntargets: [ arm64e-macos ]\ninstall-name: a\ncurrent-version: 1\nreexported-libraries:\n  - targets: []\n    libraries: []\n  - targets: []\n    libraries: []\n",
-        Stub::Refused(1, S7),
-    ),
-    (
-        Front::Document,
-        "tbd-version: 4\ntargets: [ arm64e-macos ]\ninstall-name: a\ncurrent-version: 1\nreexported-libraries:\n  - targets: [ arm64-macos ]\n    libraries: []\n",
-        Stub::Refused(1, S8),
-    ),
-    (
-        Front::Document,
-        "tbd-version: 4\ntargets: [ arm64e-macos ]\ninstall-name: a\ncurrent-version: 1\n--- !tapi-tbd\ntbd-version: 4\ntargets: [ arm64e-macos ]\ninstall-name: c\n",
-        Stub::Refused(6, S9),
-    ),
-    (Front::OtherTargets, "", Stub::Refused(1, S5)),
-    (Front::Main, FURTHER, Stub::Refused(39, S9)),
 ];
 
 fn stubs() -> &'static [(Front, &'static str, Stub)] {

@@ -1,8 +1,9 @@
-//! Command lines and what they say, by a small disk that knows one directory and one link.
+//! Command lines and what they say where no image shows it, by a small disk that knows one directory and one link. The rest is shown by
+//! whole runs, as cases.
 
 ghost use Rattle.std.specs.Prelude.{None, ◌<◌, length};
 
-use macho_args::{ArgsFault, BadVersion, InputSpec, MachOArgs, Paths, SemanticVersion};
+use macho_args::{ArgsFault, BadVersion, MachOArgs, Paths, SemanticVersion};
 use std::alloc::{AllocError, Global};
 use std::test::Fail;
 
@@ -47,28 +48,17 @@ const EMPTY_DISK: Disk = Disk {
 /// What the settings of a line are asked for.
 #[derive(Clone, Copy)]
 enum Meaning {
-    Driver,
-    Fields,
-    Generated,
+    Plugin,
     Fresh,
-    Inputs,
     CanonicalRoot,
-    PlainRoot,
 }
 
 // Whether the settings say this.
 fn says(args: &MachOArgs, wanted: Meaning) -> bool {
     match wanted {
-        Meaning::Driver => has_versions(args) && has_driver_paths(args) && has_driver_names(args),
-        Meaning::Fields => has_switches(args)
-            && has_names(args)
-            && has_lists(args)
-            && has_uuid(args),
-        Meaning::Generated => args.generate == Some(10_000),
+        Meaning::Plugin => is(&args.plugin_path, "/foo/bar/libLTO.dylib"),
         Meaning::Fresh => has_fresh_names(args) && has_constants(args),
-        Meaning::Inputs => has_inputs(args),
         Meaning::CanonicalRoot => has_canonical_root(args),
-        Meaning::PlainRoot => are(args.lib_search_path(), &["/usr/lib"]),
     }
 }
 
@@ -150,75 +140,6 @@ fn is(text: &Option<String>, wanted: &str) -> bool {
     }
 }
 
-const DRIVER: &str =
-    "-arch arm64 -lto_library /foo/bar/libLTO.dylib -no_deduplicate -platform_version macos 14.0 15.16.17 -demangle -syslibroot /foo/bar -mllvm -enable-linkonceodr-outlining -o a.out -L/foo/lib -L /bar/lib -F/foo/frameworks -F /bar/frameworks -framework CoreFoundation main.o -lc++ -dead_strip -search_paths_first -no_warn_duplicate_libraries -headerpad_max_install_names";
-
-fn has_versions(args: &MachOArgs) -> bool {
-    match &args.platform_version {
-        Some(version) => {
-            version.platform.as_str() == "macos"
-                && version.minimum_version.get() == 0x000e_0000
-                && version.sdk_version.get() == 0x000f_1011
-        }
-        None => false,
-    }
-}
-
-fn has_driver_paths(args: &MachOArgs) -> bool {
-    are(
-        args.lib_search_path(),
-        &["/foo/bar/usr/lib", "/foo/lib", "/bar/lib"],
-    ) && are(
-        args.framework_search_path(),
-        &[
-            "/foo/frameworks",
-            "/bar/frameworks",
-            "/foo/bar/Library/Frameworks",
-            "/foo/bar/System/Library/Frameworks",
-        ],
-    )
-}
-
-fn has_driver_names(args: &MachOArgs) -> bool {
-    is(&args.sysroot, "/foo/bar")
-        && is(&args.plugin_path, "/foo/bar/libLTO.dylib")
-        && args.headerpad_max_install_names
-        && args.output.as_str() == "a.out"
-        && args.inputs.len() == 3
-}
-
-const FIELDS: &str =
-    "-dylib -dead_strip_dylibs -map -install_name n -e _start -output x -o y -rpath r -rpath s -rpath r -exported_symbols_list a -exported_symbols_list -b -uuid 00112233445566778899aabbccddeeFF";
-
-fn has_lists(args: &MachOArgs) -> bool {
-    match args.export_list_paths() {
-        [first, second] => {
-            first.0 == 18 && first.1.as_str() == "a" && second.0 == 20 && second.1.as_str() == "-b"
-        }
-        _ => false,
-    }
-}
-
-fn has_uuid(args: &MachOArgs) -> bool {
-    match args.uuid {
-        Some(uuid) => uuid[1] == 0x11 && uuid[15] == 0xff,
-        None => false,
-    }
-}
-
-fn has_switches(args: &MachOArgs) -> bool {
-    args.dylib && args.dead_strip_dylibs && args.map
-}
-
-fn has_names(args: &MachOArgs) -> bool {
-    args.dylib_install_name() == b"n".as_slice()
-        && args.entry.as_str() == "_start"
-        && args.entry_point().is_none()
-        && !args.should_output_executable()
-        && args.output.as_str() == "y"
-        && are(&args.rpaths, &["r", "s"])
-}
-
 fn has_fresh_names(args: &MachOArgs) -> bool {
     args.dylib_install_name() == b"a.out".as_slice()
         && args.entry_point() == Some(b"_main".as_slice())
@@ -252,59 +173,6 @@ fn has_constants(args: &MachOArgs) -> bool {
         && are_ignored(&["O4", "-O0", "dynamic", ""], false)
 }
 
-/// Options that are taken and say nothing.
-const WITHOUT_EFFECT: &str =
-    "-no_deduplicate -search_paths_first -no_warn_duplicate_libraries -demangle -dynamic -init_offsets -dead_strip -export_dynamic -O0 -O1 -O2 -O3 -arch arm64 -mllvm -enable-linkonceodr-outlining";
-
-// The letter of an input's kind.
-fn kind_of(input: &InputSpec) -> char {
-    match input {
-        InputSpec::File { .. } => 'o',
-        InputSpec::Lib { .. } => 'l',
-        InputSpec::Framework { .. } => 'f',
-    }
-}
-
-fn name_of(input: &InputSpec) -> &str {
-    match input {
-        InputSpec::File { path, .. } => path.as_str(),
-        InputSpec::Lib { name, .. } => name.as_str(),
-        InputSpec::Framework { name, .. } => name.as_str(),
-    }
-}
-
-// Whether an input is of this kind, its word of this number, and its name this one.
-fn is_input(input: &InputSpec, kind: char, at: u32, text: &str) -> bool {
-    kind_of(input) == kind && input.word() == at && name_of(input) == text
-}
-
-/// Inputs by the letters of their kinds, and where their words stand.
-const INPUTS: [(char, u32, &str); 5] = [
-    ('o', 0, "a.o"),
-    ('l', 1, "c"),
-    ('l', 3, "z"),
-    ('f', 5, "F"),
-    ('o', 8, "b.o"),
-];
-
-fn inputs() -> &'static [(char, u32, &'static str)] {
-    &INPUTS
-}
-
-fn has_inputs(args: &MachOArgs) -> bool {
-    let rows = inputs();
-    for number in 0..rows.len() {
-        let (kind, at, text) = rows[number];
-        let Some(input) = args.inputs.get(number) else {
-            return false;
-        };
-        if !is_input(input, kind, at, text) {
-            return false;
-        }
-    }
-    args.inputs.len() == rows.len()
-}
-
 fn has_canonical_root(args: &MachOArgs) -> bool {
     is(&args.sysroot, "/real/sdk")
         && are(args.lib_search_path(), &["/real/sdk/usr/lib", "/new"])
@@ -327,140 +195,42 @@ const ROOT_DISK: Disk = Disk {
     target: "/real/sdk",
 };
 
-/// Lines that are taken, and what their settings say.
-static TAKEN: [(&str, Disk, Meaning); 8] = [
-    (DRIVER, EMPTY_DISK, Meaning::Driver),
-    (FIELDS, EMPTY_DISK, Meaning::Fields),
-    ("-generate 10000", EMPTY_DISK, Meaning::Generated),
-    ("", EMPTY_DISK, Meaning::Fresh),
-    (WITHOUT_EFFECT, EMPTY_DISK, Meaning::Fresh),
+/// Lines, and what their settings say, or how they are refused.
+static LINES: [(&str, Disk, Result<Meaning, ArgsFault>); 4] = [
     (
-        "a.o -lc -l z -framework F -o -o b.o",
+        "-lto_library /foo/bar/libLTO.dylib",
         EMPTY_DISK,
-        Meaning::Inputs,
+        Ok(Meaning::Plugin),
     ),
+    ("", EMPTY_DISK, Ok(Meaning::Fresh)),
     (
         "-L/old -F/F -F/G -Frelative -syslibroot /other -syslibroot /sdk -L/new",
         ROOT_DISK,
-        Meaning::CanonicalRoot,
+        Ok(Meaning::CanonicalRoot),
     ),
-    ("-syslibroot /", ROOT_DISK, Meaning::PlainRoot),
+    (
+        "-dylib -what",
+        EMPTY_DISK,
+        Err(ArgsFault::Unknown { word: 1 }),
+    ),
 ];
 
-fn taken() -> &'static [(&'static str, Disk, Meaning)] {
-    &TAKEN
-}
-
-/// Lines that are refused, and how: a value that is missing, a word that isn't supported or isn't known, a value that is no such value.
-const REFUSED: [(&str, ArgsFault); 39] = [
-    ("a.o -o", ArgsFault::MissingValue { word: 1 }),
-    ("-install_name", ArgsFault::MissingValue { word: 0 }),
-    ("-e", ArgsFault::MissingValue { word: 0 }),
-    ("-lto_library", ArgsFault::MissingValue { word: 0 }),
-    ("-output", ArgsFault::MissingValue { word: 0 }),
-    (
-        "-exported_symbols_list",
-        ArgsFault::MissingValue { word: 0 },
-    ),
-    ("-rpath", ArgsFault::MissingValue { word: 0 }),
-    ("-syslibroot", ArgsFault::MissingValue { word: 0 }),
-    ("-F", ArgsFault::MissingValue { word: 0 }),
-    ("-L", ArgsFault::MissingValue { word: 0 }),
-    ("-l", ArgsFault::MissingValue { word: 0 }),
-    ("-framework", ArgsFault::MissingValue { word: 0 }),
-    ("-arch", ArgsFault::MissingValue { word: 0 }),
-    ("-mllvm", ArgsFault::MissingValue { word: 0 }),
-    ("-uuid", ArgsFault::MissingValue { word: 0 }),
-    ("-generate", ArgsFault::MissingValue { word: 0 }),
-    (
-        "-platform_version linux 1.2.3.4",
-        ArgsFault::MissingValue { word: 0 },
-    ),
-    ("-mllvm -x", ArgsFault::Unsupported { word: 1 }),
-    ("-generate 1 in.o", ArgsFault::Unsupported { word: 2 }),
-    (
-        "-framework F -generate 1",
-        ArgsFault::Unsupported { word: 1 },
-    ),
-    ("-l:file", ArgsFault::Unsupported { word: 0 }),
-    ("-l :file", ArgsFault::Unsupported { word: 1 }),
-    ("@file", ArgsFault::Unsupported { word: 0 }),
-    ("-sectcreate a b c", ArgsFault::Unsupported { word: 0 }),
-    ("-help", ArgsFault::Unsupported { word: 0 }),
-    ("-version", ArgsFault::Unsupported { word: 0 }),
-    ("in.o -generate 1 -x", ArgsFault::Unknown { word: 3 }),
-    ("-dylibs", ArgsFault::Unknown { word: 0 }),
-    ("-dylib -what", ArgsFault::Unknown { word: 1 }),
-    ("-", ArgsFault::Unknown { word: 0 }),
-    (
-        "-platform_version ios 1.2.3.4 1",
-        ArgsFault::BadPlatform { word: 1 },
-    ),
-    (
-        "-platform_version macos 1.2.3.4 1",
-        ArgsFault::BadVersion { word: 2 },
-    ),
-    (
-        "-platform_version macos 1 -1",
-        ArgsFault::BadVersion { word: 3 },
-    ),
-    ("-arch x86_64", ArgsFault::BadArch { word: 1 }),
-    (
-        "-uuid 0011223344556677889900112233445",
-        ArgsFault::BadUuid { word: 1 },
-    ),
-    (
-        "-uuid g0112233445566778899001122334455",
-        ArgsFault::BadUuid { word: 1 },
-    ),
-    ("-generate 0", ArgsFault::BadNumber { word: 1 }),
-    ("-generate 10001", ArgsFault::BadNumber { word: 1 }),
-    ("-generate +1", ArgsFault::BadNumber { word: 1 }),
-];
-
-fn refused() -> &'static [(&'static str, ArgsFault)] {
-    &REFUSED
+fn lines() -> &'static [(&'static str, Disk, Result<Meaning, ArgsFault>)] {
+    &LINES
 }
 
 #[test]
 fn lines_with_what_they_say(rt: HostRuntime) -> Result<(), Fail> {
-    let taken = taken();
-    for number in 0..taken.len() {
-        let (line, disk, wanted) = taken[number];
-        assert!(rt; is_line(rt.alloc(), line, disk, Ok(wanted))?, "{line}");
-    }
-    let refused = refused();
-    for number in 0..refused.len() {
-        let (line, fault) = refused[number];
-        assert!(rt;
-            is_line(rt.alloc(), line, EMPTY_DISK, Err(fault))?,
-            "{line}"
-        );
+    let lines = lines();
+    for number in 0..lines.len() {
+        let (line, disk, wanted) = lines[number];
+        assert!(rt; is_line(rt.alloc(), line, disk, wanted)?, "{line}");
     }
     Ok(())
 }
 
-/// Versions and their numbers, and texts that are no version.
-const VERSIONS: [(&str, Option<u32>); 18] = [
-    ("14.0", Some(0x000e_0000)),
-    ("15.16.17", Some(0x000f_1011)),
-    ("65535.255.255", Some(0xffff_ffff)),
-    ("1", Some(0x0001_0000)),
-    ("007.08.09", Some(0x0007_0809)),
-    ("", None),
-    (".", None),
-    ("1.", None),
-    (".1", None),
-    ("1..2", None),
-    ("1.2.3.4", None),
-    ("65536", None),
-    ("1.256", None),
-    ("1.2.256", None),
-    ("+1", None),
-    ("1 ", None),
-    ("a", None),
-    ("4294967296", None),
-];
+/// A version and its number, and texts that are no version and can't be told in the words of a case.
+const VERSIONS: [(&str, Option<u32>); 3] = [("1", Some(0x0001_0000)), ("1 ", None), ("", None)];
 
 fn version_rows() -> &'static [(&'static str, Option<u32>)] {
     &VERSIONS
