@@ -10,7 +10,7 @@ use crate::version::SemanticVersion;
 use std::alloc::{AllocError, Global};
 
 /// The platform that the output is for, as `-platform_version` gives it.
-#[derive(Debug, PartialEq, Eq, Drop)]
+#[derive(PartialEq, Eq, Drop)]
 pub struct PlatformVersion {
     /// The platform's name, `macos`.
     pub platform: String,
@@ -21,7 +21,7 @@ pub struct PlatformVersion {
 }
 
 /// An input of the link. `word` is the index of the word in which the path or the name stands.
-#[derive(Debug, Drop)]
+#[derive(Drop)]
 pub enum InputSpec {
     /// A file, by its path.
     File { word: u32, path: String },
@@ -47,7 +47,7 @@ impl InputSpec {
 }
 
 /// What the words of a command line say.
-#[derive(Debug, Drop)]
+#[derive(Drop)]
 pub struct MachOArgs {
     /// The path of the output (`-o`).
     pub output: String,

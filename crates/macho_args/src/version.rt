@@ -14,11 +14,11 @@ const MAX_MINOR: u32 = 255;
 
 /// A version of up to three parts, packed as `xxxx.yy.zz`: the major part in the high 16 bits, then
 /// 8 bits each of the minor part and the patch.
-#[derive(Clone, Copy, Debug, PartialEq, Eq)]
+#[derive(Clone, Copy, PartialEq, Eq)]
 pub struct SemanticVersion(u32);
 
 /// The text isn't a version.
-#[derive(Clone, Copy, Debug, PartialEq, Eq)]
+#[derive(Clone, Copy)]
 pub struct BadVersion;
 
 impl SemanticVersion {

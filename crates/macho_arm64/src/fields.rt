@@ -15,7 +15,7 @@ use crate::words::{
 use macho_numbers::{Number, put_little};
 
 /// The value does not fit the field.
-#[derive(Clone, Copy, Debug, PartialEq, Eq)]
+#[derive(Clone, Copy)]
 pub struct RangeFault {
     /// The value, modulo 2^64.
     pub value: u64,

@@ -10,7 +10,7 @@ use macho_records::{
 };
 
 /// How the value of a field comes from its target's address.
-#[derive(Clone, Copy, Debug, PartialEq, Eq)]
+#[derive(Clone, Copy)]
 pub enum RelocationKind {
     /// The address.
     Absolute,
@@ -29,7 +29,7 @@ pub enum RelocationKind {
 }
 
 /// What a value is written to.
-#[derive(Clone, Copy, Debug, PartialEq, Eq)]
+#[derive(Clone, Copy, PartialEq, Eq)]
 pub enum FieldSize {
     /// So many bytes: 4 or 8, and 0 for what is no field.
     Bytes(u8),
@@ -42,7 +42,7 @@ pub enum FieldSize {
 }
 
 /// The kind of a relocation.
-#[derive(Clone, Copy, Debug, PartialEq, Eq)]
+#[derive(Clone, Copy)]
 pub struct RelocationKindInfo {
     /// How the value comes from the target.
     pub kind: RelocationKind,
@@ -55,7 +55,7 @@ pub struct RelocationKindInfo {
 }
 
 /// The relocation's type, length and pcrel are none that there are.
-#[derive(Clone, Copy, Debug, PartialEq, Eq)]
+#[derive(Clone, Copy)]
 pub struct UnknownRelocation;
 
 /// A relocation that there is.

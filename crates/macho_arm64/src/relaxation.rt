@@ -17,7 +17,7 @@ use macho_records::{
 };
 
 /// How an instruction of a reference through a slot is relaxed.
-#[derive(Clone, Copy, Debug, PartialEq, Eq)]
+#[derive(Clone, Copy)]
 pub enum Relaxation {
     /// The ADRP stays as it is, to be given the target's page.
     Page,
@@ -27,7 +27,7 @@ pub enum Relaxation {
 
 /// The word is no 64-bit load with an unsigned offset, or one into register 31, which an ADD takes for the stack
 /// pointer.
-#[derive(Clone, Copy, Debug, PartialEq, Eq)]
+#[derive(Clone, Copy)]
 pub struct NotALoad;
 
 impl MachOAArch64 {

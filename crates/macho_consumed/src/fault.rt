@@ -7,7 +7,7 @@ use std::alloc::{AllocError, AllocFailed};
 
 /// Why the consumed sections of a link are refused. Objects are told by their numbers among the inputs, sections by those in their
 /// objects, each from 0.
-#[derive(Clone, Copy, Debug, PartialEq, Eq, Drop)]
+#[derive(Clone, Copy, Drop)]
 pub enum ConsumedFault {
     /// A section of initializers breaks its rules.
     BadInitializer {

@@ -17,7 +17,7 @@ use macho_unwind::{UnwindFault, UnwindInput, unwind_bound};
 use std::alloc::{AllocError, AllocFailed, Global};
 
 /// Why the room for unwind information isn't told.
-#[derive(Clone, Copy, Debug, PartialEq, Eq, Drop)]
+#[derive(Clone, Copy, Drop)]
 pub enum RoomFault {
     /// Entries name more than three personality functions.
     TooManyPersonalities,

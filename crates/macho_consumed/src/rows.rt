@@ -15,7 +15,7 @@ pub struct Initializer {
 }
 
 /// A place in a section of an object.
-#[derive(Clone, Copy, Debug, PartialEq, Eq)]
+#[derive(Clone, Copy)]
 pub struct SectionPlace {
     /// The number of the section, from 0.
     pub section: u32,

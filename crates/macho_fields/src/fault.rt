@@ -6,7 +6,7 @@ use macho_model::Site;
 use std::alloc::{AllocError, AllocFailed};
 
 /// Why something is not filled.
-#[derive(Clone, Copy, Debug, PartialEq, Eq, Drop)]
+#[derive(Clone, Copy, Drop)]
 pub enum FillFault {
     /// The value of a field, or the way from a stub to its slot, does not fit.
     Range {

@@ -14,7 +14,7 @@ use macho_records::{
 };
 
 /// What a field says of its target.
-#[derive(Clone, Copy, Debug, PartialEq, Eq)]
+#[derive(Clone, Copy)]
 pub(crate) enum FieldKind {
     /// Its address.
     Pointer,

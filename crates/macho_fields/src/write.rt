@@ -20,7 +20,7 @@ pub(crate) struct FieldWrite {
 }
 
 /// Why a value isn't written.
-#[derive(Clone, Copy, Debug, PartialEq, Eq)]
+#[derive(Clone, Copy)]
 pub(crate) enum WriteFault {
     /// There is no such field at the place.
     NoWord,

@@ -48,7 +48,7 @@ pub(crate) fn least_fault<P: Places>(
     ensures { (l : Link) → AreToFill l (placed_of placement.now) views.now (P.look places.now)
         → FillStands l (placed_of placement.now) met → FillStands l (placed_of placement.now) result }
 {
-    if met == FillFault::OutOfMemory {
+    if let FillFault::OutOfMemory = met {
         return met;
     }
     let mut told = met;

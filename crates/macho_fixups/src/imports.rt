@@ -14,7 +14,7 @@ use macho_numbers::put_little;
 pub const IMPORT_ADDEND_FORMAT: u32 = 2;
 
 /// An entry of the table of imports.
-#[derive(Clone, Copy, Debug, PartialEq, Eq)]
+#[derive(Clone, Copy)]
 pub struct ImportEntry {
     /// The number of its library, from 1.
     pub library: u8,

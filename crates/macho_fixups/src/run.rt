@@ -5,7 +5,7 @@ ghost use Rattle.macho_fixups.specs.steps.Cuts.{IsSkip, IsNextBelow, IsNoneBelow
 use crate::words::FixupKind;
 
 /// A word that the loader writes anew.
-#[derive(Clone, Copy, Debug, PartialEq, Eq)]
+#[derive(Clone, Copy)]
 pub struct Fixup {
     /// The address of its first byte.
     pub address: u64,
@@ -14,7 +14,7 @@ pub struct Fixup {
 }
 
 /// A segment, as fixups see it.
-#[derive(Clone, Copy, Debug, PartialEq, Eq)]
+#[derive(Clone, Copy)]
 pub struct FixupSegment {
     /// The address of its first byte.
     pub address: u64,

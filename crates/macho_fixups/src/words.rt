@@ -16,7 +16,7 @@ ghost use Rattle.macho_fixups.specs.Words.{has_word, FitsOrdinal, IsWordOf, word
 ghost use Rattle.macho_fixups.specs.Words.{STEPS};
 
 /// What the loader makes of a word.
-#[derive(Clone, Copy, Debug, PartialEq, Eq)]
+#[derive(Clone, Copy)]
 pub enum FixupKind {
     /// An address of the image.
     Rebase {
@@ -33,7 +33,7 @@ pub enum FixupKind {
 }
 
 /// A fixup has no word: a target has a bit outside the low 36 and the top 8, or an addend is above 255.
-#[derive(Clone, Copy, Debug, PartialEq, Eq)]
+#[derive(Clone, Copy)]
 pub struct NotEncodable {
     /// The number of the fixup among those given, 0 where there is one.
     pub index: usize,

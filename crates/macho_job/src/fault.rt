@@ -11,7 +11,7 @@ use macho_image::LinkError;
 use std::alloc::AllocError;
 
 /// What a file that is no input is, by its first bytes.
-#[derive(Clone, Copy, Debug, PartialEq, Eq)]
+#[derive(Clone, Copy)]
 pub enum InputKind {
     /// An archive of objects: it begins with `!<arch>` and a line feed.
     Archive,

@@ -31,7 +31,7 @@ use macho_model_walks::{
 use macho_records::name_bytes;
 
 /// What the loader makes of a word on a chain, before any slide.
-#[derive(Clone, Copy, Debug, PartialEq, Eq)]
+#[derive(Clone, Copy)]
 pub enum LoadedFixup<'a> {
     /// A value that moves with the image.
     Rebase {

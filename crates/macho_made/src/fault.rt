@@ -5,7 +5,7 @@ ghost use Rattle.macho_made.specs.declared.fault.MadeFault.TheVariants.{OutOfMem
 use std::alloc::{AllocError, AllocFailed};
 
 /// Why something is not made.
-#[derive(Clone, Copy, Debug, PartialEq, Eq, Drop)]
+#[derive(Clone, Copy, Drop)]
 pub enum MadeFault {
     /// An offset from the image's base, or the place of a page of unwind information, passes 32 bits.
     TooLarge,

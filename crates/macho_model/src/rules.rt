@@ -1,7 +1,7 @@
 //! The rules that inputs and images keep, by name. `docs/FORMATS.md` states each; a refusal names one that is broken.
 
 /// A rule of relocatable objects and dynamic libraries.
-#[derive(Clone, Copy, Debug, PartialEq, Eq)]
+#[derive(Clone, Copy, PartialEq, Eq)]
 pub enum ObjectRule {
     /// The header is whole, of a 64-bit arm64 file of the wanted type, and the file has fewer than 2^32 bytes.
     O1,
@@ -59,7 +59,7 @@ pub enum LoadRule {
 }
 
 /// A rule of compact unwind entries.
-#[derive(Clone, Copy, Debug, PartialEq, Eq)]
+#[derive(Clone, Copy)]
 pub enum UnwindRule {
     /// The section's size is a multiple of an entry's.
     U1,

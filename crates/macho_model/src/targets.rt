@@ -3,7 +3,7 @@ ghost use Rattle.std.specs.Prelude.{◌≡◌};
 ghost use Rattle.macho_model.specs.Values.{is_absolute_target};
 
 /// What a symbol or a relocation leads to. Files are numbered by the order in which they were added.
-#[derive(Clone, Copy, Debug, PartialEq, Eq)]
+#[derive(Clone, Copy)]
 pub enum Target {
     /// A place in a carried section of an object.
     Section {
@@ -48,7 +48,7 @@ impl Target {
 }
 
 /// A place in an image that a value is written to.
-#[derive(Clone, Copy, Debug, PartialEq, Eq)]
+#[derive(Clone, Copy)]
 pub enum Site {
     /// The field of a relocation.
     Field {
@@ -72,7 +72,7 @@ pub enum Site {
 }
 
 /// A number that the format limits.
-#[derive(Clone, Copy, Debug, PartialEq, Eq)]
+#[derive(Clone, Copy)]
 pub enum Limit {
     /// Segments with `__PAGEZERO`: 6.
     Segments,

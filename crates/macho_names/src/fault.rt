@@ -5,7 +5,7 @@ ghost use Rattle.macho_names.specs.declared.fault.SymbolFault.TheVariants.{OutOf
 use std::alloc::{AllocError, AllocFailed};
 
 /// Why symbols are not resolved, a use is not noted or names are not exported. Files are told by their numbers.
-#[derive(Debug, Drop)]
+#[derive(Drop)]
 pub enum SymbolFault {
     /// Two objects define a name strongly.
     DuplicateSymbol {

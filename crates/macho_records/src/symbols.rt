@@ -287,7 +287,7 @@ pub struct CommonSymbol {
 }
 
 /// Who sees a symbol.
-#[derive(Clone, Copy, PartialEq, Eq)]
+#[derive(Clone, Copy)]
 pub enum Visibility {
     /// This link alone.
     Hidden,

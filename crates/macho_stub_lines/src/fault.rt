@@ -6,7 +6,7 @@ ghost use Rattle.macho_stub_lines.specs.declared.fault.StubFault.TheVariants.{Ou
 use std::alloc::{AllocError, AllocFailed};
 
 /// The rules that a stub text keeps.
-#[derive(Clone, Copy, Debug, PartialEq, Eq)]
+#[derive(Clone, Copy)]
 pub enum StubRule {
     /// The text is in the grammar.
     S1,
@@ -29,7 +29,7 @@ pub enum StubRule {
 }
 
 /// Why a stub text is refused.
-#[derive(Clone, Copy, Debug, PartialEq, Eq)]
+#[derive(Clone, Copy)]
 pub enum StubFault {
     /// The text breaks the rule; the line, counted from 1, is where.
     Rule { line: u64, rule: StubRule },

@@ -24,7 +24,7 @@ use memchr::memchr;
 pub(crate) const REEXPORT: u64 = 8;
 
 /// What an exports trie says of a name.
-#[derive(Clone, Copy, Debug, PartialEq, Eq)]
+#[derive(Clone, Copy)]
 pub enum Export<'a> {
     /// An offset from the image's base, or a value.
     Value {

@@ -5,7 +5,7 @@ use std::alloc::{AllocError, AllocFailed};
 pub const MOST_PERSONALITIES: usize = 3;
 
 /// What the size of the unwind section is found from, for one function.
-#[derive(Clone, Copy, Debug, PartialEq, Eq)]
+#[derive(Clone, Copy)]
 pub struct UnwindInput {
     /// How the function's frame is unwound (`mach-o/compact_unwind_encoding.h`).
     pub encoding: u32,
@@ -16,7 +16,7 @@ pub struct UnwindInput {
 }
 
 /// A personality function.
-#[derive(Clone, Copy, Debug, PartialEq, Eq)]
+#[derive(Clone, Copy)]
 pub struct Personality {
     /// The number that names it.
     pub id: u32,
@@ -25,7 +25,7 @@ pub struct Personality {
 }
 
 /// How one function is unwound, at its final address.
-#[derive(Clone, Copy, Debug, PartialEq, Eq)]
+#[derive(Clone, Copy)]
 pub struct ResolvedUnwindInfo {
     /// The address of its first byte.
     pub start: u64,

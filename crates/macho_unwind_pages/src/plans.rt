@@ -12,7 +12,7 @@
 //! 0x1000 with encoding 0 of the globals, one at 0x1020 with encoding 1.
 
 /// One page: functions in order of their starts.
-#[derive(Debug, Drop)]
+#[derive(Drop)]
 pub struct Page {
     /// The offset of its first function.
     pub first: u32,
@@ -23,7 +23,7 @@ pub struct Page {
 }
 
 /// The language-specific data of a function.
-#[derive(Clone, Copy, Debug, PartialEq, Eq)]
+#[derive(Clone, Copy, PartialEq, Eq)]
 pub struct Lsda {
     /// The offset of the function.
     pub function: u32,
@@ -32,7 +32,7 @@ pub struct Lsda {
 }
 
 /// What a section of compact unwind says, before it is bytes.
-#[derive(Debug, Drop)]
+#[derive(Drop)]
 pub struct Plan {
     /// The encodings that every page may name.
     pub globals: Vec<u32>,
