@@ -94,6 +94,14 @@ def sought():
     return object_of([text_alone()], RETURN, b"", symbols, names)
 
 
+def used(step):
+    """30,000 symbols named by one string of 4 MB, each so many bytes further on: the first defines it, others use it or are local."""
+    names = b"\0_main\0" + b"g" * 4_000_000 + b"\0"
+    others = ((0x0E, 1, 0, 0), (1, 0, 0, 0))
+    symbols = [(7 + step * number, *others[number % 2]) for number in range(1, 30_000)]
+    return object_of([text_alone()], RETURN, b"", [(1, *MAIN[1:]), (7, 0x0F, 1, 0, 0), *symbols], names)
+
+
 def bucket():
     """524,286 undefined symbols, and one function: their hashes by FNV-1a, without a seed, leave one rest by 2^19, the number of rows
     and one. A name's end is looked up by the low bits of the hash so far, which it brings to 0."""
@@ -199,6 +207,8 @@ CASES = {
     "few-tails": ("3,000 local symbols named by tails of one name of 1 MB", few_tails, None, 240, 6_000),
     "offered": ("100,000 global functions named by tails of one name of 10 MB", offered, "memory", 20, 400),
     "sought": ("100,000 undefined symbols that share one name of 10 MB", sought, None, 20, 400),
+    "used": ("30,000 symbols, half of them undefined, that share one name of 4 MB with its definition", lambda: used(0), "image too large", 20, 400),
+    "used-tails": ("30,000 symbols, half of them undefined, named by tails of one name of 4 MB", lambda: used(1), "image too large", 20, 400),
     "bucket": ("524,286 undefined symbols whose names share a bucket, were it chosen without a seed", bucket, None, 20, 400),
     "alike": ("3,800 undefined symbols whose names of 4,104 bytes differ in the middle", alike, None, 20, 400),
     "stars": ("20,000 functions, and a list of 20,000 patterns with five stars or more that none matches", backwards, None, 120, 400),

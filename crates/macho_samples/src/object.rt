@@ -49,8 +49,8 @@ pub(crate) struct Symbols {
     pub(crate) names: Vec<u8>,
 }
 
-/// Adds the row of a symbol whose name begins at the place in the string table.
-pub fn put_symbol(rows: &mut Vec<u8>, place: u64, symbol: &Symbol<'_>) -> Result<(), AllocError> {
+// Adds the row of a symbol whose name begins at the place in the string table.
+fn put_symbol(rows: &mut Vec<u8>, place: u64, symbol: &Symbol<'_>) -> Result<(), AllocError> {
     put_words(rows, &[place])?;
     rows.push(symbol.kind)?;
     rows.push(symbol.section)?;
@@ -188,37 +188,27 @@ fn put_segment(
 }
 
 /// The bytes of an object, whose names begin with a zero and are padded to four bytes.
-pub fn object_bytes(alloc: Global, object: &Object<'_>) -> Result<Vec<u8>, AllocError> {
-    let symbols = symbols_of(alloc, object.symbols)?;
-    object_with(alloc, object.sections, &symbols.rows, &symbols.names)
-}
-
-/// The bytes of an object with the rows of a symbol table, by [`put_symbol`], and a string table.
 ///
 /// Its two commands are the segment and the symbol table. The contents of the sections stand one behind the other, padded to eight
 /// bytes at their end; then the relocations of all sections, the symbols, and the names.
-pub fn object_with(
-    alloc: Global,
-    sections: &[Section<'_>],
-    rows: &[u8],
-    names: &[u8],
-) -> Result<Vec<u8>, AllocError> {
-    let count = sections.len() as u64;
+pub fn object_bytes(alloc: Global, object: &Object<'_>) -> Result<Vec<u8>, AllocError> {
+    let symbols = symbols_of(alloc, object.symbols)?;
+    let count = object.sections.len() as u64;
     let commands = SEGMENT_SIZE
         .saturating_add(SECTION_SIZE.saturating_mul(count))
         .saturating_add(SYMTAB_SIZE);
     let content = HEADER_SIZE.saturating_add(commands);
-    let data = contents(alloc, sections)?;
-    let moved = relocations(alloc, sections)?;
+    let data = contents(alloc, object.sections)?;
+    let moved = relocations(alloc, object.sections)?;
     let behind = content.saturating_add(length(&data));
     let table = behind.saturating_add(length(&moved));
     let mut out = Vec::new(alloc);
     put_header(&mut out, OBJECT, 2, commands)?;
-    put_segment(&mut out, sections, content, behind)?;
-    put_symtab(&mut out, table, rows, names)?;
+    put_segment(&mut out, object.sections, content, behind)?;
+    put_symtab(&mut out, table, &symbols.rows, &symbols.names)?;
     out.extend_from_slice(&data)?;
     out.extend_from_slice(&moved)?;
-    out.extend_from_slice(rows)?;
-    out.extend_from_slice(names)?;
+    out.extend_from_slice(&symbols.rows)?;
+    out.extend_from_slice(&symbols.names)?;
     Ok(out)
 }

@@ -5,3 +5,4 @@ pub mod FixupsCall
 pub mod ComposedCall
 pub mod ChangesCall
 pub mod ChangesContent
+pub mod FixupWords

@@ -1,6 +1,6 @@
 use Rattle.std.proofs.Common.{pos}
 use Rattle.macho_fixups.specs.declared.imports.ImportEntry.{ImportEntry}
-use Rattle.macho_linkedit_tests.proofs.laws.name_of_an_import.Goals as goal
+use Rattle.macho_standing_checks.proofs.laws.name_of_an_import.Goals as goal
 
 pub returns : goal.returns
 returns c =

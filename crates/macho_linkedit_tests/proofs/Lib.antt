@@ -1,2 +1,0 @@
-pub mod Listable
-pub mod ExampleImages
