@@ -1,17 +1,22 @@
-//! Tests of exports tries and of compact unwind, a module for each subject; and callers of the laws of both.
+//! Tests of what only a caller of a library sees, a module for each subject: look-up in broken bytes, and answers that the linker never
+//! asks for. Callers of the laws of tries, of unwind information, of relocated fields and of the model.
 #![tactic(auto)]
 
 #[cfg(test)]
+mod field_laws;
+#[cfg(test)]
 mod laws;
 #[cfg(test)]
-mod plain_tries;
+mod model_laws;
+#[cfg(test)]
+mod objects;
+#[cfg(test)]
+mod records;
+#[cfg(test)]
+mod relocations;
+#[cfg(test)]
+mod rooms;
 #[cfg(test)]
 mod trie_look_ups;
 #[cfg(test)]
-mod tries;
-#[cfg(test)]
-mod unwind;
-#[cfg(test)]
-mod unwind_pages;
-#[cfg(test)]
-mod unwind_sections;
+mod unwind_look_ups;
