@@ -1,7 +1,7 @@
 //! The files of a case, and the words of its run.
 
 use crate::lines::{Line, first_word, rest_of};
-use crate::object::bytes_of_object;
+use crate::object::{add_zeros, bytes_of_object};
 use crate::reader::file_at;
 use crate::values::{Unread, add_bytes, add_text_line, byte, size, wrong};
 use macho_samples::{Library, dylib_bytes, stub_bytes};
@@ -43,10 +43,28 @@ fn bytes_of_library(alloc: Global, is_stub: bool, text: &str) -> Result<Vec<u8>,
     }
 }
 
+// Adds bytes so many times.
+fn add_times(bytes: &mut Vec<u8>, once: &[u8], count: usize) -> Result<(), AllocError> {
+    for _turn in 0..count {
+        bytes.extend_from_slice(once)?;
+    }
+    Ok(())
+}
+
+// Adds the bytes of a line `COUNT BYTES ..` so many times.
+fn add_repeated(alloc: Global, bytes: &mut Vec<u8>, text: &str) -> Result<(), Unread> {
+    let count = first_word(text);
+    let mut once = Vec::new(alloc);
+    add_bytes(alloc, &mut once, count.rest)?;
+    Ok(add_times(bytes, &once, size(count.key)?)?)
+}
+
 // Adds the bytes that a line says.
 fn add_said(alloc: Global, bytes: &mut Vec<u8>, line: Line<'_>) -> Result<(), Unread> {
     match line.key {
         "bytes" | "hex" => add_bytes(alloc, bytes, line.rest),
+        "zeros" => add_zeros(bytes, size(line.rest)?),
+        "repeat" => add_repeated(alloc, bytes, line.rest),
         ">" => Ok(add_text_line(bytes, line.rest)?),
         _ => Ok(()),
     }
@@ -102,6 +120,16 @@ fn bytes_of_file(alloc: Global, lines: &[Line<'_>]) -> Result<Vec<u8>, Unread> {
         change(&mut bytes, *line)?;
     }
     Ok(bytes)
+}
+
+/// The bytes of the file under a path, none where there is no such file.
+pub fn bytes_under<'a>(files: &'a [GivenFile<'_>], path: &str) -> &'a [u8] {
+    for file in files {
+        if file.path == path {
+            return &file.bytes;
+        }
+    }
+    b""
 }
 
 /// The files of a case.

@@ -14,11 +14,11 @@ mod reader;
 mod values;
 mod wanted;
 
-pub use crate::files::{GivenFile, files_of, words_of_case};
+pub use crate::files::{GivenFile, bytes_under, files_of, words_of_case};
 pub use crate::lines::{Line, number_of, rest_of};
 pub use crate::notes::note;
 pub use crate::reader::{case_at, lines_of, written_out};
-pub use crate::values::Unread;
+pub use crate::values::{Unread, number};
 pub use crate::wanted::{
     Came, check_answer, check_bytes, check_held, check_image, check_line, check_same,
 };

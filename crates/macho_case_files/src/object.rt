@@ -136,8 +136,8 @@ fn add_relocations(relocations: &mut Vec<Relocation>, text: &str) -> Result<(), 
 // No section has more zeros.
 const MOST_ZEROS: usize = 0x200_0000;
 
-// Adds zeros.
-fn add_zeros(bytes: &mut Vec<u8>, count: usize) -> Result<(), Unread> {
+/// Adds zeros.
+pub(crate) fn add_zeros(bytes: &mut Vec<u8>, count: usize) -> Result<(), Unread> {
     if count > MOST_ZEROS {
         return Err(wrong("too many zeros"));
     }

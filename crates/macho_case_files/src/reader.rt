@@ -10,8 +10,9 @@
 //!     define both object main other                 the sections and symbols of other objects; within an object `with other`
 //!     define system stub /usr/lib/libA.dylib _exit  a text stub with the names that it offers, or a `dylib`; names behind the word
 //!                                                   `weak` have weak definitions
-//!     define list bytes                             bytes of `hex`, and lines, each behind `>`
+//!     define list bytes                             bytes of `hex` and `zeros`, and lines, each behind `>`
 //!       > _main
+//!       repeat 1000 00000000 "text"                 such bytes, so many times
 //!
 //!     case a call through a stub                    what the case shows
 //!       file in.o as main                           a file under its path: as `main` was defined, or made as behind `define`
@@ -22,6 +23,8 @@
 //!       fails_write 8192                            the first write fails behind so many bytes; `fails_read N`, `fails_print N`,
 //!                                                   `fails_line N`: that one fails, counted from 0
 //!       steady                                      the run stands over files and a standard error that never fail
+//!       folder sdk/lib                              a path of a folder
+//!       leads sdk /sdk14                            the canonical path of a path
 //!
 //! What is wanted, of which a case has one of the first two:
 //!
@@ -40,8 +43,16 @@
 //!       keeps section 5               what the fault keeps beside its line: a word, a section, a placement
 //!       cut_to 16907                  the loader refuses so many first bytes of the image,
 //!       loader_says L4 at 256         by this rule, at this place
+//!       finds 0x100004000 _exit of 1, plus 0
+//!                                     what the loader makes of the word at an address: that, or `moves with 0x1000003f0`, or `nothing`;
+//!                                     `finds base 0x100000000`, `finds segments 0x0:0x0 0x100000000:0x0`: addresses and file offsets
 //!       linker_refuses cut.o          a linker without files refuses that object and takes the others; it links them twice to one image,
 //!                                     whose length and bytes are those of the run's
+//!
+//! Instead of a run the loader may read one of the files, and says whether it refuses it, and what it finds:
+//!
+//!       loader_reads image
+//!       loader_says L5 at 488
 //!
 //! A table is a case whose lines stand once for each row, with the parts of the row in the places of `$1`, `$2` and so on:
 //!
@@ -57,7 +68,7 @@ use crate::values::{Unread, wrong};
 use std::alloc::{AllocError, Global};
 
 /// The lines that say what a file holds.
-pub(crate) const OF_FILES: [&str; 12] = [
+pub(crate) const OF_FILES: [&str; 13] = [
     "object",
     "dylib",
     "stub",
@@ -66,6 +77,7 @@ pub(crate) const OF_FILES: [&str; 12] = [
     "symbol",
     "hex",
     "zeros",
+    "repeat",
     "relocations",
     ">",
     "cut",
@@ -76,7 +88,7 @@ pub(crate) const OF_FILES: [&str; 12] = [
 const FILES: [&str; 2] = ["file", "define"];
 
 /// The other lines of a case.
-const OF_CASES: [&str; 24] = [
+const OF_CASES: [&str; 28] = [
     "case",
     "words",
     "fails_read",
@@ -84,6 +96,8 @@ const OF_CASES: [&str; 24] = [
     "fails_print",
     "fails_line",
     "steady",
+    "folder",
+    "leads",
     "linked",
     "length",
     "ends",
@@ -100,6 +114,8 @@ const OF_CASES: [&str; 24] = [
     "keeps",
     "cut_to",
     "loader_says",
+    "loader_reads",
+    "finds",
     "linker_refuses",
 ];
 

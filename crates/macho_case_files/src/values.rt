@@ -27,7 +27,11 @@ impl<T: Drop> From<AllocFailed<T>> for Unread {
 }
 
 /// The number that a word says, decimal or in base 16 behind `0x`, and not above another.
-pub(crate) fn number(word: &str, most: u64) -> Result<u64, Unread> {
+///
+/// # Errors
+///
+/// The word says no number, or a greater one.
+pub fn number(word: &str, most: u64) -> Result<u64, Unread> {
     let read = match word.strip_prefix("0x") {
         Some(digits) => u64::from_str_radix(digits, 16),
         None => u64::from_str_radix(word, 10),

@@ -1,6 +1,6 @@
 //! What a case wants of its run, beside what came.
 
-use crate::files::GivenFile;
+use crate::files::{GivenFile, bytes_under};
 use crate::lines::{Line, first_word, rest_of};
 use crate::notes::{note, note_printed, part};
 use crate::values::{Unread, add_bytes, add_text_line, quoted, size, wrong};
@@ -256,16 +256,6 @@ pub fn check_held(
     let mut want = Vec::new(alloc);
     add_held(alloc, &mut want, held, image)?;
     Ok(note(alloc, found, path.key, &want, came.unwrap_or(b""))?)
-}
-
-// The bytes of the file under a path, none where there is no such file.
-fn bytes_under<'a>(files: &'a [GivenFile<'_>], path: &str) -> &'a [u8] {
-    for file in files {
-        if file.path == path {
-            return &file.bytes;
-        }
-    }
-    b""
 }
 
 /// Notes two files whose bytes are to be the same, where they are not.

@@ -1,10 +1,9 @@
-//! The devices, each on its happy path and at each of its failures.
+//! The devices: files and streams of the system, and in memory what no run shows, where several calls fail one after the other.
 
 use Step::{Fails, Folder, Leads, NoFolder, Shows, Takes};
 use macho_args::Paths;
 use macho_devices::{
-    FileFault, Files, MemoryFiles, MemorySink, RealFiles, RealSink, Sink, SinkFault, SteadyFiles,
-    SteadySink,
+    FileFault, Files, MemoryFiles, MemorySink, RealFiles, RealSink, Sink, SinkFault,
 };
 use std::alloc::{AllocError, Global};
 use std::io::Write;
@@ -86,45 +85,9 @@ fn passed<F: Files>(
     Ok(steps.len())
 }
 
-// Adds a file.
-fn add(files: &mut MemoryFiles, alloc: Global, path: &str, text: &str) -> Result<(), AllocError> {
-    files.add_file(path, text.as_bytes().to_vec(alloc)?)
-}
-
-// Adds a directory, a link, and a file that is added twice.
-fn fill_memory(files: &mut MemoryFiles, alloc: Global) -> Result<(), AllocError> {
-    files.add_dir("lib")?;
-    files.add_canonical("lib/../a", "/work/a")?;
-    add(files, alloc, "a", "one")?;
-    add(files, alloc, "a", "two")
-}
-
-// How many steps pass over files in memory.
-fn passed_in_memory(alloc: Global) -> Result<usize, AllocError> {
-    let mut files = MemoryFiles::new(alloc);
-    fill_memory(&mut files, alloc)?;
-    passed(&mut files, alloc, "", memory())
-}
-
-fn memory() -> &'static [(Step, &'static str, &'static str)] {
-    &MEMORY
-}
-
-const MEMORY: [(Step, &str, &str); 9] = [
-    (Folder, "lib", ""),
-    (NoFolder, "a", ""),
-    (Leads, "lib/../a", "/work/a"),
-    (Leads, "a", "-"),
-    (Shows, "a", "two"),
-    (Shows, "b", "-"),
-    (Takes, "b", "three"),
-    (Shows, "b", "three"),
-    (Shows, "a", "two"),
-];
-
 // Adds a file, and lets the second read fail, and the first four writes.
 fn fill_failing(files: &mut MemoryFiles, alloc: Global) -> Result<(), AllocError> {
-    add(files, alloc, "a", "one")?;
+    files.add_file("a", b"one".to_vec(alloc)?)?;
     files.fail_read(1)?;
     files.fail_write(0, 0)?;
     files.fail_write(1, 2)?;
@@ -160,38 +123,9 @@ const FAILING: [(Step, &str, &str); 13] = [
     (Shows, "out", "image"),
 ];
 
-// Adds a directory, a link and a file.
-fn fill_steady(files: &mut SteadyFiles, alloc: Global) -> Result<(), AllocError> {
-    files.add_dir("lib")?;
-    files.add_canonical("b", "/work/b")?;
-    files.add_file("a", b"one".to_vec(alloc)?)
-}
-
-// How many steps pass over files that never fail.
-fn passed_steady(alloc: Global) -> Result<usize, AllocError> {
-    let mut files = SteadyFiles::new(alloc);
-    fill_steady(&mut files, alloc)?;
-    passed(&mut files, alloc, "", steady())
-}
-
-fn steady() -> &'static [(Step, &'static str, &'static str)] {
-    &STEADY
-}
-
-const STEADY: [(Step, &str, &str); 6] = [
-    (Folder, "lib", ""),
-    (Leads, "b", "/work/b"),
-    (Shows, "a", "one"),
-    (Takes, "a", "two"),
-    (Shows, "a", "two"),
-    (Shows, "b", "-"),
-];
-
 #[test]
-fn files_in_memory_hold_what_is_added(rt: HostRuntime) -> Result<(), Fail> {
-    assert_eq!(rt; passed_in_memory(rt.alloc())?, 9);
+fn files_in_memory_fail_as_they_are_told(rt: HostRuntime) -> Result<(), Fail> {
     assert_eq!(rt; passed_failing(rt.alloc())?, 13);
-    assert_eq!(rt; passed_steady(rt.alloc())?, 6);
     Ok(())
 }
 
@@ -267,10 +201,6 @@ fn is_room_kept(alloc: Global) -> Result<bool, AllocError> {
     Ok(printed(&mut sink, &ROOM) == 4 && sink.bytes() == b"abcg".as_slice())
 }
 
-fn does_steady_sink_print() -> bool {
-    printed(&mut SteadySink::new(), &[(b"abc", true)]) == 1
-}
-
 // A stream that takes two bytes a call, then nothing, then two once more, and then fails.
 #[derive(Drop)]
 struct Slow {
@@ -304,7 +234,6 @@ fn does_real_sink_go_on() -> bool {
 #[test]
 fn sinks_take_and_fail_as_they_are_told(rt: HostRuntime) -> Result<(), Fail> {
     assert!(rt; is_room_kept(rt.alloc())?);
-    assert!(rt; does_steady_sink_print());
     assert!(rt; does_real_sink_go_on());
     Ok(())
 }

@@ -1,5 +1,7 @@
-//! Tests of what stands around a link: command lines and text stubs, and the devices, files and sinks in memory, steady ones and those
-//! of the system.
+//! Tests of what only a caller of a library sees, around a link: texts of stubs, the devices of the system and failing ones in memory,
+//! and another UUID of a signed image.
+//!
+//! Digests are those of Python's hashlib.
 #![tactic(auto)]
 
 #[cfg(test)]
@@ -9,4 +11,4 @@ mod laws;
 #[cfg(test)]
 mod stubs;
 #[cfg(test)]
-mod words;
+mod uuid;

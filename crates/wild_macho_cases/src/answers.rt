@@ -1,6 +1,5 @@
 //! What a run answers, as texts.
 
-use macho_loader::Loaded;
 use std::alloc::{AllocError, Global};
 use wild_macho::{Fault, InputKind, LinkError, LinkedImage};
 
@@ -119,15 +118,4 @@ pub(crate) fn told_of(alloc: Global, image: &LinkedImage) -> Result<Vec<u8>, All
     let mut text = Vec::new(alloc);
     add_told(alloc, &mut text, image)?;
     Ok(text)
-}
-
-/// By which rule the loader refuses a file, and at which place; empty where it accepts the file.
-pub(crate) fn refusal_of(alloc: Global, bytes: &[u8]) -> Result<String, AllocError> {
-    match Loaded::accept(bytes) {
-        Ok(_loaded) => Ok(String::new(alloc)),
-        Err(fault) => {
-            let (rule, place) = (fault.rule, fault.place);
-            format!(in alloc; "{rule:?} at {place}")
-        }
-    }
 }

@@ -12,6 +12,7 @@
 mod again;
 mod answers;
 mod linked_again;
+mod loads;
 mod runs;
 
 use crate::linked_again::link_words;

@@ -1,10 +1,11 @@
 //! The run of a case over files in memory.
 
 use crate::again::check_linker;
-use crate::answers::{kept_of, refusal_of, told_of};
+use crate::answers::{kept_of, told_of};
+use crate::loads::{check_loads, check_read};
 use macho_case_files::{
-    Came, GivenFile, Line, Unread, check_answer, check_held, check_image, check_line, check_same,
-    files_of, note, number_of, rest_of, words_of_case,
+    Came, GivenFile, Line, Unread, bytes_under, check_answer, check_held, check_image, check_line,
+    check_same, files_of, number_of, rest_of, words_of_case,
 };
 use std::alloc::{AllocError, Global};
 use wild_macho::{
@@ -29,6 +30,26 @@ fn add_files(
     Ok(())
 }
 
+// Adds what a line says of paths.
+fn add_path(held: &mut MemoryFiles, line: Line<'_>) -> Result<(), AllocError> {
+    match line.key {
+        "folder" => held.add_dir(line.rest),
+        "leads" => {
+            let (path, canonical) = line.rest.split_once(' ').unwrap_or((line.rest, ""));
+            held.add_canonical(path, canonical)
+        }
+        _ => Ok(()),
+    }
+}
+
+// Adds the folders and canonical paths of a case.
+fn add_paths(held: &mut MemoryFiles, case: &[Line<'_>]) -> Result<(), AllocError> {
+    for line in case {
+        add_path(held, *line)?;
+    }
+    Ok(())
+}
+
 // Makes a read or the first write fail, where the case says so.
 fn add_failures(held: &mut MemoryFiles, case: &[Line<'_>]) -> Result<(), Unread> {
     if let Some(number) = number_of(case, "fails_read")? {
@@ -48,6 +69,7 @@ fn held_files(
 ) -> Result<MemoryFiles, Unread> {
     let mut held = MemoryFiles::new(alloc);
     add_files(alloc, &mut held, files)?;
+    add_paths(&mut held, case)?;
     add_failures(&mut held, case)?;
     Ok(held)
 }
@@ -118,37 +140,6 @@ fn check_paths<F: Files>(
         if line.key == "holds" {
             check_path(alloc, found, line.rest, files, image)?;
         }
-    }
-    Ok(())
-}
-
-// Notes what the loader says of an image, where it says something else than is wanted.
-fn check_loaded(
-    alloc: Global,
-    found: &mut String,
-    want: &str,
-    image: &[u8],
-) -> Result<(), AllocError> {
-    let came = refusal_of(alloc, image)?;
-    note(alloc, found, "loader", want.as_bytes(), came.as_bytes())
-}
-
-// Notes it of the image, which is to be accepted, and of its first bytes, where the case cuts it.
-fn check_loads(
-    alloc: Global,
-    found: &mut String,
-    case: &[Line<'_>],
-    image: &[u8],
-) -> Result<(), Unread> {
-    check_loaded(alloc, found, "", image)?;
-    if let Some(length) = number_of(case, "cut_to")? {
-        let cut = image.get(..length as usize).unwrap_or(image);
-        check_loaded(
-            alloc,
-            found,
-            rest_of(case, "loader_says").unwrap_or(""),
-            cut,
-        )?;
     }
     Ok(())
 }
@@ -282,6 +273,9 @@ fn check_with(
     files: &[GivenFile<'_>],
 ) -> Result<(), Unread> {
     check_same(alloc, found, case, files)?;
+    if let Some(path) = rest_of(case, "loader_reads") {
+        return check_read(alloc, found, case, bytes_under(files, path));
+    }
     if rest_of(case, "steady").is_some() {
         check_steady_run(alloc, found, case, files)?;
     } else {
