@@ -52,9 +52,8 @@ pub fn import_table(
     ensures done { (l : Link) → AreOfLink l imports.now own.now libraries.now
         → IfOk result (λ t. IsImportTable l t.format t.entries.items t.names.items) }
 {
-    let places = library_places(alloc, libraries)?;
     let mut entries = Vec::with_capacity(alloc, imports.len() + own.len())?;
-    let names = add_imports(imports, libraries, &places, &mut entries)?;
+    let names = add_plain(alloc, imports, libraries, &mut entries)?;
     add_own(own, &mut entries)?;
     let format = if own.is_empty() {
         IMPORT_FORMAT
@@ -66,6 +65,22 @@ pub fn import_table(
         entries,
         names,
     })
+}
+
+/// Adds an entry for each import, and makes the names. The table of the libraries' places is held while this is done.
+fn add_plain(
+    alloc: Global,
+    imports: &[Import],
+    libraries: &[Vec<u8>],
+    entries: &mut Vec<ImportEntry>,
+) -> Result<Vec<u8>, AllocError>
+    requires few { length libraries.now ≤ 240 }
+    requires short { name_bytes imports.now ≤ 2 ^ 23 }
+    requires none { entries.old.items ≡ [] }
+    ensures { IfOk result (λ names. HavePlain (texts libraries.now) imports.now (length imports.now) entries.new.items names.items) }
+{
+    let places = library_places(alloc, libraries)?;
+    add_imports(imports, libraries, &places, entries)
 }
 
 /// Adds an entry for each import, and makes the names.

@@ -8,7 +8,7 @@ pub returns-clause-fits : goal.returns-clause-fits
 returns-clause-fits c =
     table_fits c.args.imports.now c.args.own.now c.args.libraries.now c.add_own.new.entries.items c.in_ok-names.names.items c.is_empty.result
     c.if-is_empty.format c.requires
-    (record { plain = c.add_imports.new.entries.items; first = c.in_ok-names.ensures; behind = c.in_ok-add_own.ensures })
+    (record { plain = c.add_plain.new.entries.items; first = c.in_ok-names.ensures; behind = c.in_ok-add_own.ensures })
     c.is_empty.ensures
     (elim c.if-is_empty.branch [
       | then-is_empty w ↦ w.format-is ∙ ap format_for (sym w.if-is_empty.true)
@@ -19,7 +19,7 @@ pub returns-clause-done : goal.returns-clause-done
 returns-clause-done c l are =
     table_is l c.args.imports.now c.args.own.now c.args.libraries.now c.add_own.new.entries.items c.in_ok-names.names.items c.is_empty.result
     c.if-is_empty.format c.requires
-    (record { plain = c.add_imports.new.entries.items; first = c.in_ok-names.ensures; behind = c.in_ok-add_own.ensures })
+    (record { plain = c.add_plain.new.entries.items; first = c.in_ok-names.ensures; behind = c.in_ok-add_own.ensures })
     c.is_empty.ensures
     (elim c.if-is_empty.branch [
       | then-is_empty w ↦ w.format-is ∙ ap format_for (sym w.if-is_empty.true)
