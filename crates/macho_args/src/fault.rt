@@ -7,7 +7,7 @@ use std::alloc::{AllocError, AllocFailed};
 
 /// Why a command line is refused: the first word that breaks its option's rule, by its index in the
 /// words, from 0. A bad value's own index is told, and of a missing value the option's.
-#[derive(Clone, Copy, PartialEq, Eq)]
+#[derive(Clone, Copy)]
 pub enum ArgsFault {
     /// Too few words follow the option.
     MissingValue { word: u32 },

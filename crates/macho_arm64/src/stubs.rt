@@ -27,7 +27,7 @@ const REACH: u64 = 1 << 32;
 const START_MEMORY_ADDRESS: u64 = 1 << 32;
 
 /// A stub that can't reach its slot.
-#[derive(Clone, Copy, PartialEq, Eq)]
+#[derive(Clone, Copy)]
 pub enum PltFault {
     /// The stub isn't below the slot.
     StubAfterSlot,

@@ -18,7 +18,7 @@ pub(crate) const COMPRESSED: u32 = 3;
 const OFFSETS: u32 = 1 << 24;
 
 /// What a section says of an offset. Its offsets count from the image's base.
-#[derive(Clone, Copy, PartialEq, Eq)]
+#[derive(Clone, Copy)]
 pub struct Found {
     /// Where the function starts.
     pub start: u32,

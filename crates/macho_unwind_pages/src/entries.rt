@@ -40,7 +40,7 @@ pub struct ResolvedUnwindInfo {
 }
 
 /// Why entries have no unwind section.
-#[derive(Clone, Copy, Debug, PartialEq, Eq, Drop)]
+#[derive(Clone, Copy, PartialEq, Eq, Drop)]
 pub enum UnwindFault {
     /// There are more than three personality functions.
     TooManyPersonalities,

@@ -23,7 +23,7 @@ pub struct Page {
 }
 
 /// The language-specific data of a function.
-#[derive(Clone, Copy, PartialEq, Eq)]
+#[derive(Clone, Copy)]
 pub struct Lsda {
     /// The offset of the function.
     pub function: u32,
