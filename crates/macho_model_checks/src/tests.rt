@@ -120,3 +120,48 @@ fn memory_has_words_made_anew_and_bytes_of_the_file(rt: HostRuntime) {
     assert_eq!(rt; memory_byte(&image, 0, &[], 0x1_0000_4010), Some(0x38));
     assert_eq!(rt; segment_byte(&image, 0x1_0000_4010), Some(0x38));
 }
+
+/// Changes of the chained image by which its import has an addend of its own, -8: format 2, an entry of eight bytes, and the names
+/// and the end of the table four bytes further on.
+const WITH_ADDEND: [(usize, u8); 14] = [
+    (316, 87),
+    (332, 80),
+    (340, 2),
+    (396, 0xf8),
+    (397, 0xff),
+    (398, 0xff),
+    (399, 0xff),
+    (400, 0),
+    (401, b'_'),
+    (402, b'e'),
+    (403, b'x'),
+    (404, b'i'),
+    (405, b't'),
+    (406, 0),
+];
+
+/// The first byte from 0x100014018 on that isn't one of the import's address less 8 plus 5, 0x17ffffffd; 8 where there is none.
+fn first_other_byte() -> u64 {
+    let mut image = chained_image();
+    for (at, byte) in WITH_ADDEND {
+        if let Some(changed) = image.get_mut(at) {
+            *changed = byte;
+        }
+    }
+    if first_broken_rule(&image).is_err() {
+        return 9;
+    }
+    let wanted = 0x1_7fff_fffdu64.to_le_bytes();
+    for k in 0..8u64 {
+        let byte = memory_byte(&image, 0x1_0000, &[0x1_8000_0000], 0x1_0001_4018 + k);
+        if byte != Some(wanted[k as usize]) {
+            return k;
+        }
+    }
+    8
+}
+
+#[test]
+fn addends_of_an_entry_and_of_a_word_add_up(rt: HostRuntime) {
+    assert_eq!(rt; first_other_byte(), 8);
+}

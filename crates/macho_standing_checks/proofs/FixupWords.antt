@@ -1,6 +1,6 @@
 -- The words of fixups as bytes, by hand from the bit fields of `mach-o/fixup-chains.h`, and which numbers have one: so answer
 -- `write_rebase_encoding` and `write_bind_encoding` of macho_fixups.
-use Rattle.std.proofs.Common.{◌≡◌, ℕ, ◌^◌, true, false, [], ◌∷◌, refl}
+use Rattle.std.proofs.Common.{◌≡◌, ◌^◌, true, false, [], ◌∷◌, refl}
 use Rattle.macho_bytes.specs.Numbers.{le_bytes}
 use Rattle.macho_fixups.specs.Words.{word_of, has_word}
 use Rattle.macho_fixups.specs.declared.words.FixupKind.TheVariants.{Rebase, Bind}
