@@ -45,6 +45,7 @@ fn bytes_of_library(alloc: Global, is_stub: bool, text: &str) -> Result<Vec<u8>,
 
 // Adds bytes so many times.
 fn add_times(bytes: &mut Vec<u8>, once: &[u8], count: usize) -> Result<(), AllocError> {
+    bytes.reserve(once.len().saturating_mul(count))?;
     for _turn in 0..count {
         bytes.extend_from_slice(once)?;
     }
