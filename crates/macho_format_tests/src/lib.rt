@@ -1,9 +1,12 @@
-//! Tests of what only a caller of a library sees, a module for each subject: look-up in broken bytes, and answers that the linker never
-//! asks for. Callers of the laws of tries, of unwind information, of relocated fields and of the model.
+//! Tests of what only a caller of a library sees, a module for each subject: look-up in broken bytes, answers that the linker never asks
+//! for, tries and unwind sections of a caller's own, and words of fixups. Callers of the laws of tries, of unwind information, of relocated
+//! fields and of the model.
 #![tactic(auto)]
 
 #[cfg(test)]
 mod field_laws;
+#[cfg(test)]
+mod fixups;
 #[cfg(test)]
 mod laws;
 #[cfg(test)]
@@ -19,4 +22,8 @@ mod rooms;
 #[cfg(test)]
 mod trie_look_ups;
 #[cfg(test)]
+mod tries;
+#[cfg(test)]
 mod unwind_look_ups;
+#[cfg(test)]
+mod unwind_sections;

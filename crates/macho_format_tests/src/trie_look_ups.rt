@@ -2,7 +2,7 @@
 use macho_trie::{Export, trie_lookup};
 
 /// `_foobar` is 1, `_foo` 2, `_fop` 3.
-const THREE: [u8; 32] = [
+pub(crate) const THREE: [u8; 32] = [
     0, 1, 0x5f, 0x66, 0x6f, 0, 7, // 0: one edge, `_fo` to 7
     0, 2, 0x6f, 0, 15, 0x70, 0, 28, // 7: two edges, `o` to 15 and `p` to 28
     2, 0, 2, 1, 0x62, 0x61, 0x72, 0, 24, // 15: value 2, one edge, `bar` to 24
@@ -11,7 +11,7 @@ const THREE: [u8; 32] = [
 ];
 
 /// `_exit` is a name of library 1, `_main` is at 0x218.
-const REEXPORT: [u8; 29] = [
+pub(crate) const REEXPORT: [u8; 29] = [
     0, 1, 0x5f, 0, 5, // 0: one edge, `_` to 5
     0, 2, 0x65, 0x78, 0x69, 0x74, 0, 19, 0x6d, 0x61, 0x69, 0x6e, 0, 24, // 5: `exit` to 19, `main` to 24
     3, 8, 1, 0, 0, // 19: flags 8, ordinal 1, the empty name
@@ -20,7 +20,7 @@ const REEXPORT: [u8; 29] = [
 
 /// What a look-up finds, in numbers: 1, flags and address; or 2, flags and ordinal of a name that the library has too, and 3 for
 /// one that it has under another name; or zeros for nothing.
-fn found(bytes: &[u8], name: &[u8]) -> [u64; 3] {
+pub(crate) fn found(bytes: &[u8], name: &[u8]) -> [u64; 3] {
     match trie_lookup(bytes, name) {
         None => [0; 3],
         Some(Export::Value { flags, address }) => [1, flags, address],

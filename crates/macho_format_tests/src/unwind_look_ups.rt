@@ -9,6 +9,11 @@ const ONE: [u8; 72] = [
     0, 12, 0, 1, 0, 16, 0, 0, 0, 0, 0, 0, 0,
 ];
 
+/// Its bytes.
+pub(crate) fn one_function() -> &'static [u8] {
+    &ONE
+}
+
 /// The same without its last byte.
 const SHORT: [u8; 71] = [
     1, 0, 0, 0, 28, 0, 0, 0, 1, 0, 0, 0, 32, 0, 0, 0, 0, 0, 0, 0, 32, 0, 0, 0, 2, 0, 0, 0, 0, 0, 0,
