@@ -9,12 +9,19 @@ const ONE: [u8; 72] = [
     0, 12, 0, 1, 0, 16, 0, 0, 0, 0, 0, 0, 0,
 ];
 
-/// Its bytes.
+/// That of two instructions behind a head of 0x230 bytes, as a linked image has it.
+const LINKED: [u8; 72] = [
+    1, 0, 0, 0, 28, 0, 0, 0, 1, 0, 0, 0, 32, 0, 0, 0, 0, 0, 0, 0, 32, 0, 0, 0, 2, 0, 0, 0, 0, 0, 0,
+    2, 0x30, 2, 0, 0, 56, 0, 0, 0, 56, 0, 0, 0, 0x38, 2, 0, 0, 0, 0, 0, 0, 56, 0, 0, 0, 3, 0, 0, 0,
+    12, 0, 1, 0, 16, 0, 0, 0, 0, 0, 0, 0,
+];
+
+/// The bytes of the first.
 pub(crate) fn one_function() -> &'static [u8] {
     &ONE
 }
 
-/// The same without its last byte.
+/// The first without its last byte.
 const SHORT: [u8; 71] = [
     1, 0, 0, 0, 28, 0, 0, 0, 1, 0, 0, 0, 32, 0, 0, 0, 0, 0, 0, 0, 32, 0, 0, 0, 2, 0, 0, 0, 0, 0, 0,
     2, 0, 0x10, 0, 0, 56, 0, 0, 0, 56, 0, 0, 0, 0x20, 0x10, 0, 0, 0, 0, 0, 0, 56, 0, 0, 0, 3, 0, 0,
@@ -24,11 +31,15 @@ const SHORT: [u8; 71] = [
 /// What a row says, a section, an offset, and the start and encoding of the function there; zeros where there is none.
 type Row = (&'static str, &'static [u8], u32, [u32; 2]);
 
-static ROWS: [Row; 8] = [
+static ROWS: [Row; 12] = [
     ("in front of the function", &ONE, 0x0fff, [0; 2]),
     ("its first byte", &ONE, 0x1000, [0x1000, 0x0200_0000]),
     ("its last byte", &ONE, 0x101f, [0x1000, 0x0200_0000]),
     ("behind it", &ONE, 0x1020, [0; 2]),
+    ("in front of two instructions", &LINKED, 0x22f, [0; 2]),
+    ("the first of them", &LINKED, 0x230, [0x230, 0x0200_0000]),
+    ("their last byte", &LINKED, 0x237, [0x230, 0x0200_0000]),
+    ("behind them", &LINKED, 0x238, [0; 2]),
     ("a section that is cut", &SHORT, 0x1000, [0; 2]),
     ("fewer bytes than a header", &[0; 27], 0, [0; 2]),
     ("tables behind the end", &[0xff; 72], 0, [0; 2]),
