@@ -1,9 +1,11 @@
-//! The devices: files and streams of the system, and in memory what no run shows, where several calls fail one after the other.
+//! The devices: files and streams of the system, and in memory what no run shows: several calls that fail one after the other, and
+//! devices that never fail.
 
 use Step::{Fails, Folder, Leads, NoFolder, Shows, Takes};
 use macho_args::Paths;
 use macho_devices::{
-    FileFault, Files, MemoryFiles, MemorySink, RealFiles, RealSink, Sink, SinkFault,
+    FileFault, Files, MemoryFiles, MemorySink, RealFiles, RealSink, Sink, SinkFault, SteadyFiles,
+    SteadySink,
 };
 use std::alloc::{AllocError, Global};
 use std::io::Write;
@@ -129,6 +131,39 @@ fn files_in_memory_fail_as_they_are_told(rt: HostRuntime) -> Result<(), Fail> {
     Ok(())
 }
 
+// Adds a directory, a link and a file.
+fn fill_steady(files: &mut SteadyFiles, alloc: Global) -> Result<(), AllocError> {
+    files.add_dir("lib")?;
+    files.add_canonical("b", "/work/b")?;
+    files.add_file("a", b"one".to_vec(alloc)?)
+}
+
+// How many steps pass over files that never fail.
+fn passed_steady(alloc: Global) -> Result<usize, AllocError> {
+    let mut files = SteadyFiles::new(alloc);
+    fill_steady(&mut files, alloc)?;
+    passed(&mut files, alloc, "", steady())
+}
+
+fn steady() -> &'static [(Step, &'static str, &'static str)] {
+    &STEADY
+}
+
+const STEADY: [(Step, &str, &str); 6] = [
+    (Folder, "lib", ""),
+    (Leads, "b", "/work/b"),
+    (Shows, "a", "one"),
+    (Takes, "a", "two"),
+    (Shows, "a", "two"),
+    (Shows, "b", "-"),
+];
+
+#[test]
+fn steady_files_hold_what_is_added(rt: HostRuntime) -> Result<(), Fail> {
+    assert_eq!(rt; passed_steady(rt.alloc())?, 6);
+    Ok(())
+}
+
 /// A file that is written, and written once more; one that isn't there; one below a file, which can't be written.
 const OWN: [(Step, &str, &str); 9] = [
     (Takes, "", "image"),
@@ -201,6 +236,10 @@ fn is_room_kept(alloc: Global) -> Result<bool, AllocError> {
     Ok(printed(&mut sink, &ROOM) == 4 && sink.bytes() == b"abcg".as_slice())
 }
 
+fn does_steady_sink_print() -> bool {
+    printed(&mut SteadySink::new(), &[(b"abc", true)]) == 1
+}
+
 // A stream that takes two bytes a call, then nothing, then two once more, and then fails.
 #[derive(Drop)]
 struct Slow {
@@ -233,6 +272,7 @@ fn does_real_sink_go_on() -> bool {
 
 #[test]
 fn sinks_take_and_fail_as_they_are_told(rt: HostRuntime) -> Result<(), Fail> {
+    assert!(rt; does_steady_sink_print());
     assert!(rt; is_room_kept(rt.alloc())?);
     assert!(rt; does_real_sink_go_on());
     Ok(())
