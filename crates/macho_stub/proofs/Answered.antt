@@ -1,7 +1,7 @@
 -- The answer is the one that the grammar and the rules have: reading finds what is there, and nothing else.
 -- The reading of a text gives the documents that the grammar has of it (`Trees`, `Found`, `Only`), and the library that is
 -- computed of documents is the one that they make by the rules (`Ruling`, `Gathered`); so the answer is a library exactly
--- where the text makes it. A fault is that of a rule, told of the documents (`Told`, `ToldBack`), or the text breaks off
+-- where the text makes it. A fault is that of a rule, told of the documents (`Ruling`), or the text breaks off
 -- (`Stops`), and only one thing is told of a text (`OneEnd`). Last, all this is said of a result that gives the answer.
 use Rattle.std.proofs.Common.{◌≡◌, ℕ, List, Result, Ok, Err, refl, sym, ap, ◌∙◌, inl, inr, subst}
 use Rattle.std.specs.Prelude.{IfOk, IfErr}
@@ -15,18 +15,14 @@ use Rattle.macho_stub.specs.Answer.{IsStub, IsToldOfText}
 use Rattle.macho_stub.specs.steps.Answer.{answer_of}
 use Rattle.macho_stub_lines.specs.declared.fault.StubRule.{StubRule}
 use Rattle.macho_stub_lines.proofs.Bind.{bind_ok, no_ok, same_ok}
-use Rattle.macho_stub.proofs.Ruling.{bind_err, library_made, library_back}
-use Rattle.macho_stub.proofs.Told.{library_told}
-use Rattle.macho_stub.proofs.ToldBack.{told_back}
+use Rattle.macho_stub.proofs.Ruling.{bind_err, library_made, library_back, library_told, told_back}
 use Rattle.macho_stub.proofs.One.{no_break}
 use Rattle.macho_stub.proofs.OneEnd.{one_break}
 use Rattle.macho_stub_lines.specs.Slices.{Slice}
-use Rattle.macho_stub.specs.Rules.{IsTold}
-use Rattle.macho_stub.proofs.TextRules.{MakesOfTexts}
+use Rattle.macho_stub.specs.Rules.{MakesLibrary, IsTold}
 use Rattle.macho_stub.specs.Documents.{DocumentOf, DocumentFields, documents_texts}
 use Rattle.macho_stub.specs.Grammar.{IsStubText}
 use Rattle.macho_stub.proofs.Trees.{to_read, of_read}
-use Rattle.macho_stub.proofs.Gathered.{of_texts, texts_make}
 use Rattle.macho_stub.proofs.Stops.{breaks_off}
 use Rattle.macho_stub.proofs.Found.{documents_found}
 use Rattle.macho_stub.proofs.Only.{documents_read}
@@ -42,14 +38,14 @@ unfolding answer_of
 answer_found text library e =
     let b = bind_ok (documents_of text) library_of library e in
     let g = of_read text b.0 (documents_found text b.0 b.1) in
-    let M : List DocumentFields → Type 0 = λ d. MakesOfTexts d library in
-    record { says = g.0; in_grammar = g.1; makes = of_texts g.0 library (subst M (sym g.2) (library_made b.0 library b.2)) }
+    let M : List DocumentFields → Type 0 = λ d. MakesLibrary d library in
+    record { says = g.0; in_grammar = g.1; makes = subst M (sym g.2) (library_made b.0 library b.2) }
 
 -- and the library that a text makes is answered
 pub answer_only : (text : List ℕ) (library : LibraryFields) → IsStub text library → answer_of text ≡ Ok library
 unfolding answer_of
 answer_only text library is = ap (λ reading. reading >>= library_of) (in_grammar_read text is.says is.in_grammar)
-    ∙ library_back (documents_texts is.says) library (texts_make is.says library is.makes)
+    ∙ library_back (documents_texts is.says) library is.makes
 
 -- A rule that is answered is the one that is told of the text.
 pub answer_told : (text : List ℕ) (line : ℕ) (rule : StubRule) → answer_of text ≡ broken line rule → IsToldOfText text (Rule line rule)

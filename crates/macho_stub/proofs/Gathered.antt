@@ -1,92 +1,47 @@
--- The symbols are gathered alike of slices and of their texts, so documents in slices make the library that their texts
--- make.
--- Whether an item is for the target is a test of the texts of its targets alone, and gathering puts lists in a row; so the
--- texts of what is gathered are what is gathered of the texts, by item, by document and for all documents (`gathers`). The
--- rules speak of texts alone. So what the texts make, the slices make (`of_texts`), and the other way round.
-use Rattle.std.proofs.Common.{◌≡◌, ℕ, Bool, true, false, cond, List, [], ◌∷◌, ◌++◌, map, refl, sym, ap, ◌∙◌, subst}
-use Rattle.std.proofs.lemmas.List.{map-append}
-use Rattle.std.specs.List.{flat_map, AllByRecursion}
-use Rattle.macho_stub_lines.specs.Slices.{Slice, texts_of}
-use Rattle.macho_stub.specs.Documents.{ItemOf, DocumentOf, DocumentFields, item_texts, document_texts, documents_texts}
-use Rattle.macho_stub.specs.Library.{LibraryFields, has_target, picked, picked_for_target, picked_of_document, gathered}
-use Rattle.macho_stub.specs.steps.Checks.{texts_for_target, texts_of_document, gathered_texts}
-use Rattle.macho_stub.specs.Rules.{IsSoundMain, IsSoundDocument, MakesLibrary}
-use Rattle.macho_stub.proofs.TextRules.{MakesOfTexts}
+-- The symbols as the code gathers them are those that the definition gathers: item by item, where the item is for the target,
+-- or of all items that are for it.
+use Rattle.std.proofs.Common.{◌≡◌, ℕ, Bool, true, false, cond, List, [], ◌∷◌, ◌++◌, refl, sym, ap, ◌∙◌}
+use Rattle.std.proofs.lemmas.Grind.{flat_map-append}
+use Rattle.std.proofs.lemmas.List.Elements.{filter-append}
+use Rattle.std.specs.List.{flat_map, filter}
+use Rattle.macho_stub.specs.Documents.{ItemFields, DocumentFields}
+use Rattle.macho_stub.specs.Library.{has_target, gathered}
+use Rattle.macho_stub.specs.steps.Checks.{picked, texts_for_target, texts_of_document, gathered_texts}
 
--- ---- texts
+-- an item is for the target
+abbrev pub is_wanted : ItemFields → Bool
+is_wanted item = has_target item.targets
 
-abbrev slice_text : Slice → List ℕ
-slice_text slice = slice.text
-
-picked_texts : (weak : Bool) (item : ItemOf Slice) → texts_of (picked_for_target weak item) ≡ texts_for_target weak (item_texts item)
-picked_texts weak item = by_target weak (has_target (texts_of item.targets))
+items_gather : (weak : Bool) (items : List ItemFields) → flat_map (texts_for_target weak) items
+    ≡ flat_map (picked weak) (filter is_wanted items)
+items_gather weak [] = refl
+items_gather weak (item ∷ items) =
+    by (is_wanted item) (flat_map (texts_for_target weak) items) (filter is_wanted items) (items_gather weak items)
   where
-    by_target : (weak b : Bool) → texts_of (cond b (picked weak item) []) ≡ cond b (picked weak (item_texts item)) []
-    by_target false true = refl
-    by_target true true = refl
-    by_target weak false = refl
+    by : (b : Bool) (rest : List (List ℕ)) (others : List ItemFields) → rest ≡ flat_map (picked weak) others
+        → cond b (picked weak item) [] ++ rest ≡ flat_map (picked weak) (cond b (item ∷ others) others)
+    by true rest others e = ap (λ (all : List (List ℕ)). picked weak item ++ all) e
+    by false rest others e = e
 
-items_texts : (weak : Bool) (items : List (ItemOf Slice)) → texts_of (flat_map (picked_for_target weak) items)
-    ≡ flat_map (texts_for_target weak) (map item_texts items)
-items_texts weak [] = refl
-items_texts weak (item ∷ items) = map-append slice_text (picked_for_target weak item) (flat_map (picked_for_target weak) items)
-    ∙ ap (λ (front : List (List ℕ)). front ++ texts_of (flat_map (picked_for_target weak) items)) (picked_texts weak item)
-    ∙ ap (λ (rest : List (List ℕ)). texts_for_target weak (item_texts item) ++ rest) (items_texts weak items)
-
-document_gathers : (weak : Bool) (document : DocumentOf Slice) → texts_of (picked_of_document weak document)
-    ≡ texts_of_document weak (document_texts document)
+document_gathers : (weak : Bool) (document : DocumentFields) → texts_of_document weak document
+    ≡ flat_map (picked weak) (filter is_wanted (document.exports ++ document.reexports))
 document_gathers weak document =
-    map-append slice_text (flat_map (picked_for_target weak) document.exports) (flat_map (picked_for_target weak) document.reexports)
-    ∙ ap (λ (front : List (List ℕ)). front ++ texts_of (flat_map (picked_for_target weak) document.reexports))
-    (items_texts weak document.exports)
-    ∙ ap (λ (rest : List (List ℕ)). flat_map (texts_for_target weak) (map item_texts document.exports) ++ rest)
-    (items_texts weak document.reexports)
+    ap (λ (front : List (List ℕ)). front ++ flat_map (texts_for_target weak) document.reexports) (items_gather weak document.exports)
+    ∙ ap (λ (rest : List (List ℕ)). flat_map (picked weak) (filter is_wanted document.exports) ++ rest)
+    (items_gather weak document.reexports)
+    ∙ sym (flat_map-append (picked weak) (filter is_wanted document.exports) (filter is_wanted document.reexports))
+    ∙ ap (flat_map (picked weak)) (sym (filter-append is_wanted document.exports document.reexports))
 
-gathers : (weak : Bool) (documents : List (DocumentOf Slice)) → texts_of (gathered weak documents)
-    ≡ gathered_texts weak (documents_texts documents)
+all_gather : (weak : Bool) (documents : List DocumentFields) → gathered_texts weak documents ≡ gathered (picked weak) documents
 unfolding gathered_texts
-gathers weak [] = refl
-gathers weak (document ∷ documents) = map-append slice_text (picked_of_document weak document) (gathered weak documents)
-    ∙ ap (λ (front : List (List ℕ)). front ++ texts_of (gathered weak documents)) (document_gathers weak document)
-    ∙ ap (λ (rest : List (List ℕ)). texts_of_document weak (document_texts document) ++ rest) (gathers weak documents)
+all_gather weak [] = refl
+all_gather weak (document ∷ documents) =
+    ap (λ (front : List (List ℕ)). front ++ flat_map (texts_of_document weak) documents) (document_gathers weak document)
+    ∙ ap (λ (rest : List (List ℕ)). flat_map (picked weak) (filter is_wanted (document.exports ++ document.reexports)) ++ rest)
+    (all_gather weak documents)
 
--- ---- the library
+pub gathers : (documents : List DocumentFields) → gathered_texts false documents ≡ gathered (λ item. item.names) documents
+gathers documents = all_gather false documents
 
--- what texts make, their slices make
-pub of_texts : (documents : List (DocumentOf Slice)) (library : LibraryFields) → MakesOfTexts (documents_texts documents) library
-    → MakesLibrary documents library
-of_texts [] library m = absurd (cc_none m.first)
-  where
-    cc_none : {x : DocumentFields} {xs : List DocumentFields} → [] ≡ x ∷ xs → ⊥
-    cc_none e = cc
-of_texts (main ∷ others) library m =
-    let here : document_texts main ≡ m.main = first_is m.first in
-    record {
-      main = main;
-      others = others;
-      first = refl;
-      sound = subst IsSoundMain (sym here) m.sound;
-      each = subst (λ d. AllByRecursion (IsSoundDocument d) (documents_texts (main ∷ others))) (sym here) m.each;
-      install_name = m.install_name ∙ ap (λ (d : DocumentFields). d.install_name) (sym here);
-      current_version = m.current_version ∙ ap (λ (d : DocumentFields). d.current_version) (sym here);
-      symbols = m.symbols ∙ sym (gathers false (main ∷ others));
-      weak_symbols = m.weak_symbols ∙ sym (gathers true (main ∷ others));
-    }
-  where
-    first_is : {x y : DocumentFields} {xs ys : List DocumentFields} → x ∷ xs ≡ y ∷ ys → x ≡ y
-    first_is e = cc
-
--- and the other way round
-pub texts_make : (documents : List (DocumentOf Slice)) (library : LibraryFields) → MakesLibrary documents library
-    → MakesOfTexts (documents_texts documents) library
-texts_make documents library m = record {
-  main = document_texts m.main;
-  others = documents_texts m.others;
-  first = ap documents_texts m.first;
-  sound = m.sound;
-  each = m.each;
-  install_name = m.install_name;
-  current_version = m.current_version;
-  symbols = m.symbols ∙ gathers false documents;
-  weak_symbols = m.weak_symbols ∙ gathers true documents;
-}
+pub weak_gathers : (documents : List DocumentFields) → gathered_texts true documents ≡ gathered (λ item. item.weak_names) documents
+weak_gathers documents = all_gather true documents

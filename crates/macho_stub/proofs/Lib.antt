@@ -1,5 +1,6 @@
 pub mod Answered
 pub mod Branches
+pub mod ByKeys
 pub mod Causes
 pub mod Dashes
 pub mod Elsewhere
@@ -19,6 +20,7 @@ pub mod Kept
 pub mod KeptLines
 pub mod Keyed
 pub mod Lacking
+pub mod Lasts
 pub mod Listed
 pub mod Mappings
 pub mod MappingsFields
@@ -50,9 +52,6 @@ pub mod Since
 pub mod Spelled
 pub mod Steps
 pub mod Stops
-pub mod TextRules
-pub mod Told
-pub mod ToldBack
 pub mod TreeTexts
 pub mod Trees
 pub mod TreesFound
@@ -61,6 +60,7 @@ pub mod TreesRead
 pub mod TreesStand
 pub mod Twice
 pub mod TwiceKeys
+pub mod Unders
 pub mod Walk
 pub mod Whys
 pub mod NoNuls

@@ -15,7 +15,10 @@ use Rattle.macho_stub_lines.specs.Spelling.{value_of, value_at}
 use Rattle.macho_stub_lines.specs.Keys.{top_key}
 use Rattle.macho_stub.specs.Documents.{ItemOf, DocumentOf}
 use Rattle.macho_stub.specs.steps.Opened.{OpenDocumentOf, head_at, with_items}
-use Rattle.macho_stub.specs.Grammar.{Under, Lines, Listed, IsSkippedUnder, AreItemsUnder, TopEntry, SaysNumber, SaysScalar, SaysList, SaysItems, IsTopValue, IsTopEntry, DocumentTree, no_text, IsDocument}
+use Rattle.macho_stub.specs.Grammar.{no_text}
+use Rattle.macho_stub.specs.steps.Trees.{Under, Lines, Listed, IsSkippedUnder, AreItemsUnder, TopEntry, SaysNumber, SaysScalar, SaysList, SaysItems, DocumentTree}
+use Rattle.macho_stub.specs.steps.Trees as grammar
+use Rattle.macho_stub.proofs.ByKeys.{IsTopValue, IsTopEntry, IsDocument, document_by_keys, document_of_keys}
 use Rattle.macho_stub.proofs.Folded as folded
 use Rattle.macho_stub.proofs.MappingsFields.{Mapping, HasKey, Step, Steps, Agree, none_of, gives, gives_or, once, steps_keep, known, known_given, known_or, known_keep, agree, agree_or, steps}
 use Rattle.macho_stub.proofs.MappingsItems.{items_fold, items_unfold}
@@ -254,17 +257,17 @@ document_fold tree says d =
     empty line key = refl
 
 -- what is in the grammar is read entry by entry
-pub documents_fold : (trees : List DocumentTree) (says : List (DocumentOf Slice)) → AllZip IsDocument trees says
+pub documents_fold : (trees : List DocumentTree) (says : List (DocumentOf Slice)) → AllZip grammar.IsDocument trees says
     → folded.AreDocuments trees says
 documents_fold [] [] a = tt
 documents_fold [] (one ∷ says) a = a
 documents_fold (tree ∷ trees) [] a = a
-documents_fold (tree ∷ trees) (one ∷ says) a = (document_fold tree one a.0, documents_fold trees says a.1)
+documents_fold (tree ∷ trees) (one ∷ says) a = (document_fold tree one (document_by_keys tree one a.0), documents_fold trees says a.1)
 
 -- and what is read so is in the grammar
 pub documents_unfold : (trees : List DocumentTree) (says : List (DocumentOf Slice)) → folded.AreDocuments trees says
-    → AllZip IsDocument trees says
+    → AllZip grammar.IsDocument trees says
 documents_unfold [] [] a = tt
 documents_unfold [] (one ∷ says) a = a
 documents_unfold (tree ∷ trees) [] a = a
-documents_unfold (tree ∷ trees) (one ∷ says) a = (document_unfold tree one a.0, documents_unfold trees says a.1)
+documents_unfold (tree ∷ trees) (one ∷ says) a = (document_of_keys tree one (document_unfold tree one a.0), documents_unfold trees says a.1)

@@ -7,8 +7,23 @@
 use Rattle.std.proofs.Common.{◌≡◌, List, [], ◌∷◌, Option, Some, None, refl, sym, ap, ◌∙◌, ◌⊎◌, inl, inr, subst}
 use Rattle.std.specs.Prelude.{false, is_some, unwrap_or}
 use Rattle.std.specs.List.{AllByRecursion}
-use Rattle.macho_stub.specs.Grammar.{Given, GivenOr, NoneTwice}
 use Rattle.macho_stub_lines.proofs.Runs.{all_weaker}
+
+-- one of the entries has the key, and says this
+abbrev pub Given : {E X : Type 0} → (E → Type 0) → (E → X → Type 0) → List E → X → Type 0
+Given has_key says [] x = ⊥
+Given has_key says (one ∷ others) x = (has_key one × says one x) ⊎ Given has_key says others x
+
+-- the same, or no entry has the key, and this is what is said then
+abbrev pub GivenOr : {E X : Type 0} → X → (E → Type 0) → (E → X → Type 0) → List E → X → Type 0
+GivenOr otherwise has_key says entries x =
+    Given has_key says entries x ⊎ (AllByRecursion (λ one. has_key one → ⊥) entries × (x ≡ otherwise))
+
+-- no two entries have the same key, but for keys that aren't read
+abbrev pub NoneTwice : {E K : Type 0} → K → (E → K) → List E → Type 0
+NoneTwice unread key_of [] = Unit {0}
+NoneTwice unread key_of (one ∷ others) =
+    AllByRecursion (λ other. key_of one ≡ key_of other → key_of one ≡ unread) others × NoneTwice unread key_of others
 
 -- Entries with keys, what an entry says under a key, and a state with a field for each key that is read.
 pub record Mapping : Type 1 where
@@ -49,7 +64,7 @@ Steps m [] old new = new ≡ old
 Steps m (one ∷ others) old new = (mid : m.State) × Step m (m.key_of one) one old mid × Steps m others mid new
 
 -- what holds of all holds of each element
-every : {A : Type 0} (P : A → Type 0) → ((a : A) → P a) → (xs : List A) → AllByRecursion P xs
+pub every : {A : Type 0} (P : A → Type 0) → ((a : A) → P a) → (xs : List A) → AllByRecursion P xs
 every P p [] = tt
 every P p (x ∷ xs) = (p x, every P p xs)
 

@@ -16,9 +16,12 @@ use Rattle.macho_stub_lines.specs.Spelling.{value_of}
 use Rattle.macho_stub_lines.specs.Keys.{item_key}
 use Rattle.macho_stub.specs.Documents.{ItemOf}
 use Rattle.macho_stub.specs.steps.Opened.{OpenItemOf, no_item, with_key}
-use Rattle.macho_stub.specs.Grammar.{NoneTwice, IsSkipped, ItemEntry, item_value_at, is_deeper, SaysNames, IsItemValue, IsItemEntry, ItemTree, column_of, entries_of, AreNames, IsItem}
+use Rattle.macho_stub.specs.Grammar.{SaysNames, ItemTree, column_of, entries_of}
+use Rattle.macho_stub.specs.steps.Trees.{IsSkipped, ItemEntry, item_value_at, is_deeper}
+use Rattle.macho_stub.specs.steps.Trees as grammar
+use Rattle.macho_stub.proofs.ByKeys.{IsItemValue, IsItemEntry, AreNames, IsItem, item_by_keys, item_of_keys}
 use Rattle.macho_stub.proofs.Folded as folded
-use Rattle.macho_stub.proofs.MappingsFields.{Mapping, HasKey, Step, Steps, Agree, none_of, gives, gives_or, once, known, known_given, known_or, agree, agree_or, steps}
+use Rattle.macho_stub.proofs.MappingsFields.{NoneTwice, Mapping, HasKey, Step, Steps, Agree, none_of, gives, gives_or, once, known, known_given, known_or, agree, agree_or, steps}
 use Rattle.macho_stub_lines.proofs.Runs.{all_weaker}
 
 -- ---- the fields of an item
@@ -208,22 +211,22 @@ item_fold kind dash_column tree says i =
 
 -- items of the grammar are read entry by entry
 pub items_fold : (kind : ItemKind) (dash_column : ℕ) (trees : List ItemTree) (says : List (ItemOf Slice))
-    → AllZip (IsItem kind dash_column) trees says → folded.AreItems kind dash_column trees says
+    → AllZip (grammar.IsItem kind dash_column) trees says → folded.AreItems kind dash_column trees says
 items_fold kind dash_column [] [] a = tt
 items_fold kind dash_column [] (one ∷ says) a = a
 items_fold kind dash_column (tree ∷ trees) [] a = a
 items_fold kind dash_column (tree ∷ trees) (one ∷ says) a = (
-  item_fold kind dash_column tree one a.0,
+  item_fold kind dash_column tree one (item_by_keys kind dash_column tree one a.0),
   items_fold kind dash_column trees says a.1,
 )
 
 -- and what is read so are items of the grammar
 pub items_unfold : (kind : ItemKind) (dash_column : ℕ) (trees : List ItemTree) (says : List (ItemOf Slice))
-    → folded.AreItems kind dash_column trees says → AllZip (IsItem kind dash_column) trees says
+    → folded.AreItems kind dash_column trees says → AllZip (grammar.IsItem kind dash_column) trees says
 items_unfold kind dash_column [] [] a = tt
 items_unfold kind dash_column [] (one ∷ says) a = a
 items_unfold kind dash_column (tree ∷ trees) [] a = a
 items_unfold kind dash_column (tree ∷ trees) (one ∷ says) a = (
-  item_unfold kind dash_column tree one a.0,
+  item_of_keys kind dash_column tree one (item_unfold kind dash_column tree one a.0),
   items_unfold kind dash_column trees says a.1,
 )

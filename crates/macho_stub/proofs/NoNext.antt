@@ -18,7 +18,8 @@ use Rattle.macho_stub_lines.specs.Keys.{entry_at, item_key}
 use Rattle.macho_stub.specs.Documents.{DocumentFields}
 use Rattle.macho_stub.specs.steps.Opened.{OpenDocumentFields, OpenItemFields, has_key, with_key}
 use Rattle.macho_stub.specs.steps.Reader.{ItemListFields, Keys, StateFields, stays, names_line, names_value, skipped_value, item_key_line, within, item_line, line_step}
-use Rattle.macho_stub.specs.Order.{MayStand, LacksInItem, IsNeeded, IsNextItem, unread_key, unread_item, in_column}
+use Rattle.macho_stub.proofs.PutIn.{IsNeeded}
+use Rattle.macho_stub.specs.Order.{MayStand, LacksInItem, IsNextItem, unread_key, unread_item, in_column}
 use Rattle.macho_stub_lines.proofs.Bind.{not_broken_else, no_ok, same_ok, eq_false, chosen, one_way}
 use Rattle.macho_stub.proofs.OnlyLines.{top_indent, spelled_indent, spelled_rest, DashLine, dash_line}
 use Rattle.macho_stub.proofs.Joined.{IsLine, spaces_line}

@@ -3,9 +3,11 @@
 -- No line of a text in the grammar has a byte that is barred, and NUL is one. The lines are the parts between line feeds,
 -- but for a carriage return at their ends, so no part holds a NUL, and the whole text is the parts and the line feeds. What
 -- the documents say are slices of the text, so no slice holds one; and what the library has are texts of these slices.
-use Rattle.std.proofs.Common.{◌≡◌, ◌≢◌, ℕ, zero, suc, ◌+◌, ◌-◌, ◌<◌, ◌==◌, Bool, true, false, List, [], ◌∷◌, length, take, drop, slice_range, slice_index, get_or, sym, ap, subst, ◌∙◌, arith, inl, inr, if◌then◌else◌, Result, Ok, Err}
+use Rattle.std.proofs.Common.{◌≡◌, ◌≢◌, ℕ, suc, ◌+◌, ◌-◌, ◌<◌, ◌==◌, Bool, true, false, List, [], ◌∷◌, ◌++◌, length, map, cond, take, drop, slice_range, slice_index, get_or, sym, ap, subst, ◌∙◌, arith, inl, inr, Result, Ok, Err}
 use Rattle.std.specs.Prelude.{IfOk}
-use Rattle.std.specs.List.{All, AllByRecursion, flat_map, slice_split, onto_first}
+use Rattle.std.specs.List.{All, AllByRecursion, flat_map, filter, slice_split, onto_first}
+use Rattle.std.proofs.lemmas.List.Elements.{All-from_recursion, filter-append}
+use Rattle.std.proofs.lemmas.Grind.{flat_map-append}
 use Rattle.std.specs.Str.Lines.{strip_carriage_return}
 use Rattle.std.proofs.lemmas.Bool.{cases_Bool, cases_lt, eqb-true}
 use Rattle.std.proofs.lemmas.List.{get_or-take, get_or-drop, get_or_default, length-take, length-drop}
@@ -13,9 +15,11 @@ use Rattle.macho_stub_lines.specs.Bytes.{line_feed, has_barred}
 use Rattle.macho_stub_lines.specs.Slices.{Slice, StandsIn, texts_of, Line, lines_of_parts}
 use Rattle.macho_stub_lines.proofs.Runs.{all_append}
 use Rattle.macho_stub_lines.proofs.NoNuls.{plain_cons, unbarred}
-use Rattle.macho_stub.specs.Documents.{ItemOf, DocumentOf}
+use Rattle.macho_stub.specs.Documents.{ItemOf, ItemFields, DocumentOf, DocumentFields, item_texts, document_texts, documents_texts}
 use Rattle.macho_stub.specs.Grammar.{IsStubText}
-use Rattle.macho_stub.specs.Library.{LibraryFields, has_target, picked, picked_for_target, picked_of_document, gathered}
+use Rattle.macho_stub.specs.Library.{LibraryFields, gathered}
+use Rattle.macho_stub.specs.steps.Checks.{picked}
+use Rattle.macho_stub.proofs.Gathered.{is_wanted}
 use Rattle.macho_stub.specs.Answer.{IsStub, ItemStands, DocumentStands, HasNoNul}
 use Rattle.macho_stub.proofs.TreesStand.{text_stands}
 
@@ -89,57 +93,86 @@ slice_plain text slice plain stands =
         (sym (get_or-take count (drop slice.at text) k d (omega (arith, few, length-take count (drop slice.at text)))
         ∙ get_or-drop slice.at text k d) ∙ is)
 
--- slices, one by one
-abbrev AllStand : List ℕ → List Slice → Type 0
-AllStand text slices = AllByRecursion (StandsIn text) slices
+-- ---- the symbols
 
-texts_plain : (text : List ℕ) (slices : List Slice) → Plain text → AllStand text slices → All Plain (texts_of slices)
-texts_plain text [] plain stand = λ k d lt. absurd (omega arith)
-texts_plain text (slice ∷ slices) plain stand =
-    both (slice_plain text slice plain stand.0) (texts_plain text slices plain stand.1)
+-- what each slice of the text has, their texts have
+abbrev pub HasEach : List ℕ → (List ℕ → Type 0) → Type 0
+HasEach text P = (slice : Slice) → StandsIn text slice → P slice.text
+
+texts_have : (text : List ℕ) (P : List ℕ → Type 0) → HasEach text P → (slices : List Slice) → AllByRecursion (StandsIn text) slices
+    → AllByRecursion P (texts_of slices)
+texts_have text P each [] stand = tt
+texts_have text P each (slice ∷ slices) stand = (each slice stand.0, texts_have text P each slices stand.1)
+
+picked_have : (text : List ℕ) (P : List ℕ → Type 0) → HasEach text P → (weak : Bool) (item : ItemOf Slice) → ItemStands text item
+    → AllByRecursion P (picked weak (item_texts item))
+picked_have text P each false item s = texts_have text P each item.names s.names
+picked_have text P each true item s = texts_have text P each item.weak_names s.weak_names
+
+items_have : (text : List ℕ) (P : List ℕ → Type 0) → HasEach text P → (weak : Bool) (items : List (ItemOf Slice))
+    → AllByRecursion (ItemStands text) items → AllByRecursion P (flat_map (picked weak) (filter is_wanted (map item_texts items)))
+items_have text P each weak [] s = tt
+items_have text P each weak (item ∷ items) s =
+    by (is_wanted (item_texts item)) (filter is_wanted (map item_texts items)) (items_have text P each weak items s.1)
   where
-    both : Plain slice.text → All Plain (texts_of slices) → All Plain (slice.text ∷ texts_of slices)
-    both first rest zero d lt = first
-    both first rest (suc k) d lt = rest k d (omega arith)
+    by : (b : Bool) (others : List ItemFields) → AllByRecursion P (flat_map (picked weak) others)
+        → AllByRecursion P (flat_map (picked weak) (cond b (item_texts item ∷ others) others))
+    by true others all = all_append P (picked weak (item_texts item)) (flat_map (picked weak) others)
+        (picked_have text P each weak item s.0) all
+    by false others all = all
 
--- the symbols that are gathered stand in the text
-item_gathered : (text : List ℕ) (weak : Bool) (item : ItemOf Slice) → ItemStands text item → AllStand text (picked_for_target weak item)
-item_gathered text weak item s = by_target (has_target (texts_of item.targets)) weak
+all_have : (text : List ℕ) (P : List ℕ → Type 0) → HasEach text P → (weak : Bool) (documents : List (DocumentOf Slice))
+    → AllByRecursion (DocumentStands text) documents → AllByRecursion P (gathered (picked weak) (documents_texts documents))
+all_have text P each weak [] s = tt
+all_have text P each weak (document ∷ documents) s =
+    all_append P (flat_map (picked weak) (filter is_wanted (exports ++ reexports)))
+    (gathered (picked weak) (documents_texts documents)) (subst (AllByRecursion P) both parts) (all_have text P each weak documents s.1)
   where
-    by_target : (t weak : Bool) → AllStand text (if t then picked weak item else [])
-    by_target true true = s.weak_names
-    by_target true false = s.names
-    by_target false weak = tt
+    exports : List ItemFields
+    exports = map item_texts document.exports
 
-items_gathered : (text : List ℕ) (weak : Bool) (items : List (ItemOf Slice)) → AllByRecursion (ItemStands text) items
-    → AllStand text (flat_map (picked_for_target weak) items)
-items_gathered text weak [] s = tt
-items_gathered text weak (item ∷ items) s =
-    all_append (StandsIn text) (picked_for_target weak item) (flat_map (picked_for_target weak) items) (item_gathered text weak item s.0)
-    (items_gathered text weak items s.1)
+    reexports : List ItemFields
+    reexports = map item_texts document.reexports
 
-all_gathered : (text : List ℕ) (weak : Bool) (documents : List (DocumentOf Slice)) → AllByRecursion (DocumentStands text) documents
-    → AllStand text (gathered weak documents)
-all_gathered text weak [] s = tt
-all_gathered text weak (document ∷ documents) s =
-    all_append (StandsIn text) (picked_of_document weak document) (flat_map (picked_of_document weak) documents)
-    (all_append (StandsIn text) (flat_map (picked_for_target weak) document.exports) (flat_map (picked_for_target weak) document.reexports)
-    (items_gathered text weak document.exports s.0.exports) (items_gathered text weak document.reexports s.0.reexports))
-    (all_gathered text weak documents s.1)
+    parts : AllByRecursion P (flat_map (picked weak) (filter is_wanted exports) ++ flat_map (picked weak) (filter is_wanted reexports))
+    parts = all_append P (flat_map (picked weak) (filter is_wanted exports)) (flat_map (picked weak) (filter is_wanted reexports))
+        (items_have text P each weak document.exports s.0.exports) (items_have text P each weak document.reexports s.0.reexports)
+
+    both : flat_map (picked weak) (filter is_wanted exports) ++ flat_map (picked weak) (filter is_wanted reexports)
+        ≡ flat_map (picked weak) (filter is_wanted (exports ++ reexports))
+    both = sym (flat_map-append (picked weak) (filter is_wanted exports) (filter is_wanted reexports))
+        ∙ ap (flat_map (picked weak)) (sym (filter-append is_wanted exports reexports))
+
+-- What each slice of a text has, the symbols have that are gathered of its documents.
+pub symbols_have : (text : List ℕ) (P : List ℕ → Type 0) → HasEach text P → (documents : List (DocumentOf Slice))
+    → AllByRecursion (DocumentStands text) documents → All P (gathered (λ item. item.names) (documents_texts documents))
+symbols_have text P each documents s = All-from_recursion P _ (all_have text P each false documents s)
+
+pub weak_symbols_have : (text : List ℕ) (P : List ℕ → Type 0) → HasEach text P → (documents : List (DocumentOf Slice))
+    → AllByRecursion (DocumentStands text) documents → All P (gathered (λ item. item.weak_names) (documents_texts documents))
+weak_symbols_have text P each documents s = All-from_recursion P _ (all_have text P each true documents s)
+
+-- the main library, of documents in slices
+main_stands : (text : List ℕ) (documents : List (DocumentOf Slice)) (main : DocumentFields) (others : List DocumentFields)
+    → documents_texts documents ≡ main ∷ others → AllByRecursion (DocumentStands text) documents
+    → (document : DocumentOf Slice) × DocumentStands text document × (document_texts document ≡ main)
+main_stands text [] main others first s = absurd cc
+main_stands text (document ∷ documents) main others first s = (document, s.0, cc)
 
 -- THE library has no NUL.
 pub library_plain : (text : List ℕ) (library : LibraryFields) → IsStub text library → HasNoNul library
 library_plain text library stub =
     let plain = text_plain text stub.says stub.in_grammar in
     let stand = text_stands text stub.says stub.in_grammar in
-    let main = (subst (AllByRecursion (DocumentStands text)) stub.makes.first stand).0 in
+    let each : HasEach text Plain = λ slice s. slice_plain text slice plain s in
+    let main = main_stands text stub.says stub.makes.main stub.makes.others stub.makes.first stand in
     record {
-      install_name = subst Plain (sym stub.makes.install_name) (slice_plain text stub.makes.main.install_name plain main.install_name);
-      current_version = subst Plain (sym stub.makes.current_version) (slice_plain text stub.makes.main.current_version plain main.current_version);
-      symbols = subst (All Plain) (sym stub.makes.symbols)
-          (texts_plain text (gathered false stub.says) plain (all_gathered text false stub.says stand));
-      weak_symbols = subst (All Plain) (sym stub.makes.weak_symbols)
-          (texts_plain text (gathered true stub.says) plain (all_gathered text true stub.says stand));
+      install_name = subst Plain (ap (λ (d : DocumentFields). d.install_name) main.2 ∙ sym stub.makes.install_name)
+          (each main.0.install_name main.1.install_name);
+      current_version = subst Plain (ap (λ (d : DocumentFields). d.current_version) main.2 ∙ sym stub.makes.current_version)
+          (each main.0.current_version main.1.current_version);
+      symbols = subst (All Plain) (sym stub.makes.symbols) (symbols_have text Plain each stub.says stand);
+      weak_symbols = subst (All Plain) (sym stub.makes.weak_symbols) (weak_symbols_have text Plain each stub.says stand);
     }
 
 -- and so has one that is answered

@@ -1,51 +1,22 @@
 -- What is told of a text is told of it alone: two reasons at lines are the same reason, at the same line. Of two first
 -- lines that may not stand the earlier one would have to stand, since the lines before the later one go on; and at one
 -- place, a line that ends what lacks a key has no second key.
--- One list that is cut in two ways is cut at one place, or one cut lies before the other (`cuts`): so the earlier of
--- two places is among the lines before the later (`stands_before`), and the last head has one number (`one_head`).
+-- Of two places the earlier is among the lines before the later (`cuts`, `stands_before`), and the last head has one number
+-- (`one_last`).
 use Rattle.std.proofs.Common.{◌≡◌, ◌≢◌, ℕ, ◌+◌, List, [], ◌∷◌, ◌++◌, length, Ok, refl, sym, ap, ◌∙◌, inl, inr, subst, append_assoc}
-use Rattle.std.specs.List.{AllByRecursion}
 use Rattle.std.specs.Str.Lines.{lines}
 use Rattle.macho_stub_lines.specs.declared.fault.StubRule.{StubRule}
 use Rattle.macho_stub_lines.specs.declared.fault.StubRule.TheVariants.{S1, S2, S3}
 use Rattle.macho_stub_lines.specs.Bytes.{indent, unspaced, is_passed, is_blank_or_comment, is_key_byte, head, end}
 use Rattle.macho_stub_lines.specs.Keys.{Entry, entry_at}
-use Rattle.macho_stub.specs.Order.{MayBegin, MayStand, EndsWithout, StandsTwice, IsLastHead, IsWhy, StopsAt, StopsAtEnd, BreaksOff, unread_key, in_column}
+use Rattle.macho_stub.specs.Order.{MayBegin, MayStand, EndsWithout, StandsTwice, IsLastLine, IsWhy, StopsAt, StopsAtEnd, BreaksOff, unread_key, in_column}
 use Rattle.macho_stub.specs.Documents.{DocumentOf}
 use Rattle.macho_stub_lines.specs.Slices.{Slice}
 use Rattle.macho_stub.specs.Grammar.{IsStubText}
 use Rattle.macho_stub_lines.proofs.Bind.{no_ok}
 use Rattle.macho_stub.proofs.Outsides.{dash_no_key}
 use Rattle.macho_stub.proofs.TwiceKeys.{said_of, second_key}
-use Rattle.macho_stub_lines.proofs.Runs.{all_behind}
-
--- ---- lists that are cut in two ways
-
--- two cuts of a list: at one place, or one before the other
-pub data Cuts {A : Type 0} (f : List A) (x : A) (p : List A) (g : List A) (y : A) (q : List A) : Type 0 where
-  Same : f ≡ g → x ≡ y → Cuts f x p g y q
-  Before : (r : List A) → g ≡ f ++ x ∷ r → p ≡ r ++ y ∷ q → Cuts f x p g y q
-  Behind : (r : List A) → f ≡ g ++ y ∷ r → q ≡ r ++ x ∷ p → Cuts f x p g y q
-
-first_is : {A : Type 0} (x y : A) (xs ys : List A) → x ∷ xs ≡ y ∷ ys → x ≡ y
-first_is x y xs ys e = cc
-
-rest_is : {A : Type 0} (x y : A) (xs ys : List A) → x ∷ xs ≡ y ∷ ys → xs ≡ ys
-rest_is x y xs ys e = cc
-
-cuts_more : {A : Type 0} (a b : A) (f : List A) (x : A) (p g : List A) (y : A) (q : List A) → a ≡ b → Cuts f x p g y q
-    → Cuts (a ∷ f) x p (b ∷ g) y q
-cuts_more {A} a b f x p g y q e (Same s t) = Same (ap (λ c. c ∷ f) e ∙ ap (λ (l : List A). b ∷ l) s) t
-cuts_more {A} a b f x p g y q e (Before r s t) = Before r (ap (λ c. c ∷ g) (sym e) ∙ ap (λ (l : List A). a ∷ l) s) t
-cuts_more {A} a b f x p g y q e (Behind r s t) = Behind r (ap (λ c. c ∷ f) e ∙ ap (λ (l : List A). b ∷ l) s) t
-
--- one list that is cut in two ways is cut so
-pub cuts : {A : Type 0} (f : List A) (x : A) (p g : List A) (y : A) (q : List A) → f ++ x ∷ p ≡ g ++ y ∷ q → Cuts f x p g y q
-cuts [] x p [] y q e = Same refl (first_is x y p q e)
-cuts {A} [] x p (b ∷ g) y q e = Before g (ap (λ c. c ∷ g) (sym (first_is x b p (g ++ y ∷ q) e))) (rest_is x b p (g ++ y ∷ q) e)
-cuts {A} (a ∷ f) x p [] y q e = Behind f (ap (λ c. c ∷ f) (first_is a y (f ++ x ∷ p) q e)) (sym (rest_is a y (f ++ x ∷ p) q e))
-cuts (a ∷ f) x p (b ∷ g) y q e = cuts_more a b f x p g y q (first_is a b (f ++ x ∷ p) (g ++ y ∷ q) e)
-    (cuts f x p g y q (rest_is a b (f ++ x ∷ p) (g ++ y ∷ q) e))
+use Rattle.macho_stub.proofs.Lasts.{IsHead, Cuts, Same, Before, Behind, cuts, one_last}
 
 -- ---- one place
 
@@ -85,24 +56,10 @@ ends_no_key first line w t =
       ]
     ]
 
--- the last head of a text has one number
-pub one_head : (l m : ℕ) (texts : List (List ℕ)) → IsLastHead l texts → IsLastHead m texts → l ≡ m
-one_head l m texts h k = by_cut (cuts h.before head h.behind k.before head k.behind (sym h.parts ∙ k.parts))
-  where
-    none_between : (r q behind : List (List ℕ)) → behind ≡ r ++ head ∷ q → AllByRecursion (λ line. line ≢ head) behind → ⊥
-    none_between r q behind e all =
-        let N : List (List ℕ) → Type 0 = λ b. AllByRecursion (λ line. line ≢ head) b in
-        (all_behind (λ (line : List ℕ). line ≢ head) r (head ∷ q) (subst N e all)).0 refl
-
-    by_cut : Cuts h.before head h.behind k.before head k.behind → l ≡ m
-    by_cut (Same s t) = h.here ∙ ap (λ (b : List (List ℕ)). length b + 1) s ∙ sym k.here
-    by_cut (Before r s t) = absurd (none_between r k.behind h.behind t h.none)
-    by_cut (Behind r s t) = absurd (none_between r h.behind k.behind t k.none)
-
 -- the three reasons, by their rule
 data Why (rule : StubRule) (number : ℕ) (first : List (List ℕ)) (line : List ℕ) : Type 0 where
   Out : rule ≡ S1 → number ≡ length first + 1 → (EndsWithout first line → ⊥) → (StandsTwice first line → ⊥) → Why rule number first line
-  Lacking : rule ≡ S2 → IsLastHead number first → EndsWithout first line → Why rule number first line
+  Lacking : rule ≡ S2 → IsLastLine IsHead number first → EndsWithout first line → Why rule number first line
   Again : rule ≡ S3 → number ≡ length first + 1 → StandsTwice first line → Why rule number first line
 
 why_of : (rule : StubRule) (number : ℕ) (first : List (List ℕ)) (line : List ℕ) → IsWhy rule number first line → Why rule number first line
@@ -116,7 +73,7 @@ one_why r s l m first line (Out a b c d) (Out e f g h) = (b ∙ sym f, a ∙ sym
 one_why r s l m first line (Out a b c d) (Lacking e f g) = absurd (c g)
 one_why r s l m first line (Out a b c d) (Again e f g) = absurd (d g)
 one_why r s l m first line (Lacking a b c) (Out e f g h) = absurd (g c)
-one_why r s l m first line (Lacking a b c) (Lacking e f g) = (one_head l m first b f, a ∙ sym e)
+one_why r s l m first line (Lacking a b c) (Lacking e f g) = (one_last IsHead l m first b f, a ∙ sym e)
 one_why r s l m first line (Lacking a b c) (Again e f g) = absurd (ends_no_key first line c g)
 one_why r s l m first line (Again a b c) (Out e f g h) = absurd (h c)
 one_why r s l m first line (Again a b c) (Lacking e f g) = absurd (ends_no_key first line g c)

@@ -1,79 +1,33 @@
 -- What is told at the end of a text is told of it alone. A list that is open is open since one line; a key of items
 -- with none under it is the last line with content; and where a closing bracket may stand, no key and no item may.
--- Of two lists that are cut off, a bracket might stand right before the later one, since the earlier is open there; but the
--- later says that none may (`one_list`). Of two bare keys the later would be among the lines that are passed over behind
--- the earlier, and it has content (`one_key`). A list and a bare key, or one of these and a lacking key, differ in which of
--- a bracket, an item and a key may stand behind the text: that is known from where its reading ends (`alone`).
+-- Each of these is the last line that is so, and has one number (`one_last`). A list and a bare key, or one of these and a
+-- lacking key, differ in which of a bracket, an item and a key may stand behind the text: that is known from where its reading
+-- ends (`alone`).
 use Rattle.std.proofs.Common.{◌≡◌, ℕ, ◌+◌, true, false, List, [], ◌∷◌, ◌++◌, length, Option, Ok, refl, sym, ap, ◌∙◌, ◌⊎◌, inl, inr, subst, append_assoc}
-use Rattle.std.specs.List.{AllByRecursion}
 use Rattle.std.specs.Str.Lines.{lines}
 use Rattle.std.proofs.lemmas.List.{append-nil}
 use Rattle.macho_stub_lines.specs.declared.list.Expect.{Expect}
 use Rattle.macho_stub_lines.specs.declared.list.Expect.TheVariants.{AfterOpen, AfterComma, AfterName, Closed}
 use Rattle.macho_stub_lines.specs.declared.fault.StubRule.{StubRule}
 use Rattle.macho_stub_lines.specs.declared.fault.StubRule.TheVariants.{S1, S2}
-use Rattle.macho_stub_lines.specs.Bytes.{indent, unspaced, is_passed, has_barred, is_blank_or_comment, is_mark, is_plain_byte, has_late_control_after}
+use Rattle.macho_stub_lines.specs.Bytes.{indent, unspaced, is_passed, has_barred, is_blank_or_comment, end, is_mark, is_plain_byte, has_late_control_after}
 use Rattle.macho_stub_lines.specs.Scalars.{scalar_front, plain_front}
 use Rattle.macho_stub_lines.specs.Faults.{outside}
 use Rattle.macho_stub_lines.specs.Lists.{list_part, token_front, behind}
 use Rattle.macho_stub.specs.Documents.{documents_texts, DocumentFields}
 use Rattle.macho_stub.specs.steps.Opened.{OpenDocumentFields}
 use Rattle.macho_stub.specs.steps.Reader.{ItemListFields, NameListFields, ModeFields, Keys, Skipped, Names, NoItem, PlaceFields, Outside, Within, StateFields, stays, names_line, line_step, lines_from, start}
-use Rattle.macho_stub.specs.Order.{MayBegin, MayStand, LacksInItem, LacksInDocument, IsLastHead, IsOpenAlong, IsCutList, IsBareKey, IsWhyAtEnd, BreaksOff, unread_key, unread_item, closing_bracket}
+use Rattle.macho_stub.specs.Order.{MayBegin, MayStand, EndsWithout, IsLastLine, IsWhyAtEnd, BreaksOff, unread_key, unread_item}
 use Rattle.macho_stub_lines.proofs.Bind.{bind_ok}
 use Rattle.macho_stub.proofs.Joined.{AreLines, lines_are_lines}
 use Rattle.macho_stub.proofs.Trees.{to_read}
 use Rattle.macho_stub.proofs.Reached.{Reached, refused, length_more}
-use Rattle.macho_stub.proofs.Since.{Known, known_start, known_more, no_bracket_at_keys, no_bracket_at_item}
+use Rattle.macho_stub.proofs.PutIn.{closing_bracket}
+use Rattle.macho_stub.proofs.Lasts.{IsHead, one_last}
+use Rattle.macho_stub.proofs.Since.{IsOutsideList, IsCutList, HasContent, IsBareKey, Known, known_start, known_more, no_bracket_at_keys, no_bracket_at_item}
 use Rattle.macho_stub.proofs.Elsewhere.{no_key_in_list}
 use Rattle.macho_stub.proofs.Only.{lines_read}
-use Rattle.macho_stub.proofs.One.{Cuts, Same, Before, Behind, cuts, one_head, one_stop, no_stop_and_end}
-use Rattle.macho_stub_lines.proofs.Runs.{all_behind}
-
--- ---- one line
-
-open_at : (first r q : List (List ℕ)) (y : List ℕ) → IsOpenAlong first (r ++ y ∷ q) → MayStand (first ++ r) closing_bracket
-open_at first [] q y a = let M : List (List ℕ) → Type 0 = λ f. MayStand f closing_bracket in subst M (sym (append-nil first)) a.0
-open_at first (x ∷ r) q y a =
-    let M : List (List ℕ) → Type 0 = λ f. MayStand f closing_bracket in
-    subst M (append_assoc first (x ∷ []) r) (open_at (first ++ x ∷ []) r q y a.1)
-
-open_end : (first more : List (List ℕ)) → IsOpenAlong first more → MayStand (first ++ more) closing_bracket
-open_end first [] a = let M : List (List ℕ) → Type 0 = λ f. MayStand f closing_bracket in subst M (sym (append-nil first)) a
-open_end first (x ∷ more) a =
-    let M : List (List ℕ) → Type 0 = λ f. MayStand f closing_bracket in
-    subst M (append_assoc first (x ∷ []) more) (open_end (first ++ x ∷ []) more a.1)
-
--- a list that was open before isn't begun again
-not_again : (first r q next : List (List ℕ)) (x y : List ℕ) (more : List (List ℕ)) → next ≡ first ++ x ∷ r → more ≡ r ++ y ∷ q
-    → IsOpenAlong (first ++ x ∷ []) more → (MayStand next closing_bracket → ⊥) → ⊥
-not_again first r q next x y more e f a n =
-    let M : List (List ℕ) → Type 0 = λ l. MayStand l closing_bracket in
-    let O : List (List ℕ) → Type 0 = λ l. IsOpenAlong (first ++ x ∷ []) l in
-    n (subst M (append_assoc first (x ∷ []) r ∙ sym e) (open_at (first ++ x ∷ []) r q y (subst O f a)))
-
-one_list : (l m : ℕ) (texts : List (List ℕ)) → IsCutList l texts → IsCutList m texts → l ≡ m
-one_list l m texts a b = by_cut (cuts a.first a.line a.more b.first b.line b.more (sym a.parts ∙ b.parts))
-  where
-    by_cut : Cuts a.first a.line a.more b.first b.line b.more → l ≡ m
-    by_cut (Same e f) = a.here ∙ ap (λ (x : List (List ℕ)). length x + 1) e ∙ sym b.here
-    by_cut (Before r e f) = absurd (not_again a.first r b.more b.first a.line b.line a.more e f a.open_along b.before)
-    by_cut (Behind r e f) = absurd (not_again b.first r a.more a.first b.line a.line b.more e f b.open_along a.before)
-
-one_key : (l m : ℕ) (texts : List (List ℕ)) → IsBareKey l texts → IsBareKey m texts → l ≡ m
-one_key l m texts a b = by_cut (cuts a.first a.line a.passed b.first b.line b.passed (sym a.parts ∙ b.parts))
-  where
-    passed_there : (r q passed : List (List ℕ)) (y : List ℕ) → passed ≡ r ++ y ∷ q → AllByRecursion (λ line. is_passed line ≡ true) passed
-        → is_passed y ≡ false → ⊥
-    passed_there r q passed y e all content =
-        let P : List (List ℕ) → Type 0 = λ lines. AllByRecursion (λ line. is_passed line ≡ true) lines in
-        let there : is_passed y ≡ true = (all_behind (λ (line : List ℕ). is_passed line ≡ true) r (y ∷ q) (subst P e all)).0 in
-        let k = sym there ∙ content in cc
-
-    by_cut : Cuts a.first a.line a.passed b.first b.line b.passed → l ≡ m
-    by_cut (Same e f) = a.here ∙ ap (λ (x : List (List ℕ)). length x + 1) e ∙ sym b.here
-    by_cut (Before r e f) = absurd (passed_there r b.passed a.passed b.line f a.no_content b.content)
-    by_cut (Behind r e f) = absurd (passed_there r a.passed b.passed a.line f b.no_content a.content)
+use Rattle.macho_stub.proofs.One.{one_stop, no_stop_and_end}
 
 -- ---- where a closing bracket may stand
 
@@ -142,7 +96,7 @@ alone text g m =
 data Why (rule : StubRule) (number : ℕ) (texts : List (List ℕ)) : Type 0 where
   Cut : rule ≡ S1 → IsCutList number texts → Why rule number texts
   Bare : rule ≡ S1 → IsBareKey number texts → Why rule number texts
-  Lacks : rule ≡ S2 → IsLastHead number texts → LacksInItem texts ⊎ LacksInDocument texts → Why rule number texts
+  Lacks : rule ≡ S2 → IsLastLine IsHead number texts → EndsWithout texts end → Why rule number texts
 
 outside_why : (number : ℕ) (texts : List (List ℕ)) → IsCutList number texts ⊎ IsBareKey number texts → Why S1 number texts
 outside_why number texts (inl c) = Cut refl c
@@ -153,33 +107,26 @@ why_of S1 number texts w = outside_why number texts w
 why_of S2 number texts w = Lacks refl w.0 w.1
 why_of rule number texts w = absurd w
 
-bracket : (number : ℕ) (texts : List (List ℕ)) → IsCutList number texts → MayStand texts closing_bracket
-bracket number texts c =
-    let M : List (List ℕ) → Type 0 = λ l. MayStand l closing_bracket in
-    subst M (append_assoc c.first (c.line ∷ []) c.more ∙ sym c.parts) (open_end (c.first ++ c.line ∷ []) c.more c.open_along)
-
-cut_and_lack : (text : List ℕ) (number : ℕ) → MayBegin (lines text) → IsCutList number (lines text)
-    → LacksInItem (lines text) ⊎ LacksInDocument (lines text) → ⊥
+cut_and_lack : (text : List ℕ) (number : ℕ) → MayBegin (lines text) → IsCutList number (lines text) → EndsWithout (lines text) end → ⊥
 unfolding is_passed unspaced indent is_blank_or_comment
-cut_and_lack text number g c (inl i) = i closing_bracket refl refl (bracket number (lines text) c)
-cut_and_lack text number g c (inr d) = (alone text g (bracket number (lines text) c)).1 d.0
+cut_and_lack text number g c w =
+    elim w.lacks [ inl i ↦ i.0 closing_bracket refl refl c.0 | inr d ↦ (alone text g c.0).1 d.0.0 ]
 
-bare_and_lack : (number : ℕ) (texts : List (List ℕ)) → IsBareKey number texts → LacksInItem texts ⊎ LacksInDocument texts → ⊥
+bare_and_lack : (number : ℕ) (texts : List (List ℕ)) → IsBareKey number texts → EndsWithout texts end → ⊥
 unfolding is_passed unspaced indent is_blank_or_comment
-bare_and_lack number texts b (inl i) = i unread_item refl refl b.items
-bare_and_lack number texts b (inr d) = b.no_key d.0
+bare_and_lack number texts b w = elim w.lacks [ inl i ↦ i.0 unread_item refl refl b.0 | inr d ↦ b.1 d.0.0 ]
 
 one_why : (text : List ℕ) (r s : StubRule) (l m : ℕ) → MayBegin (lines text) → Why r l (lines text) → Why s m (lines text)
     → (l ≡ m) × (r ≡ s)
-one_why text r s l m g (Cut a b) (Cut c d) = (one_list l m (lines text) b d, a ∙ sym c)
-one_why text r s l m g (Cut a b) (Bare c d) = absurd ((alone text g (bracket l (lines text) b)).0 d.items)
+one_why text r s l m g (Cut a b) (Cut c d) = (one_last IsOutsideList l m (lines text) b.1 d.1, a ∙ sym c)
+one_why text r s l m g (Cut a b) (Bare c d) = absurd ((alone text g b.0).0 d.0)
 one_why text r s l m g (Cut a b) (Lacks c d e) = absurd (cut_and_lack text l g b e)
-one_why text r s l m g (Bare a b) (Cut c d) = absurd ((alone text g (bracket m (lines text) d)).0 b.items)
-one_why text r s l m g (Bare a b) (Bare c d) = (one_key l m (lines text) b d, a ∙ sym c)
+one_why text r s l m g (Bare a b) (Cut c d) = absurd ((alone text g d.0).0 b.0)
+one_why text r s l m g (Bare a b) (Bare c d) = (one_last HasContent l m (lines text) b.2 d.2, a ∙ sym c)
 one_why text r s l m g (Bare a b) (Lacks c d e) = absurd (bare_and_lack l (lines text) b e)
 one_why text r s l m g (Lacks a b c) (Cut d e) = absurd (cut_and_lack text m g e c)
 one_why text r s l m g (Lacks a b c) (Bare d e) = absurd (bare_and_lack m (lines text) e c)
-one_why text r s l m g (Lacks a b c) (Lacks d e f) = (one_head l m (lines text) b e, a ∙ sym d)
+one_why text r s l m g (Lacks a b c) (Lacks d e f) = (one_last IsHead l m (lines text) b e, a ∙ sym d)
 
 -- where a text breaks off, and for which rule, is one answer
 pub one_break : (text : List ℕ) (l m : ℕ) (r s : StubRule) → BreaksOff text l r → BreaksOff text m s → (l ≡ m) × (r ≡ s)

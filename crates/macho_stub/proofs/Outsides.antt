@@ -14,7 +14,7 @@ use Rattle.macho_stub_lines.specs.Keys.{Entry, entry_at, top_key, item_key}
 use Rattle.macho_stub.specs.Documents.{DocumentFields}
 use Rattle.macho_stub.specs.steps.Opened.{OpenDocumentFields}
 use Rattle.macho_stub.specs.steps.Reader.{ItemListFields, top_entry, item_entry, top_line, line_step}
-use Rattle.macho_stub.specs.Order.{MayStand, LacksInItem, EndsDocument, EndsWithout, StandsTwice, unread_key, in_column}
+use Rattle.macho_stub.specs.Order.{MayStand, LacksInItem, EndsWithout, StandsTwice, unread_key, in_column}
 use Rattle.macho_stub_lines.proofs.Bind.{no_ok, same_ok}
 use Rattle.macho_stub.proofs.OnlyLines.{entry_at_top}
 use Rattle.macho_stub.proofs.Joined.{IsLine}
@@ -22,6 +22,7 @@ use Rattle.macho_stub.proofs.PutIn.{at_top, at_item, item_text_barred, item_text
 use Rattle.macho_stub.proofs.Reached.{Reached, may_stand, refused}
 use Rattle.macho_stub.proofs.Steps.{Closes, keys_state, unread_key_at_top}
 use Rattle.macho_stub.proofs.Twice.{no_spaces}
+use Rattle.macho_stub.proofs.Causes.{EndsDocument}
 use Rattle.macho_stub.proofs.Goods.{good_at_top, good_in_column}
 use Rattle.macho_stub.proofs.TwiceKeys.{said_of, second_key}
 

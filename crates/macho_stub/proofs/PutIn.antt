@@ -4,7 +4,7 @@
 -- text that is written out, so the step over it is computed, for any document and any items before (`name_steps` and the
 -- like). A line in the column of an item's keys begins with as many spaces as the list says: those are counted by a
 -- lemma (`item_text_steps`), and what stands behind them is again written out.
-use Rattle.std.proofs.Common.{◌≡◌, ◌≢◌, ℕ, zero, suc, get_or, ◌<◌, ◌&&◌, Bool, true, false, eqb, List, [], ◌++◌, replicate, Option, Some, None, Ok, refl, ap, ◌∙◌, arith}
+use Rattle.std.proofs.Common.{◌≡◌, ◌≢◌, ℕ, zero, suc, get_or, ◌<◌, ◌&&◌, Bool, true, false, eqb, List, [], ◌++◌, replicate, Option, Some, None, Ok, refl, ap, ◌∙◌, ◌⊎◌, arith}
 use Rattle.std.specs.Prelude.{codes}
 use Rattle.std.specs.List.{prefix_len}
 use Rattle.std.proofs.lemmas.Bool.Decides.{nat_tests}
@@ -21,7 +21,7 @@ use Rattle.macho_stub_lines.specs.Keys.{entry_at, top_key, item_key, scalar_valu
 use Rattle.macho_stub.specs.Documents.{ItemFields, DocumentFields}
 use Rattle.macho_stub.specs.steps.Opened.{OpenDocumentFields, no_item, with_items}
 use Rattle.macho_stub.specs.steps.Reader.{ItemListFields, NameListFields, ModeFields, Keys, Skipped, Names, NoItem, Within, StateFields, stays, with_names, names_line, names_value, skipped_value, item_key_line, key_column, first_line, within, top_line, items_with_last, item_line, line_step}
-use Rattle.macho_stub.specs.Order.{unread_key, unread_item, closing_bracket}
+use Rattle.macho_stub.specs.Order.{unread_key, unread_item}
 
 -- ---- where keys may stand
 
@@ -55,6 +55,14 @@ name_line = codes "install-name: a"
 -- libraries, empty
 abbrev pub libraries_line : List ℕ
 libraries_line = codes "libraries: []"
+
+-- a key that an item must have, with an empty list
+abbrev pub IsNeeded : List ℕ → Type 0
+IsNeeded key = (key ≡ codes "targets: []") ⊎ (key ≡ codes "libraries: []")
+
+-- the end of a flow list
+abbrev pub closing_bracket : List ℕ
+closing_bracket = codes "]"
 
 -- ---- keys of a document
 

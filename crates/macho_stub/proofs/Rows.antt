@@ -1,20 +1,20 @@
 -- A small text, taken apart by hand: its lines with their places, the tree of its one document, and what that says at places
 -- that were counted in the text. The lines of the text are computed, and are those that the tree spells; each part of the
--- tree is sound, by the tests of `RowTests`. What the item and the document say is given by their entries: for each key the
--- entry that has it is pointed out, or none has it; and no two have the same key that is read. So the text is in the
+-- tree is sound, by the tests of `RowTests`. What the item and the document say is given by their entries: for each key there
+-- is computed which entries have it, and that is one or none. So the text is in the
 -- grammar (`small_in_grammar`). That each text which it says stands at its place is computed besides (`small_stands`).
-use Rattle.std.proofs.Common.{◌≡◌, ℕ, List, [], ◌∷◌, ◌++◌, Some, None, false, refl, arith, inl, inr}
+use Rattle.std.proofs.Common.{◌≡◌, ℕ, List, [], ◌∷◌, ◌++◌, Some, None, false, refl, arith, inr}
 use Rattle.std.specs.List.{AllByRecursion}
 use Rattle.std.specs.Prelude.{codes}
 use Rattle.macho_stub_lines.specs.declared.keys.ItemKind.TheVariants.{Exports}
-use Rattle.macho_stub_lines.specs.declared.keys.TopKey.TheVariants as top
 use Rattle.macho_stub_lines.specs.Bytes.{is_plain_byte, is_mark, is_key_byte, has_barred, has_late_control_after, is_passed, is_blank_or_comment, is_tail, unspaced, indent}
 use Rattle.macho_stub_lines.specs.Slices.{Slice, StandsIn, lines_of, content_of}
 use Rattle.macho_stub_lines.specs.Spelling.{EntryTree, NoValue, Value, Plain, Single, IsScalarValue, IsNumberValue}
-use Rattle.macho_stub_lines.specs.FlowLists.{Spaces, Turn, IsFlowList}
-use Rattle.macho_stub_lines.specs.Keys.{top_key, item_key}
+use Rattle.macho_stub_lines.specs.FlowLists.{IsFlowList}
+use Rattle.macho_stub_lines.specs.steps.ListTrees.{Spaces, Turn}
+use Rattle.macho_stub_lines.proofs.ListDerived.{list_of_tree}
 use Rattle.macho_stub.specs.Documents.{ItemOf, DocumentOf}
-use Rattle.macho_stub.specs.Grammar.{NoneTwice, ItemEntry, IsItemEntry, ItemTree, IsItem, TopEntry, IsTopEntry, Lines, Listed, DocumentTree, IsDocument, documents_then, IsStubText}
+use Rattle.macho_stub.specs.Grammar.{Entry, IsEntryOf, item_keys, ItemTree, items_then, IsItem, document_keys, DocumentTree, IsDocument, documents_then, IsStubText}
 use Rattle.macho_stub_lines.proofs.Bind.{ne_at, other_bytes}
 use Rattle.macho_stub.proofs.RowTests.{slice, line, plain, single, valued, bare}
 
@@ -46,37 +46,37 @@ entry key value = record { key = key; behind = Value 1 value }
 abbrev pub bare_entry : List ℕ → EntryTree
 bare_entry key = record { key = key; behind = NoValue [] }
 
-abbrev targets_line : ItemEntry
+abbrev targets_line : Entry
 targets_line = record { number = 9; at = 128; entry = entry (codes "targets") (codes "[arm64e-macos]"); more = [] }
 
-abbrev symbols_line : ItemEntry
+abbrev symbols_line : Entry
 symbols_line = record { number = 10; at = 154; entry = entry (codes "symbols") (codes "[ _a ]"); more = [] }
 
-abbrev other_line : ItemEntry
+abbrev other_line : Entry
 other_line = record { number = 11; at = 172; entry = bare_entry (codes "other"); more = line 12 181 (codes "    - c") ∷ [] }
 
 abbrev item_tree : ItemTree
 item_tree = record { gap = 1; first = targets_line; others = symbols_line ∷ other_line ∷ [] }
 
-abbrev version_entry : TopEntry
-version_entry = record { number = 2; at = 14; entry = entry (codes "tbd-version") (codes "04"); under = Lines [] }
+abbrev version_entry : Entry
+version_entry = record { number = 2; at = 14; entry = entry (codes "tbd-version") (codes "04"); more = [] }
 
-abbrev targets_entry : TopEntry
+abbrev targets_entry : Entry
 targets_entry = record {
   number = 4;
   at = 32;
   entry = entry (codes "targets") (codes "[ arm64e-macos, # one");
-  under = Lines (line 5 63 (codes "  x86_64-macos, ]") ∷ []);
+  more = line 5 63 (codes "  x86_64-macos, ]") ∷ [];
 }
 
-abbrev name_entry : TopEntry
-name_entry = record { number = 6; at = 81; entry = entry (codes "install-name") (codes "'/l'"); under = Lines [] }
+abbrev name_entry : Entry
+name_entry = record { number = 6; at = 81; entry = entry (codes "install-name") (codes "'/l'"); more = [] }
 
-abbrev current_entry : TopEntry
-current_entry = record { number = 7; at = 100; entry = entry (codes "current-version") (codes "1"); under = Lines [] }
+abbrev current_entry : Entry
+current_entry = record { number = 7; at = 100; entry = entry (codes "current-version") (codes "1"); more = [] }
 
-abbrev exports_entry : TopEntry
-exports_entry = record { number = 8; at = 119; entry = bare_entry (codes "exports"); under = Listed 0 (item_tree ∷ []) }
+abbrev exports_entry : Entry
+exports_entry = record { number = 8; at = 119; entry = bare_entry (codes "exports"); more = items_then 0 (item_tree ∷ []) [] }
 
 abbrev document_tree : DocumentTree
 document_tree = record {
@@ -147,7 +147,7 @@ current_value = record {
 targets_list : IsFlowList 41 (codes "[ arm64e-macos, # one") (line 5 63 (codes "  x86_64-macos, ]") ∷ [])
     (slice 43 (codes "arm64e-macos") ∷ slice 65 (codes "x86_64-macos") ∷ [])
 unfolding is_tail is_passed is_blank_or_comment unspaced indent is_plain_byte is_mark has_late_control_after
-targets_list = record {
+targets_list = list_of_tree _ _ _ _ (record {
   tree = record {
     opening = Spaces 1;
     followed =
@@ -168,11 +168,11 @@ targets_list = record {
   inside = (other_bytes _ _ refl, tt);
   ends = refl;
   is = refl;
-}
+})
 
 item_targets : IsFlowList 139 (codes "[arm64e-macos]") [] (slice 140 (codes "arm64e-macos") ∷ [])
 unfolding is_tail is_plain_byte is_mark has_late_control_after
-item_targets = record {
+item_targets = list_of_tree _ _ _ _ (record {
   tree = record { opening = Spaces 0; followed = []; final = Some (record { scalar = Plain (codes "arm64e-macos"); behind = Spaces 0 }) };
   tail = [];
   spelled = refl;
@@ -180,11 +180,11 @@ item_targets = record {
   inside = tt;
   ends = refl;
   is = refl;
-}
+})
 
 item_symbols : IsFlowList 165 (codes "[ _a ]") [] (slice 167 (codes "_a") ∷ [])
 unfolding is_tail is_plain_byte is_mark has_late_control_after
-item_symbols = record {
+item_symbols = list_of_tree _ _ _ _ (record {
   tree = record { opening = Spaces 1; followed = []; final = Some (record { scalar = Plain (codes "_a"); behind = Spaces 1 }) };
   tail = [];
   spelled = refl;
@@ -192,100 +192,68 @@ item_symbols = record {
   inside = tt;
   ends = refl;
   is = refl;
-}
+})
 
 -- ---- the item
 
-targets_are : IsItemEntry Exports 2 targets_line
-unfolding item_key is_key_byte
-targets_are = record {
-  entry = valued (codes "targets") 91 (codes "arm64e-macos]") refl refl refl refl;
-  value = (item_says.targets, item_targets);
-}
+targets_are : IsEntryOf (item_keys Exports) 2 targets_line
+unfolding is_key_byte
+targets_are = record { entry = valued (codes "targets") 91 (codes "arm64e-macos]") refl refl refl refl; skipped = λ e. absurd cc }
 
-symbols_are : IsItemEntry Exports 2 symbols_line
-unfolding item_key is_key_byte
-symbols_are = record {
-  entry = valued (codes "symbols") 91 (codes " _a ]") refl refl refl refl;
-  value = (item_says.names, item_symbols);
-}
+symbols_are : IsEntryOf (item_keys Exports) 2 symbols_line
+unfolding is_key_byte
+symbols_are = record { entry = valued (codes "symbols") 91 (codes " _a ]") refl refl refl refl; skipped = λ e. absurd cc }
 
 -- the value that is skipped is empty, and the line under it has more spaces than its key
-other_is : IsItemEntry Exports 2 other_line
-unfolding item_key is_key_byte indent
-other_is = record { entry = bare (codes "other") refl refl; value = inr (ne_at 0 91 refl, (refl, tt)) }
+other_is : IsEntryOf (item_keys Exports) 2 other_line
+unfolding is_key_byte indent
+other_is = record { entry = bare (codes "other") refl refl; skipped = λ e. inr (ne_at 0 91 refl, (refl, tt)) }
 
 -- Its targets are those of the first entry, its names those of the second, and no entry has weak names.
 item_is : IsItem Exports 0 item_tree item_says
-unfolding item_key
 item_is = record {
   spaced = omega arith;
   each = (targets_are, (symbols_are, (other_is, tt)));
-  once = ((λ e. absurd cc, (λ e. e, tt)), ((λ e. e, tt), (tt, tt)));
-  targets = inl (refl, item_targets);
-  names = inl (inr (inl (refl, item_symbols)));
-  weak_names = inr ((λ e. absurd cc, (λ e. absurd cc, (λ e. absurd cc, tt))), refl);
+  says = (item_targets, item_symbols, refl);
 }
 
 -- ---- the document
 
-version_is : IsTopEntry version_entry
-unfolding top_key is_key_byte
-version_is = record {
-  entry = valued (codes "tbd-version") 48 (codes "4") refl refl refl refl;
-  value = (small_says.version, (refl, version_value));
-}
+version_is : IsEntryOf document_keys 0 version_entry
+unfolding is_key_byte
+version_is = record { entry = valued (codes "tbd-version") 48 (codes "4") refl refl refl refl; skipped = λ e. absurd cc }
 
-document_targets_are : IsTopEntry targets_entry
-unfolding top_key is_key_byte
+document_targets_are : IsEntryOf document_keys 0 targets_entry
+unfolding is_key_byte
 document_targets_are = record {
   entry = valued (codes "targets") 91 (codes " arm64e-macos, # one") refl refl refl refl;
-  value = (small_says.targets, targets_list);
+  skipped = λ e. absurd cc;
 }
 
-name_is : IsTopEntry name_entry
-unfolding top_key is_key_byte
-name_is = record {
-  entry = valued (codes "install-name") 39 (codes "/l'") refl refl refl refl;
-  value = (small_says.install_name, (refl, name_value));
-}
+name_is : IsEntryOf document_keys 0 name_entry
+unfolding is_key_byte
+name_is = record { entry = valued (codes "install-name") 39 (codes "/l'") refl refl refl refl; skipped = λ e. absurd cc }
 
-current_is : IsTopEntry current_entry
-unfolding top_key is_key_byte
-current_is = record {
-  entry = valued (codes "current-version") 49 [] refl refl refl refl;
-  value = (small_says.current_version, (refl, current_value));
-}
+current_is : IsEntryOf document_keys 0 current_entry
+unfolding is_key_byte
+current_is = record { entry = valued (codes "current-version") 49 [] refl refl refl refl; skipped = λ e. absurd cc }
 
-exports_are : IsTopEntry exports_entry
-unfolding top_key is_key_byte
-exports_are = record { entry = bare (codes "exports") refl refl; value = (item_says ∷ [], (refl, (item_is, tt))) }
+exports_are : IsEntryOf document_keys 0 exports_entry
+unfolding is_key_byte
+exports_are = record { entry = bare (codes "exports") refl refl; skipped = λ e. absurd cc }
 
--- no two of its keys are the same
-keys_once : NoneTwice top.Unread (λ one. top_key one.entry.key) document_tree.entries
-unfolding top_key
-keys_once = (
-  (λ e. absurd cc, (λ e. absurd cc, (λ e. absurd cc, (λ e. absurd cc, tt)))),
-  (
-    (λ e. absurd cc, (λ e. absurd cc, (λ e. absurd cc, tt))),
-    ((λ e. absurd cc, (λ e. absurd cc, tt)), ((λ e. absurd cc, tt), (tt, tt))),
-  ),
-)
-
--- Each of its keys is given by its own entry, and none has items of libraries or of reexports.
+-- Each of its keys is that of one entry, and none has items of libraries or of reexports.
 document_is : IsDocument document_tree small_says
-unfolding top_key
 document_is = record {
   line = refl;
   each = (version_is, (document_targets_are, (name_is, (current_is, (exports_are, tt)))));
-  once = keys_once;
-  version = inl (refl, (refl, version_value));
-  targets = inr (inl (refl, targets_list));
-  install_name = inr (inr (inl (refl, (refl, name_value))));
-  current_version = inl (inr (inr (inr (inl (refl, (refl, current_value))))));
-  libraries = inr ((λ e. absurd cc, (λ e. absurd cc, (λ e. absurd cc, (λ e. absurd cc, (λ e. absurd cc, tt))))), refl);
-  exports = inl (inr (inr (inr (inr (inl (refl, (refl, (item_is, tt))))))));
-  reexports = inr ((λ e. absurd cc, (λ e. absurd cc, (λ e. absurd cc, (λ e. absurd cc, (λ e. absurd cc, tt))))), refl);
+  version = (refl, version_value);
+  targets = targets_list;
+  install_name = (refl, name_value);
+  current_version = (refl, current_value);
+  libraries = refl;
+  exports = (refl, omega arith, 0, item_tree ∷ [], refl, (item_is, tt));
+  reexports = refl;
 }
 
 -- ---- the text

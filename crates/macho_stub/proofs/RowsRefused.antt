@@ -5,12 +5,12 @@
 -- one that is in the grammar (`whole_is`) in one thing each.
 -- Of two rows the definition itself has the reason: a list over a line that ends the document (`no_list_over_end`), and an
 -- item with a key twice (`targets_twice`).
-use Rattle.std.proofs.Common.{◌≡◌, ◌≢◌, ℕ, List, [], ◌∷◌, ◌++◌, drop, slice_index, Ok, refl, sym, ap, ◌∙◌}
+use Rattle.std.proofs.Common.{◌≡◌, ◌≢◌, ℕ, List, [], ◌∷◌, ◌++◌, drop, slice_index, Some, Ok, refl, sym, ap, ◌∙◌}
 use Rattle.std.specs.Prelude.{codes}
 use Rattle.macho_stub_lines.specs.declared.fault.StubRule.{StubRule}
 use Rattle.macho_stub_lines.specs.declared.fault.StubRule.TheVariants.{S1, S2, S3}
 use Rattle.macho_stub_lines.specs.declared.keys.ItemKind.{ItemKind}
-use Rattle.macho_stub_lines.specs.declared.keys.ItemKind.TheVariants.{Exports}
+use Rattle.macho_stub_lines.specs.declared.keys.ItemKind.TheVariants.{Libraries, Exports, Reexports}
 use Rattle.macho_stub_lines.specs.declared.keys.ItemKey.TheVariants as item
 use Rattle.macho_stub_lines.specs.declared.list.Expect.{Expect}
 use Rattle.macho_stub_lines.specs.declared.list.Expect.TheVariants.{AfterOpen, AfterComma, AfterName, Closed}
@@ -18,7 +18,7 @@ use Rattle.macho_stub_lines.specs.Bytes.{open_bracket, is_key_byte, is_mark, is_
 use Rattle.macho_stub_lines.specs.Faults.{broken}
 use Rattle.macho_stub_lines.specs.Scalars.{scalar_front, quoted_front, plain_front}
 use Rattle.macho_stub_lines.specs.Lists.{ListPart, list_part, token_front, behind, with_front}
-use Rattle.macho_stub_lines.specs.Keys.{entry_at, scalar_value, version_value, item_key}
+use Rattle.macho_stub_lines.specs.Keys.{entry_at, scalar_value, version_value}
 use Rattle.macho_stub_lines.specs.Slices.{Slice, Line}
 use Rattle.macho_stub_lines.specs.Spelling.{EntryTree, Value, IsScalarValue, IsNumberValue, IsEntry, entry_bytes, value_of}
 use Rattle.macho_stub_lines.specs.FlowLists.{IsFlowList}
@@ -29,7 +29,7 @@ use Rattle.macho_stub_lines.proofs.EntryTrees.{entry_reads}
 use Rattle.macho_stub_lines.proofs.ListTrees.{list_reads}
 use Rattle.macho_stub.specs.Documents.{ItemOf, ItemFields, DocumentOf, DocumentFields, documents_texts}
 use Rattle.macho_stub.specs.steps.Reader.{documents_of}
-use Rattle.macho_stub.specs.Grammar.{NoneTwice, ItemEntry, ItemTree, IsItem, entries_of, IsStubText}
+use Rattle.macho_stub.specs.Grammar.{Entry, SaysUnder, SaysNames, ItemTree, IsItem, entries_of, IsStubText}
 use Rattle.macho_stub.proofs.Trees.{of_read}
 use Rattle.macho_stub.proofs.Found.{documents_found}
 use Rattle.macho_stub.proofs.Answered.{in_grammar_read}
@@ -164,20 +164,20 @@ no_list_over_end at says is = is.inside.0 refl
 -- ---- items
 
 -- an entry of this key with an empty list, and an item that has it twice
-abbrev empty_list : List ℕ → ItemEntry
+abbrev empty_list : List ℕ → Entry
 empty_list key = record { number = 1; at = 0; entry = record { key = key; behind = Value 1 (codes "[]") }; more = [] }
 
 abbrev pub with_twice : List ℕ → ItemTree
 with_twice key = record { gap = 1; first = empty_list key; others = empty_list key ∷ [] }
 
--- With targets twice it is no item of any list, whatever it says. A key that isn't read may stand twice.
+-- With targets twice it is no item of any list, whatever it says. An item with another key twice has no symbols.
 pub targets_twice : (kind : ItemKind) (column : ℕ) (says : ItemOf Slice) → IsItem kind column (with_twice (codes "targets")) says → ⊥
-unfolding item_key
-targets_twice kind column says is = let e : item.Targets ≡ item.Unread = is.once.0.0 refl in cc
+targets_twice Libraries column says is = is.says.0
+targets_twice Exports column says is = is.says.0
+targets_twice Reexports column says is = is.says.0
 
-pub other_twice : NoneTwice item.Unread (λ one. item_key Exports one.entry.key) (entries_of (with_twice (codes "other")))
-unfolding item_key
-other_twice = ((λ e. refl, tt), (tt, tt))
+pub other_twice : SaysUnder (codes "symbols") (Some []) (SaysNames 2) (entries_of (with_twice (codes "other"))) []
+other_twice = refl
 
 -- ---- texts
 

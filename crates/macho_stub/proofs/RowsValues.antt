@@ -7,7 +7,9 @@ use Rattle.std.proofs.Common.{[], ◌∷◌, Some, None, refl, arith}
 use Rattle.std.specs.Prelude.{codes}
 use Rattle.macho_stub_lines.specs.Bytes.{is_plain_byte, is_mark, has_late_control_after, is_passed, is_blank_or_comment, is_tail, unspaced, indent}
 use Rattle.macho_stub_lines.specs.Spelling.{Plain, Single, Double, IsScalarValue, IsNumberValue}
-use Rattle.macho_stub_lines.specs.FlowLists.{Spaces, Turn, IsFlowList}
+use Rattle.macho_stub_lines.specs.FlowLists.{IsFlowList}
+use Rattle.macho_stub_lines.specs.steps.ListTrees.{Spaces, Turn}
+use Rattle.macho_stub_lines.proofs.ListDerived.{list_of_tree}
 use Rattle.macho_stub_lines.proofs.Bind.{ne_at, other_bytes}
 use Rattle.macho_stub.proofs.RowTests.{slice, line, plain, single, double}
 
@@ -86,7 +88,7 @@ zero_number = record {
 
 pub empty_list : IsFlowList 10 (codes "[]") [] []
 unfolding is_tail
-empty_list = record {
+empty_list = list_of_tree _ _ _ _ (record {
   tree = record { opening = Spaces 0; followed = []; final = None };
   tail = [];
   spelled = refl;
@@ -94,12 +96,12 @@ empty_list = record {
   inside = tt;
   ends = refl;
   is = refl;
-}
+})
 
 -- a comma behind the last scalar
 pub last_comma : IsFlowList 10 (codes "[ a, ]") [] (slice 12 (codes "a") ∷ [])
 unfolding is_tail is_plain_byte is_mark has_late_control_after
-last_comma = record {
+last_comma = list_of_tree _ _ _ _ (record {
   tree = record {
     opening = Spaces 1;
     followed = record { scalar = Plain (codes "a"); before = Spaces 0; behind = Spaces 1 } ∷ [];
@@ -115,13 +117,13 @@ last_comma = record {
   inside = tt;
   ends = refl;
   is = refl;
-}
+})
 
 -- the three forms, with no space between them
 pub three_forms : IsFlowList 10 (codes "[a,'b c',\"d\"]") []
     (slice 11 (codes "a") ∷ slice 14 (codes "b c") ∷ slice 20 (codes "d") ∷ [])
 unfolding is_tail is_plain_byte is_mark has_late_control_after
-three_forms = record {
+three_forms = list_of_tree _ _ _ _ (record {
   tree = record {
     opening = Spaces 0;
     followed =
@@ -142,13 +144,13 @@ three_forms = record {
   inside = tt;
   ends = refl;
   is = refl;
-}
+})
 
 -- ---- a list over three lines, with comments
 
 pub over_lines : IsFlowList 10 (codes "[ # of a") (line 2 19 (codes "  a") ∷ line 3 23 (codes "] # end") ∷ []) (slice 21 (codes "a") ∷ [])
 unfolding is_tail is_passed is_blank_or_comment unspaced indent is_plain_byte is_mark has_late_control_after
-over_lines = record {
+over_lines = list_of_tree _ _ _ _ (record {
   tree = record {
     opening = Turn (codes " # of a") 2 19 (Spaces 2);
     followed = [];
@@ -164,13 +166,13 @@ over_lines = record {
   inside = (other_bytes _ _ refl, (other_bytes _ _ refl, tt));
   ends = refl;
   is = refl;
-}
+})
 
 -- three dots behind a space, which end no document
 pub over_dots : IsFlowList 10 (codes "[ a,") (line 2 15 (codes " ...") ∷ line 3 20 (codes "]") ∷ [])
     (slice 12 (codes "a") ∷ slice 16 (codes "...") ∷ [])
 unfolding is_tail is_plain_byte is_mark has_late_control_after
-over_dots = record {
+over_dots = list_of_tree _ _ _ _ (record {
   tree = record {
     opening = Spaces 1;
     followed = record { scalar = Plain (codes "a"); before = Spaces 0; behind = Turn [] 2 15 (Spaces 1) } ∷ [];
@@ -186,4 +188,4 @@ over_dots = record {
   inside = (other_bytes _ _ refl, (other_bytes _ _ refl, tt));
   ends = refl;
   is = refl;
-}
+})

@@ -7,11 +7,11 @@ use Rattle.std.proofs.Common.{◌≡◌, ℕ, ◌&&◌, Bool, true, false, List,
 use Rattle.std.proofs.lemmas.Bool.{and_parts}
 use Rattle.std.proofs.lemmas.List.Elements.{Contains-get_or}
 use Rattle.std.proofs.lemmas.List.Folds.{Any-from_list_any, list_any-from_Any, list_any_at}
-use Rattle.std.specs.List.{list_any}
+use Rattle.std.specs.List.{list_any, Any}
 use Rattle.std.specs.Str.{bytes_eq}
 use Rattle.macho_stub.specs.Documents.{ItemFields, DocumentFields}
 use Rattle.macho_stub.specs.steps.Checks.{all_same, same_names, same_item, same_items, same_document, is_listed}
-use Rattle.macho_stub.specs.Rules.{IsListed, SaySame}
+use Rattle.macho_stub.specs.Rules.{SaySame}
 use Rattle.macho_stub_lines.proofs.Bind.{same_bytes, bytes_same}
 
 -- ---- tests
@@ -32,6 +32,10 @@ contained name names h =
 contained_back : (name : List ℕ) (names : List (List ℕ)) → Contains names name → list_any (λ other. bytes_eq other name) names ≡ true
 contained_back name names c =
     list_any_at (λ other. bytes_eq other name) names c.0 name c.1 (bytes_same (slice_index_or names c.0 name) name c.2)
+
+-- the library is among the names of one of the items
+abbrev pub IsListed : List ℕ → List ItemFields → Type 0
+IsListed name items = Any (λ (item : ItemFields). Contains item.names name) items
 
 -- a name that passes the test is listed
 pub listed : (name : List ℕ) (items : List ItemFields) → is_listed name items ≡ true → IsListed name items

@@ -1,25 +1,26 @@
--- The documents make a library exactly where it is computed.
--- The computing is a chain of choices by tests and of steps. Where it gives a library, each test answered as its rule
--- says (`Ruled`), so the main library and each document are sound, and what is given is what they make
--- (`library_made`). The other way, where the rules hold each test answers so, and the chain computes to the library
--- (`library_back`). What a chain tells that fails is taken apart here too (`bind_err`, `main_steps`), for the faults
--- (`Told`).
-use Rattle.std.proofs.Common.{◌≡◌, ◌≢◌, ℕ, ◌≤◌, ◌||◌, not, Bool, true, false, cond, eqb, List, [], ◌∷◌, length, Ok, Err, refl, sym, ap, ◌∙◌, arith, ◌⊎◌, inl, inr, subst}
-use Rattle.std.proofs.lemmas.List.{nil_from_length}
-use Rattle.std.proofs.lemmas.Bool.{not-true, not-false}
-use Rattle.std.specs.List.{AllByRecursion}
+-- The checks of documents answer by the rules: they pass exactly where none is broken, and else the first that is is told.
+-- A check makes one test for each rule, in the order of the rules, and fails at the first whose rule is broken. So each test
+-- needs to decide its rule alone (`one_judged`); that all are judged as a whole follows by putting them in a row (`judged_then`).
+-- From what is answered the rules are known, then (`library_made`, `library_told`). The other way round needs no tests:
+-- the checks answer something, what they answer is known by the rules, and the rules have room for one answer
+-- (`library_back`, `told_back`), since one list has one first rule that is broken (`same_first`).
+use Rattle.std.proofs.Common.{◌≡◌, ℕ, zero, suc, ◌<◌, ◌||◌, not, Bool, true, false, cond, eqb, List, [], ◌∷◌, ◌++◌, length, Ok, Err, refl, sym, ap, ◌∙◌, arith, ◌⊎◌, inl, inr, subst, append_assoc}
+use Rattle.std.specs.List.{Any, flat_map}
 use Rattle.std.specs.Str.{bytes_eq}
 use Rattle.std.specs.Prelude.{codes}
+use Rattle.std.proofs.lemmas.List.{nil_from_length}
+use Rattle.std.proofs.lemmas.Bool.{not-true, not-false, or_parts}
 use Rattle.macho_stub_lines.specs.declared.fault.StubRule.{StubRule}
 use Rattle.macho_stub_lines.specs.declared.fault.StubRule.TheVariants.{S2, S4, S5, S6, S7, S8, S9}
 use Rattle.macho_stub_lines.specs.Faults.{Fault, Reading, ◌>>=◌, broken}
 use Rattle.macho_stub.specs.Documents.{ItemFields, DocumentFields}
 use Rattle.macho_stub.specs.Library.{has_target, LibraryFields}
 use Rattle.macho_stub.specs.steps.Checks.{same_document, is_listed, gathered_texts, checked_libraries, checked_main, checked_document, checked_documents, library_of}
-use Rattle.macho_stub.specs.Rules.{IsSoundMain, IsSoundDocument}
-use Rattle.macho_stub.proofs.TextRules.{MakesOfTexts}
-use Rattle.macho_stub_lines.proofs.Bind.{bind_ok, chosen, not_broken, same_ok, no_ok, same_bytes, bytes_same, eq_at, ne_at, eq_false}
-use Rattle.macho_stub.proofs.Ruled.{listed, listed_back, document_same, document_test}
+use Rattle.macho_stub.specs.Rules.{SaySame, Breaks, rules_of, KeepsAll, MakesLibrary, IsFirstBroken, IsTold}
+use Rattle.macho_stub_lines.proofs.Bind.{bind_ok, no_ok, same_ok, same_bytes, bytes_same, eq_at, ne_at}
+use Rattle.macho_stub_lines.proofs.Runs.{all_append, all_behind}
+use Rattle.macho_stub.proofs.Gathered.{gathers, weak_gathers}
+use Rattle.macho_stub.proofs.Ruled.{IsListed, clash, listed, listed_back, document_same, document_test}
 
 -- ---- readings that failed
 
@@ -36,215 +37,298 @@ pub bind_err : {A B : Type 0} (r : Reading A) (f : A → Reading B) (line : ℕ)
 bind_err (Ok x) f line rule e = inr (x, refl, e)
 bind_err {A} {B} (Err d) f line rule e = inl (ap failed (same_err {A = B} d (record { line = line; rule = rule }) e))
 
-abbrev done : LibraryFields → Reading LibraryFields
-done library = Ok library
-
-either : (a b : Bool) {A B : Type 0} → (a || b) ≡ true → (a ≡ true → A) → (b ≡ true → B) → A ⊎ B
-either true b h f g = inl (f refl)
-either false b h f g = inr (g h)
-
-or_from : (a b : Bool) {A B : Type 0} → A ⊎ B → (A → a ≡ true) → (B → b ≡ true) → (a || b) ≡ true
-or_from a b (inl x) f g = ap (λ c. c || b) (f x)
-or_from true b (inr y) f g = refl
-or_from false b (inr y) f g = g y
-
 -- what gives a value tells no fault
 pub ok_not_told : {A : Type 0} (x : A) (line : ℕ) (rule : StubRule) → Ok x ≡ broken {A = A} line rule → ⊥
 ok_not_told x line rule e = no_ok line rule x (sym e)
 
--- two faults that are one
-pub same_told : {A : Type 0} (l m : ℕ) (r s : StubRule) → broken {A = A} l r ≡ broken m s → (l ≡ m) × (r ≡ s)
-same_told {A} l m r s e = let f = same_err {A = A} (record { line = l; rule = r }) (record { line = m; rule = s }) e in
-    (ap (λ x. x.line) f, ap (λ x. x.rule) f)
+-- steps in a row
+in_row : {A : Type 0} (r s : Reading (Unit {0})) (t : Reading A) → (r >>= λ _. s >>= λ _. t) ≡ ((r >>= λ _. s) >>= λ _. t)
+in_row (Ok u) s t = refl
+in_row (Err e) s t = refl
 
-empty_length : (xs : List ℕ) → length xs ≢ 0 → xs ≢ []
-empty_length xs ne = λ e. ne (ap length e)
+-- ---- judging by rules
 
--- a text that isn't empty has a byte
-pub some_length : (xs : List ℕ) → xs ≢ [] → length xs ≢ 0
-some_length xs ne = λ e. ne (nil_from_length xs e)
+-- What is answered of these rules: nothing where none is broken, or the first that is.
+abbrev Judges : DocumentFields → List (StubRule × DocumentFields) → Reading (Unit {0}) → Type 0
+Judges main rules (Ok u) = KeepsAll main rules
+Judges main rules (Err fault) = IsFirstBroken main rules fault.rule fault.line
+
+-- rules that are kept stand before the first that is broken
+behind_kept : (main : DocumentFields) (front rules : List (StubRule × DocumentFields)) (rule : StubRule) (line : ℕ) → KeepsAll main front
+    → IsFirstBroken main rules rule line → IsFirstBroken main (front ++ rules) rule line
+behind_kept main front rules rule line kept first = record {
+  before = front ++ first.before;
+  document = first.document;
+  behind = first.behind;
+  parts = ap (λ (all : List (StubRule × DocumentFields)). front ++ all) first.parts
+      ∙ sym (append_assoc front first.before ((rule, first.document) ∷ first.behind));
+  kept = all_append (λ (one : StubRule × DocumentFields). Breaks one.0 main one.1 → ⊥) front first.before kept first.kept;
+  breaks = first.breaks;
+  here = first.here;
+}
+
+-- a test that decides one rule, and what is tested then
+one_judged : (main document : DocumentFields) (rule : StubRule) (rules : List (StubRule × DocumentFields)) (rest : Reading (Unit {0}))
+    (test : Bool) → (test ≡ true → Breaks rule main document) → (test ≡ false → Breaks rule main document → ⊥) → Judges main rules rest
+    → Judges main ((rule, document) ∷ rules) (cond test (broken document.line rule) rest)
+one_judged main document rule rules rest true met kept j =
+    record { before = []; document = document; behind = rules; parts = refl; kept = tt; breaks = met refl; here = refl }
+one_judged main document rule rules (Ok u) false met kept j = (kept refl, j)
+one_judged main document rule rules (Err fault) false met kept j =
+    behind_kept main ((rule, document) ∷ []) rules fault.rule fault.line (kept refl, tt) j
+
+-- a last test, which passes where the rule is kept
+last_judged : (main document : DocumentFields) (rule : StubRule) (test : Bool) → (test ≡ false → Breaks rule main document)
+    → (test ≡ true → Breaks rule main document → ⊥) → Judges main ((rule, document) ∷ []) (cond test (Ok tt) (broken document.line rule))
+last_judged main document rule true met kept = (kept refl, tt)
+last_judged main document rule false met kept =
+    record { before = []; document = document; behind = []; parts = refl; kept = tt; breaks = met refl; here = refl }
+
+-- some rules, and then others
+judged_then : (main : DocumentFields) (rules others : List (StubRule × DocumentFields)) (r s : Reading (Unit {0})) → Judges main rules r
+    → Judges main others s → Judges main (rules ++ others) (r >>= λ _. s)
+judged_then main rules others (Ok u) (Ok v) j k =
+    all_append (λ (one : StubRule × DocumentFields). Breaks one.0 main one.1 → ⊥) rules others j k
+judged_then main rules others (Ok u) (Err fault) j k = behind_kept main rules others fault.rule fault.line j k
+judged_then main rules others (Err fault) s j k = record {
+  before = j.before;
+  document = j.document;
+  behind = j.behind ++ others;
+  parts = ap (λ (all : List (StubRule × DocumentFields)). all ++ others) j.parts
+      ∙ append_assoc j.before ((fault.rule, j.document) ∷ j.behind) others;
+  kept = j.kept;
+  breaks = j.breaks;
+  here = j.here;
+}
 
 -- ---- the main library
 
-libraries_ok : (line : ℕ) (items : List ItemFields) (u : Unit {0}) → checked_libraries line items ≡ Ok u → (length items ≤ 1)
-    × AllByRecursion (λ (item : ItemFields). has_target item.targets ≡ true) items
-libraries_ok line [] u e = (omega arith, tt)
-libraries_ok line (item ∷ []) u e =
-    elim (chosen (has_target item.targets) (Ok tt) (broken line S8) (Ok u) e) [
-      | inl b ↦ (omega arith, (b.0, tt))
-      | inr b ↦ absurd (no_ok line S8 u b.1)
-    ]
-libraries_ok line (item ∷ other ∷ items) u e = absurd (no_ok line S7 u e)
+libraries_judged : (main : DocumentFields) (items : List ItemFields) → main.libraries ≡ items
+    → Judges main ((S7, main) ∷ (S8, main) ∷ []) (checked_libraries main.line items)
+libraries_judged main [] is =
+    let none : length main.libraries ≡ 0 = ap length is in (
+      (λ (many : 1 < length main.libraries). omega (arith, none, many)),
+      ((λ (any : Breaks S8 main main). let some = any.2 in omega (arith, none, some)), tt),
+    )
+libraries_judged main (item ∷ []) is =
+    one_judged main main S7 ((S8, main) ∷ []) (cond (has_target item.targets) (Ok tt) (broken main.line S8)) false (λ h. absurd cc)
+    (λ _ many. let one : length main.libraries ≡ 1 = ap length is in omega (arith, one, many))
+    (last_judged main main S8 (has_target item.targets) (λ h. subst NoTarget (sym is) (0, item, omega arith, refl, h))
+    (λ h any. here h (subst NoTarget is any)))
+  where
+    NoTarget : List ItemFields → Type 0
+    NoTarget items = Any (λ (one : ItemFields). has_target one.targets ≡ false) items
 
-libraries_back : (line : ℕ) (items : List ItemFields) → length items ≤ 1
-    → AllByRecursion (λ (item : ItemFields). has_target item.targets ≡ true) items → checked_libraries line items ≡ Ok tt
-libraries_back line [] few all = refl
-libraries_back line (item ∷ []) few all = ap (λ b. cond b (Ok tt) (broken line S8)) all.0
-libraries_back line (item ∷ other ∷ items) few all = absurd (omega arith)
+    here : has_target item.targets ≡ true → NoTarget (item ∷ []) → ⊥
+    here h (zero, one, within, at, other) = clash (has_target item.targets) h (ap (λ (i : ItemFields). has_target i.targets) at ∙ other)
+    here h (suc k, one, within, at, other) = omega (arith, within)
+libraries_judged main (item ∷ other ∷ items) is =
+    record {
+      before = [];
+      document = main;
+      behind = (S8, main) ∷ [];
+      parts = refl;
+      kept = tt;
+      breaks = let many = ap length is in omega (arith, many);
+      here = refl;
+    }
 
--- the first part of the main library's test
-pub main_steps : (main : DocumentFields) (r : Reading (Unit {0})) → checked_main main ≡ r
-    → ((r ≡ broken main.line S5) × (has_target main.targets ≡ false))
-    ⊎ ((has_target main.targets ≡ true) ×
-    (((r ≡ broken main.line S6) × (main.current_version ≡ []))
-    ⊎ ((main.current_version ≢ []) × (checked_libraries main.line main.libraries ≡ r))))
+main_judged : (main : DocumentFields)
+    → Judges main ((S5, main) ∷ (S6, main) ∷ (S7, main) ∷ (S8, main) ∷ []) (checked_main main)
 unfolding checked_main
-main_steps main r e =
-    elim (chosen (not (has_target main.targets)) (broken main.line S5)
-    (cond (eqb (length main.current_version) 0) (broken main.line S6) (checked_libraries main.line main.libraries)) r e) [
-      | inl b ↦ inl (sym b.1, not-true (has_target main.targets) b.0)
-      | inr b ↦ inr (
-        not-false (has_target main.targets) b.0,
-        elim (chosen (eqb (length main.current_version) 0) (broken main.line S6) (checked_libraries main.line main.libraries) r b.1) [
-          | inl d ↦ inl (sym d.1, nil_from_length main.current_version (eq_at _ _ d.0))
-          | inr d ↦ inr (empty_length main.current_version (ne_at _ _ d.0), d.1)
-        ],
-      )
-    ]
-
--- a main library that passes the tests is sound
-pub main_sound : (main : DocumentFields) (u : Unit {0}) → checked_main main ≡ Ok u → IsSoundMain main
-main_sound main u e =
-    elim (main_steps main (Ok u) e) [
-      | inl s ↦ absurd (no_ok main.line S5 u (sym s.0))
-      | inr s ↦ elim s.1 [
-        | inl t ↦ absurd (no_ok main.line S6 u (sym t.0))
-        | inr t ↦ let l = libraries_ok main.line main.libraries u t.1 in record
-            { for_target = s.0; versioned = t.0; one_group = l.0; group = l.1 }
-      ]
-    ]
-
--- and a sound one passes
-pub main_back : (main : DocumentFields) → IsSoundMain main → checked_main main ≡ Ok tt
-unfolding checked_main
-main_back main s =
-    ap (λ b. cond (not b) (broken main.line S5)
-    (cond (eqb (length main.current_version) 0) (broken main.line S6) (checked_libraries main.line main.libraries)))
-    s.for_target
-    ∙ ap (λ b. cond b (broken main.line S6) (checked_libraries main.line main.libraries))
-    (eq_false _ _ (some_length main.current_version s.versioned))
-    ∙ libraries_back main.line main.libraries s.one_group s.group
+main_judged main =
+    one_judged main main S5 ((S6, main) ∷ (S7, main) ∷ (S8, main) ∷ [])
+    (cond (eqb (length main.current_version) 0) (broken main.line S6) (checked_libraries main.line main.libraries))
+    (not (has_target main.targets)) (not-true (has_target main.targets))
+    (λ h other. clash (has_target main.targets) (not-false (has_target main.targets) h) other)
+    (one_judged main main S6 ((S7, main) ∷ (S8, main) ∷ []) (checked_libraries main.line main.libraries)
+    (eqb (length main.current_version) 0) (λ h. nil_from_length main.current_version (eq_at _ _ h)) (λ h none. ne_at _ _ h (ap length none))
+    (libraries_judged main main.libraries refl))
 
 -- ---- each document
 
--- a document that passes the tests is sound
-pub document_sound : (main document : DocumentFields) (u : Unit {0}) → checked_document main document ≡ Ok u
-    → IsSoundDocument main document
+document_judged : (main document : DocumentFields)
+    → Judges main ((S4, document) ∷ (S9, document) ∷ []) (checked_document main document)
 unfolding checked_document
-document_sound main document u e =
-    let b = not_broken (not (bytes_eq document.version (codes "4"))) document.line S4
-    (cond (same_document document main || is_listed document.install_name main.libraries) (Ok tt) (broken document.line S9)) u e in
-    elim (chosen (same_document document main || is_listed document.install_name main.libraries) (Ok tt) (broken document.line S9) (Ok u)
-    b.1) [
-      | inl d ↦ record {
-        version = same_bytes _ _ (not-false _ b.0);
-        belongs = either (same_document document main)
-            (is_listed document.install_name main.libraries) d.0 (document_same document main)
-            (listed document.install_name main.libraries);
-      }
-      | inr d ↦ absurd (no_ok document.line S9 u d.1)
-    ]
+document_judged main document =
+    one_judged main document S4 ((S9, document) ∷ [])
+    (cond (same_document document main || is_listed document.install_name main.libraries) (Ok tt) (broken document.line S9))
+    (not (bytes_eq document.version (codes "4")))
+    (λ h is. clash (bytes_eq document.version (codes "4")) (bytes_same _ _ is) (not-true _ h))
+    (λ h other. other (same_bytes _ _ (not-false _ h)))
+    (last_judged main document S9 (same_document document main || is_listed document.install_name main.libraries) breaks keeps)
+  where
+    breaks : (same_document document main || is_listed document.install_name main.libraries) ≡ false → Breaks S9 main document
+    breaks h =
+        let n = or_parts (same_document document main) (is_listed document.install_name main.libraries) h in (
+          (λ s. clash (same_document document main) (document_test document main s) n.0),
+          (λ l. clash (is_listed document.install_name main.libraries) (listed_back document.install_name main.libraries l) n.1),
+        )
 
--- and a sound one passes
-pub document_back : (main document : DocumentFields) → IsSoundDocument main document → checked_document main document ≡ Ok tt
-unfolding checked_document
-document_back main document s =
-    ap (λ b. cond (not b) (broken document.line S4)
-    (cond (same_document document main || is_listed document.install_name main.libraries) (Ok tt) (broken document.line S9)))
-    (bytes_same _ _ s.version)
-    ∙ ap (λ b. cond b (Ok tt) (broken document.line S9))
-    (or_from (same_document document main) (is_listed document.install_name main.libraries) s.belongs (document_test document main)
-    (listed_back document.install_name main.libraries))
+    by : (a b : Bool) → (a || b) ≡ true → (a ≡ true → SaySame document main) → (b ≡ true → IsListed document.install_name main.libraries)
+        → Breaks S9 main document → ⊥
+    by true b h f g other = other.0 (f refl)
+    by false b h f g other = other.1 (g h)
 
-documents_sound : (main : DocumentFields) (documents : List DocumentFields) (u : Unit {0}) → checked_documents main documents ≡ Ok u
-    → AllByRecursion (IsSoundDocument main) documents
+    keeps : (same_document document main || is_listed document.install_name main.libraries) ≡ true → Breaks S9 main document → ⊥
+    keeps h = by (same_document document main) (is_listed document.install_name main.libraries) h (document_same document main)
+        (listed document.install_name main.libraries)
+
+-- the rules on each document
+abbrev each_rule : DocumentFields → List (StubRule × DocumentFields)
+each_rule document = (S4, document) ∷ (S9, document) ∷ []
+
+documents_judged : (main : DocumentFields) (documents : List DocumentFields)
+    → Judges main (flat_map each_rule documents) (checked_documents main documents)
 unfolding checked_documents
-documents_sound main [] u e = tt
-documents_sound main (document ∷ documents) u e =
-    let b = bind_ok (checked_document main document) (λ _. checked_documents main documents) u e in
-    (document_sound main document b.0 b.1, documents_sound main documents u b.2)
+documents_judged main [] = tt
+documents_judged main (document ∷ documents) =
+    judged_then main (each_rule document) (flat_map each_rule documents) (checked_document main document) (checked_documents main documents)
+    (document_judged main document) (documents_judged main documents)
 
-documents_back : (main : DocumentFields) (documents : List DocumentFields) → AllByRecursion (IsSoundDocument main) documents
-    → checked_documents main documents ≡ Ok tt
-unfolding checked_documents
-documents_back main [] all = refl
-documents_back main (document ∷ documents) all =
-    ap (λ (reading : Reading (Unit {0})). reading >>= λ _. checked_documents main documents) (document_back main document all.0)
-    ∙ documents_back main documents all.1
+-- all that is checked
+abbrev checked : DocumentFields → List DocumentFields → Reading (Unit {0})
+checked main documents = checked_main main >>= λ _. checked_documents main documents
+
+all_judged : (main : DocumentFields) (documents : List DocumentFields) → Judges main (rules_of main documents) (checked main documents)
+all_judged main documents =
+    judged_then main ((S5, main) ∷ (S6, main) ∷ (S7, main) ∷ (S8, main) ∷ []) (flat_map each_rule documents) (checked_main main)
+    (checked_documents main documents) (main_judged main) (documents_judged main documents)
+
+-- ---- one answer
+
+-- where all rules are kept, none is the first that is broken
+none_broken : (main : DocumentFields) (rules : List (StubRule × DocumentFields)) (rule : StubRule) (line : ℕ) → KeepsAll main rules
+    → IsFirstBroken main rules rule line → ⊥
+none_broken main rules rule line kept first =
+    let K : List (StubRule × DocumentFields) → Type 0 = λ all. KeepsAll main all in
+    let at = all_behind (λ (one : StubRule × DocumentFields). Breaks one.0 main one.1 → ⊥) first.before
+    ((rule, first.document) ∷ first.behind)
+    (subst K first.parts kept) in
+    at.0 first.breaks
+
+same_split : (main : DocumentFields) (x y : StubRule × DocumentFields) (front other behind rest : List (StubRule × DocumentFields))
+    → front ++ x ∷ behind ≡ other ++ y ∷ rest → KeepsAll main front → KeepsAll main other → Breaks x.0 main x.1
+    → Breaks y.0 main y.1 → x ≡ y
+same_split main x y [] [] behind rest e k l a b = cc
+same_split main x y [] (o ∷ other) behind rest e k l a b =
+    let is : x ≡ o = cc in
+    let B : StubRule × DocumentFields → Type 0 = λ one. Breaks one.0 main one.1 in
+    absurd (l.0 (subst B is a))
+same_split main x y (f ∷ front) [] behind rest e k l a b =
+    let is : y ≡ f = cc in
+    let B : StubRule × DocumentFields → Type 0 = λ one. Breaks one.0 main one.1 in
+    absurd (k.0 (subst B is b))
+same_split main x y (f ∷ front) (o ∷ other) behind rest e k l a b =
+    let tails : front ++ x ∷ behind ≡ other ++ y ∷ rest = cc in
+    same_split main x y front other behind rest tails k.1 l.1 a b
+
+-- there is one first rule that is broken
+same_first : (main : DocumentFields) (rules : List (StubRule × DocumentFields)) (rule other : StubRule) (line at : ℕ)
+    → IsFirstBroken main rules rule line → IsFirstBroken main rules other at → broken {A = LibraryFields} line rule ≡ broken at other
+same_first main rules rule other line at f g =
+    let is : (rule, f.document) ≡ (other, g.document) =
+    same_split main (rule, f.document) (other, g.document) f.before g.before f.behind g.behind
+    (sym f.parts ∙ g.parts) f.kept g.kept f.breaks g.breaks in
+    let r : rule ≡ other = ap (λ (one : StubRule × DocumentFields). one.0) is in
+    let l : line ≡ at = f.here ∙ ap (λ (one : StubRule × DocumentFields). one.1.line) is ∙ sym g.here in
+    ap (λ n. broken n rule) l ∙ ap (broken at) r
 
 -- ---- the library
 
 -- the library of these documents
-abbrev pub made : DocumentFields → List DocumentFields → LibraryFields
+abbrev made : DocumentFields → List DocumentFields → LibraryFields
 made main documents = record {
   install_name = main.install_name;
   current_version = main.current_version;
-  symbols = gathered_texts false
-      documents;
+  symbols = gathered_texts false documents;
   weak_symbols = gathered_texts true documents;
 }
 
+computed : (main : DocumentFields) (others : List DocumentFields)
+    → library_of (main ∷ others) ≡ (checked main (main ∷ others) >>= λ _. Ok (made main (main ∷ others)))
+unfolding library_of
+computed main others = in_row (checked_main main) (checked_documents main (main ∷ others)) (Ok (made main (main ∷ others)))
+
 -- a library that is computed is what the documents make
 pub library_made : (documents : List DocumentFields) (library : LibraryFields) → library_of documents ≡ Ok library
-    → MakesOfTexts documents library
+    → MakesLibrary documents library
 unfolding library_of
 library_made [] library e = absurd (no_ok 1 S2 library e)
 library_made (main ∷ others) library e =
-    let b = bind_ok (checked_main main) (λ _. checked_documents main (main ∷ others) >>= λ _. Ok (made main (main ∷ others))) library e in
-    let d = bind_ok (checked_documents main (main ∷ others)) (λ _. Ok (made main (main ∷ others))) library b.2 in
-    let is : made main (main ∷ others) ≡ library = same_ok _ _ d.2 in
+    let documents = main ∷ others in
+    let b = bind_ok (checked main documents) (λ _. Ok (made main documents)) library (sym (computed main others) ∙ e) in
+    let is : made main documents ≡ library = same_ok _ _ b.2 in
+    let J : Reading (Unit {0}) → Type 0 = λ r. Judges main (rules_of main documents) r in
     record {
       main = main;
       others = others;
       first = refl;
-      sound = main_sound main b.0 b.1;
-      each = documents_sound main (main ∷ others) d.0 d.1;
+      sound = subst J b.1 (all_judged main documents);
       install_name = ap (λ l. l.install_name) (sym is);
       current_version = ap (λ l. l.current_version) (sym is);
-      symbols = ap (λ l. l.symbols) (sym is);
-      weak_symbols = ap (λ l. l.weak_symbols) (sym is);
+      symbols = ap (λ l. l.symbols) (sym is) ∙ gathers documents;
+      weak_symbols = ap (λ l. l.weak_symbols) (sym is) ∙ weak_gathers documents;
     }
 
-made_back : (main : DocumentFields) (others : List DocumentFields) → IsSoundMain main
-    → AllByRecursion (IsSoundDocument main) (main ∷ others) → library_of (main ∷ others) ≡ Ok (made main (main ∷ others))
+-- and a rule that is computed is the one that is told
+pub library_told : (documents : List DocumentFields) (line : ℕ) (rule : StubRule) → library_of documents ≡ broken line rule
+    → IsTold rule line documents
 unfolding library_of
-made_back main others sound each =
-    ap (λ (reading : Reading (Unit {0})). reading >>= λ _. checked_documents main (main ∷ others) >>= λ _. Ok (made main (main ∷ others)))
-    (main_back main sound)
-    ∙ ap (λ (reading : Reading (Unit {0})). reading >>= λ _. Ok (made main (main ∷ others))) (documents_back main (main ∷ others) each)
+library_told [] line rule e =
+    let f = same_err {A = LibraryFields} (record { line = 1; rule = S2 }) (record { line = line; rule = rule }) e in
+    (ap (λ (x : Fault). x.rule) (sym f), ap (λ (x : Fault). x.line) (sym f))
+library_told (main ∷ others) line rule e =
+    let documents = main ∷ others in
+    elim (bind_err (checked main documents) (λ _. Ok (made main documents)) line rule (sym (computed main others) ∙ e)) [
+      | inl b ↦ let J : Reading (Unit {0}) → Type 0 = λ r. Judges main (rules_of main documents) r in subst J b (all_judged main documents)
+      | inr b ↦ absurd (ok_not_told (made main documents) line rule b.2)
+    ]
 
--- and what they make is computed
-pub library_back : (documents : List DocumentFields) (library : LibraryFields) → MakesOfTexts documents library → library_of documents
+-- no rule is told of documents that make a library
+none_told : (documents : List DocumentFields) (library : LibraryFields) (rule : StubRule) (line : ℕ) → MakesLibrary documents library
+    → IsTold rule line documents → ⊥
+none_told [] library rule line m t = let e = m.first in absurd cc
+none_told (main ∷ others) library rule line m t =
+    let is : m.main ≡ main = same_head m.first in
+    let K : DocumentFields → Type 0 = λ d. KeepsAll d (rules_of d (main ∷ others)) in
+    none_broken main (rules_of main (main ∷ others)) rule line (subst K is m.sound) t
+  where
+    same_head : {x y : DocumentFields} {xs ys : List DocumentFields} → x ∷ xs ≡ y ∷ ys → y ≡ x
+    same_head e = cc
+
+-- documents make one library
+one_library : (documents : List DocumentFields) (a b : LibraryFields) → MakesLibrary documents a → MakesLibrary documents b → a ≡ b
+one_library documents a b m n =
+    let is : m.main ≡ n.main = same_head (sym m.first ∙ n.first) in
+    let i : a.install_name ≡ b.install_name = m.install_name ∙ ap (λ (d : DocumentFields). d.install_name) is ∙ sym n.install_name in
+    let c : a.current_version ≡ b.current_version =
+    m.current_version ∙ ap (λ (d : DocumentFields). d.current_version) is ∙ sym n.current_version in
+    let s : a.symbols ≡ b.symbols = m.symbols ∙ sym n.symbols in
+    let w : a.weak_symbols ≡ b.weak_symbols = m.weak_symbols ∙ sym n.weak_symbols in
+    ap (λ x. record a { install_name = x }) i ∙ ap (λ x. record a { install_name = b.install_name; current_version = x }) c
+    ∙ ap (λ x. record b { symbols = x; weak_symbols = a.weak_symbols }) s ∙ ap (λ x. record b { weak_symbols = x }) w
+  where
+    same_head : {x y : DocumentFields} {xs ys : List DocumentFields} → x ∷ xs ≡ y ∷ ys → x ≡ y
+    same_head e = cc
+
+-- What documents make is computed.
+pub library_back : (documents : List DocumentFields) (library : LibraryFields) → MakesLibrary documents library → library_of documents
     ≡ Ok library
-library_back documents library m =
-    let E : List DocumentFields → Type 0 = λ ds. AllByRecursion (IsSoundDocument m.main) ds in
-    let same : made m.main documents ≡ library =
-    ap (λ x. record {
-      install_name = x;
-      current_version = m.main.current_version;
-      symbols = gathered_texts false documents;
-      weak_symbols =
-          gathered_texts true documents;
-    }) (sym m.install_name)
-    ∙ ap (λ x. record {
-      install_name = library.install_name;
-      current_version = x;
-      symbols = gathered_texts false documents;
-      weak_symbols =
-          gathered_texts true documents;
-    }) (sym m.current_version)
-    ∙ ap (λ x. record {
-      install_name = library.install_name;
-      current_version = library.current_version;
-      symbols = x;
-      weak_symbols =
-          gathered_texts true documents;
-    }) (sym m.symbols)
-    ∙ ap (λ x. record {
-      install_name = library.install_name;
-      current_version = library.current_version;
-      symbols = library.symbols;
-      weak_symbols = x;
-    }) (sym m.weak_symbols) in
-    ap library_of m.first ∙ made_back m.main m.others m.sound (subst E m.first m.each) ∙ ap (λ ds. done (made m.main ds)) (sym m.first)
-    ∙ ap done same
+library_back documents library m = by (library_of documents) refl
+  where
+    by : (r : Reading LibraryFields) → library_of documents ≡ r → r ≡ Ok library
+    by (Ok other) e = ap (λ (l : LibraryFields). Ok l) (one_library documents other library (library_made documents other e) m)
+    by (Err fault) e = absurd (none_told documents library fault.rule fault.line m (library_told documents fault.line fault.rule e))
+
+-- The rule that is told of documents is computed.
+pub told_back : (documents : List DocumentFields) (rule : StubRule) (line : ℕ) → IsTold rule line documents
+    → library_of documents ≡ broken line rule
+unfolding library_of
+told_back [] rule line t = ap (λ n. broken {A = LibraryFields} n S2) (sym t.1) ∙ ap (λ r. broken {A = LibraryFields} line r) (sym t.0)
+told_back (main ∷ others) rule line t = by (library_of (main ∷ others)) refl
+  where
+    by : (r : Reading LibraryFields) → library_of (main ∷ others) ≡ r → r ≡ broken line rule
+    by (Ok library) e = absurd (none_told (main ∷ others) library rule line (library_made (main ∷ others) library e) t)
+    by (Err fault) e = same_first main (rules_of main (main ∷ others)) fault.rule rule fault.line line
+        (library_told (main ∷ others) fault.line fault.rule e) t

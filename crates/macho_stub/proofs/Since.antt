@@ -4,7 +4,7 @@
 -- Each line keeps this: by what the step over it leaves (`KeptLines`), a list is as it was or begins at the line. That
 -- a bracket may stand behind an open list is by reading it (`closing_stands`); that none may where no list is open is
 -- by reading too (`no_bracket_at_keys`, `no_bracket_at_item`).
-use Rattle.std.proofs.Common.{◌≡◌, ◌≢◌, ℕ, ◌+◌, Bool, true, false, List, [], ◌∷◌, ◌++◌, length, Option, Some, None, Ok, Err, refl, sym, ap, ◌∙◌, inl, inr, subst, append_assoc}
+use Rattle.std.proofs.Common.{◌≡◌, ◌≢◌, ℕ, ◌+◌, Bool, true, false, List, [], ◌∷◌, ◌++◌, length, Option, Some, None, Ok, Err, refl, sym, ap, ◌∙◌, inl, inr, subst}
 use Rattle.std.specs.Str.{bytes_eq}
 use Rattle.macho_stub_lines.specs.declared.fault.StubRule.TheVariants.{S1}
 use Rattle.macho_stub_lines.specs.declared.keys.ItemKind.{ItemKind}
@@ -14,19 +14,35 @@ use Rattle.macho_stub_lines.specs.Keys.{entry_at}
 use Rattle.macho_stub.specs.Documents.{ItemFields, DocumentFields}
 use Rattle.macho_stub.specs.steps.Opened.{OpenDocumentFields, head_at, with_items}
 use Rattle.macho_stub.specs.steps.Reader.{ItemListFields, NameListFields, ModeFields, Keys, Skipped, Names, NoItem, InsideFields, PlaceFields, Outside, Within, StateFields, stays, first_line, top_line, items_with_last, content_line, line_step, start, names_line, within}
-use Rattle.macho_stub.specs.Order.{MayStand, IsLastHead, IsOpenAlong, IsCutList, IsBareKey, unread_key, unread_item, closing_bracket}
-use Rattle.macho_stub.proofs.PutIn.{at_item, begun, close_steps, dash_steps}
+use Rattle.macho_stub.specs.Order.{MayStand, IsLastLine, unread_key, unread_item}
+use Rattle.macho_stub.proofs.Lasts.{IsHead, stays_last, is_last}
+use Rattle.macho_stub.proofs.PutIn.{closing_bracket, at_item, begun, close_steps, dash_steps}
 use Rattle.macho_stub.proofs.Joined.{IsLine}
 use Rattle.macho_stub.proofs.Reached.{Reached, reached_start, reached_more, may_stand, refused}
 use Rattle.macho_stub.proofs.Steps.{Closes, keys_state, top_steps, lacking_steps}
 use Rattle.macho_stub.proofs.Kept.{Began}
 use Rattle.macho_stub.proofs.KeptLines.{BehindState, NoBarePlace, inside_line_kept, names_line_no_bare, outside_kept, step_kinds}
 use Rattle.macho_stub_lines.proofs.Bind.{not_broken}
-use Rattle.macho_stub_lines.proofs.Runs.{all_append}
+
+-- no flow list is open before the line
+abbrev pub IsOutsideList : List (List ℕ) → List ℕ → Type 0
+IsOutsideList before line = MayStand before closing_bracket → ⊥
+
+-- the lines end inside a flow list that began at this number
+abbrev pub IsCutList : ℕ → List (List ℕ) → Type 0
+IsCutList number texts = MayStand texts closing_bracket × IsLastLine IsOutsideList number texts
+
+-- the line has content
+abbrev pub HasContent : List (List ℕ) → List ℕ → Type 0
+HasContent before line = is_passed line ≡ false
+
+-- the lines end at a key of items, at this number, under which none stands
+abbrev pub IsBareKey : ℕ → List (List ℕ) → Type 0
+IsBareKey number texts = MayStand texts unread_item × (MayStand texts unread_key → ⊥) × IsLastLine HasContent number texts
 
 abbrev pub HeadsAt : List (List ℕ) → PlaceFields → Type 0
 HeadsAt first Outside = Unit {0}
-HeadsAt first (Within inside) = IsLastHead inside.document.line first
+HeadsAt first (Within inside) = IsLastLine IsHead inside.document.line first
 
 abbrev pub ListMode : List (List ℕ) → ModeFields → Type 0
 ListMode first Keys = Unit {0}
@@ -50,58 +66,19 @@ known_start = record { reached = reached_start; heads = tt; lists = tt }
 
 -- ---- heads
 
-head_stays : (number : ℕ) (first : List (List ℕ)) (text : List ℕ) → IsLastHead number first → text ≢ head
-    → IsLastHead number (first ++ text ∷ [])
-head_stays number first text h n = record {
-  before = h.before;
-  behind = h.behind ++ text ∷ [];
-  parts = ap (λ (all : List (List ℕ)). all ++ text ∷ []) h.parts ∙ append_assoc h.before (head ∷ h.behind) (text ∷ []);
-  here = h.here;
-  none = all_append (λ (line : List ℕ). line ≢ head) h.behind (text ∷ []) h.none (n, tt);
-}
-
-head_here : (first : List (List ℕ)) (text : List ℕ) → text ≡ head → IsLastHead (length first + 1) (first ++ text ∷ [])
-head_here first text is = record {
-  before = first;
-  behind = [];
-  parts = ap (λ (line : List ℕ). first ++ line ∷ []) is;
-  here = refl;
-  none = tt;
-}
-
 passed_no_head : (text : List ℕ) → is_passed text ≡ true → text ≢ head
 unfolding is_passed is_blank_or_comment unspaced indent
 passed_no_head text h = λ is. absurd (let k = sym (ap is_passed is) ∙ h in cc)
 
 -- ---- flow lists
 
-open_more : (first more : List (List ℕ)) (text : List ℕ) → IsOpenAlong first more → MayStand (first ++ (more ++ text ∷ [])) closing_bracket
-    → IsOpenAlong first (more ++ text ∷ [])
-open_more first [] text a m = (a, m)
-open_more first (line ∷ more) text a m =
-    let M : List (List ℕ) → Type 0 = λ all. MayStand all closing_bracket in
-    (a.0, open_more (first ++ line ∷ []) more text a.1 (subst M (sym (append_assoc first (line ∷ []) (more ++ text ∷ []))) m))
-
 list_stays : (number : ℕ) (first : List (List ℕ)) (text : List ℕ) → IsCutList number first → MayStand (first ++ text ∷ []) closing_bracket
     → IsCutList number (first ++ text ∷ [])
-list_stays number first text c m =
-    let parts : first ++ text ∷ [] ≡ c.first ++ c.line ∷ (c.more ++ text ∷ []) = ap (λ (all : List (List ℕ)). all ++ text ∷ []) c.parts
-    ∙ append_assoc c.first (c.line ∷ c.more) (text ∷ []) in
-    let M : List (List ℕ) → Type 0 = λ all. MayStand all closing_bracket in
-    record {
-      first = c.first;
-      line = c.line;
-      more = c.more ++ text ∷ [];
-      parts = parts;
-      here = c.here;
-      before = c.before;
-      open_along = open_more (c.first ++ c.line ∷ []) c.more text c.open_along
-          (subst M (parts ∙ sym (append_assoc c.first (c.line ∷ []) (c.more ++ text ∷ []))) m);
-    }
+list_stays number first text c m = (m, stays_last IsOutsideList number first text c.1 (λ outside. outside c.0))
 
 list_here : (first : List (List ℕ)) (text : List ℕ) → (MayStand first closing_bracket → ⊥) → MayStand (first ++ text ∷ []) closing_bracket
     → IsCutList (length first + 1) (first ++ text ∷ [])
-list_here first text n m = record { first = first; line = text; more = []; parts = refl; here = refl; before = n; open_along = m }
+list_here first text n m = (m, is_last IsOutsideList first text n)
 
 -- behind a list that is open a bracket may stand
 pub closing_stands : (first : List (List ℕ)) (before : List DocumentFields) (document : OpenDocumentFields) (list : Option ItemListFields)
@@ -167,24 +144,18 @@ mode_passed first before document list Keys text p r l = tt
 mode_passed first before document list Skipped text p r l = tt
 mode_passed first before document list (Names names) text p r l = list_stays names.began first text l
     (closing_stands (first ++ text ∷ []) before document list names r)
-mode_passed first before document list (NoItem kind at) text p r l = record {
-  first = l.first;
-  line = l.line;
-  passed = l.passed ++ text ∷ [];
-  parts = ap (λ (all : List (List ℕ)). all ++ text ∷ []) l.parts ∙ append_assoc l.first (l.line ∷ l.passed) (text ∷ []);
-  here = l.here;
-  content = l.content;
-  no_content = all_append (λ (line : List ℕ). is_passed line ≡ true) l.passed (text ∷ []) l.no_content (p, tt);
-  items = item_stands (first ++ text ∷ []) before document list kind at r;
-  no_key = no_unread_key_at_item (first ++ text ∷ []) before document list kind at r;
-}
+mode_passed first before document list (NoItem kind at) text p r l = (
+  item_stands (first ++ text ∷ []) before document list kind at r,
+  no_unread_key_at_item (first ++ text ∷ []) before document list kind at r,
+  stays_last HasContent at first text l.2 (λ content. let both = sym p ∙ content in cc),
+)
 
 place_passed : (first : List (List ℕ)) (before : List DocumentFields) (place : PlaceFields) (text : List ℕ) → is_passed text ≡ true
     → Reached (first ++ text ∷ []) (record { documents = before; place = place }) → HeadsAt first place → ListsAt first place
     → HeadsAt (first ++ text ∷ []) place × ListsAt (first ++ text ∷ []) place
 place_passed first before Outside text p r h l = (tt, tt)
 place_passed first before (Within inside) text p r h l = (
-  head_stays inside.document.line first text h (passed_no_head text p),
+  stays_last IsHead inside.document.line first text h (passed_no_head text p),
   mode_passed first before inside.document inside.list inside.mode text p r l,
 )
 
@@ -198,17 +169,12 @@ new_list first before document list Skipped text p n r b = tt
 new_list first before document list (Names names) text p n r b =
     let C : ℕ → Type 0 = λ k. IsCutList k (first ++ text ∷ []) in
     subst C (sym b) (list_here first text n (closing_stands (first ++ text ∷ []) before document list names r))
-new_list first before document list (NoItem kind at) text p n r b = record {
-  first = first;
-  line = text;
-  passed = [];
-  parts = refl;
-  here = b;
-  content = p;
-  no_content = tt;
-  items = item_stands (first ++ text ∷ []) before document list kind at r;
-  no_key = no_unread_key_at_item (first ++ text ∷ []) before document list kind at r;
-}
+new_list first before document list (NoItem kind at) text p n r b =
+    let L : ℕ → Type 0 = λ k. IsLastLine HasContent k (first ++ text ∷ []) in (
+      item_stands (first ++ text ∷ []) before document list kind at r,
+      no_unread_key_at_item (first ++ text ∷ []) before document list kind at r,
+      subst L (sym b) (is_last HasContent first text p),
+    )
 
 -- a list that goes on, or is closed
 old_list : (first : List (List ℕ)) (before : List DocumentFields) (document : OpenDocumentFields) (list : Option ItemListFields)
@@ -228,11 +194,11 @@ at_new_head : (first : List (List ℕ)) (inside : InsideFields) (text : List ℕ
     → HeadsAt (first ++ text ∷ []) (Within inside) × ListsAt (first ++ text ∷ []) (Within inside)
 at_new_head first inside text is at =
     let P : InsideFields → Type 0 = λ i. HeadsAt (first ++ text ∷ []) (Within i) × ListsAt (first ++ text ∷ []) (Within i) in
-    subst P (sym at) (head_here first text is, tt)
+    subst P (sym at) (is_last IsHead first text is, tt)
 
 -- what a line inside a document leaves
 behind_inside : (first : List (List ℕ)) (next : StateFields) (text : List ℕ) (number began : ℕ) → Reached (first ++ text ∷ []) next
-    → IsLastHead number first → BehindState number began (length first + 1) text next
+    → IsLastLine IsHead number first → BehindState number began (length first + 1) text next
     → ((document : OpenDocumentFields) (list : Option ItemListFields) (mode : ModeFields)
     → Reached (first ++ text ∷ []) (record { documents = next.documents; place = Within (stays document list mode) })
     → next.place ≡ Within (stays document list mode) → Began began mode → ListMode (first ++ text ∷ []) mode)
@@ -246,9 +212,9 @@ behind_inside first next text number began r h b k = by_place next.place refl b
     by_place (Within inside) is b =
         elim b [
           | inl o ↦
-              let H : ℕ → Type 0 = λ n. IsLastHead n (first ++ text ∷ []) in
+              let H : ℕ → Type 0 = λ n. IsLastLine IsHead n (first ++ text ∷ []) in
               let R : PlaceFields → Type 0 = λ p. Reached (first ++ text ∷ []) (record { documents = next.documents; place = p }) in (
-                subst H (sym o.1.0) (head_stays number first text h o.0),
+                subst H (sym o.1.0) (stays_last IsHead number first text h o.0),
                 k inside.document inside.list inside.mode (subst R is r) is o.1.1,
               )
           | inr o ↦ at_new_head first inside text o.0 o.1
@@ -287,7 +253,7 @@ place_more : (first : List (List ℕ)) (before : List DocumentFields) (place : P
 place_more first before Outside next text p k r e =
     let o = outside_kept before (length first + 1) text next e in
     let P : StateFields → Type 0 = λ s. HeadsAt (first ++ text ∷ []) s.place × ListsAt (first ++ text ∷ []) s.place in
-    subst P o.1 (head_here first text o.0, tt)
+    subst P o.1 (is_last IsHead first text o.0, tt)
 place_more first before (Within inside) next text p k r e = inside_more first before inside.document inside.list inside.mode next text p k
     r e
 

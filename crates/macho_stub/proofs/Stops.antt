@@ -8,11 +8,12 @@ use Rattle.std.specs.Str.Lines.{lines}
 use Rattle.std.proofs.lemmas.List.{append-nil}
 use Rattle.macho_stub_lines.specs.declared.fault.StubRule.{StubRule}
 use Rattle.macho_stub_lines.specs.declared.fault.StubRule.TheVariants.{S1, S2}
+use Rattle.macho_stub_lines.specs.Bytes.{indent, unspaced, is_passed, has_barred, is_blank_or_comment, end}
 use Rattle.macho_stub_lines.specs.Faults.{Fault, broken}
 use Rattle.macho_stub.specs.Documents.{documents_texts, DocumentFields}
 use Rattle.macho_stub.specs.steps.Opened.{OpenDocumentFields, with_items}
 use Rattle.macho_stub.specs.steps.Reader.{ItemListFields, ModeFields, Keys, Skipped, Names, NoItem, PlaceFields, Outside, Within, StateFields, stays, with_whole, items_with_last, line_step, ended, ended_document, ended_inside, lines_from, start, documents_of}
-use Rattle.macho_stub.specs.Order.{IsLastHead, IsWhyAtEnd, StopsAt, BreaksOff}
+use Rattle.macho_stub.specs.Order.{LacksInItem, LacksInDocument, EndsWithout, IsLastLine, IsWhyAtEnd, StopsAt, BreaksOff}
 use Rattle.macho_stub_lines.proofs.Bind.{no_ok}
 use Rattle.macho_stub.proofs.Ruling.{bind_err, same_err, ok_not_told}
 use Rattle.macho_stub.proofs.FineLines.{AnyOf, lacking_at}
@@ -24,6 +25,7 @@ use Rattle.macho_stub.proofs.Trees.{to_read}
 use Rattle.macho_stub.proofs.Reached.{goes_on, refused, length_more}
 use Rattle.macho_stub.proofs.Steps.{Closes, keys_state}
 use Rattle.macho_stub.proofs.Lacking.{lacks_item, lacks_document}
+use Rattle.macho_stub.proofs.Lasts.{IsHead}
 use Rattle.macho_stub.proofs.Since.{Known, known_start, known_more}
 use Rattle.macho_stub.proofs.Elsewhere.{line_why}
 use Rattle.macho_stub.proofs.Only.{documents_read}
@@ -35,14 +37,23 @@ same_why : (at : ℕ) (rule : StubRule) (texts : List (List ℕ)) (fault : Fault
     → IsWhyAtEnd fault.rule fault.line texts → IsWhyAtEnd rule at texts
 same_why at rule texts fault e w = let P : Fault → Type 0 = λ f. IsWhyAtEnd f.rule f.line texts in subst P (sym e) w
 
+-- a line that ends the document would end what lacks a key
+lacking_item : (texts : List (List ℕ)) → LacksInItem texts → EndsWithout texts end
+unfolding has_barred is_passed is_blank_or_comment unspaced indent
+lacking_item texts l = record { clean = refl; lacks = inl (l, inl (refl, refl)) }
+
+lacking_document : (texts : List (List ℕ)) → LacksInDocument texts → EndsWithout texts end
+unfolding has_barred
+lacking_document texts l = record { clean = refl; lacks = inr (l, inr refl) }
+
 document_why : (texts : List (List ℕ)) (before : List DocumentFields) (document whole : OpenDocumentFields) (list : Option ItemListFields)
     (skipped : Bool) (at : ℕ) (rule : StubRule) → Known texts (keys_state before document list skipped) → Closes list document whole
     → whole.line ≡ document.line → with_whole before whole ≡ broken at rule → IsWhyAtEnd rule at texts
 document_why texts before document whole list skipped at rule k c same e =
     let q = at_line AnyOf (lacking_at whole.line) (with_whole before whole) at rule (with_whole_fine before whole) e in
-    let H : ℕ → Type 0 = λ n. IsLastHead n texts in
+    let H : ℕ → Type 0 = λ n. IsLastLine IsHead n texts in
     same_why at rule texts (record { line = whole.line; rule = S2 }) q
-    (subst H (sym same) k.heads, inr (lacks_document texts before document whole list skipped at rule k.reached c e))
+    (subst H (sym same) k.heads, lacking_document texts (lacks_document texts before document whole list skipped at rule k.reached c e))
 
 keys_why : (texts : List (List ℕ)) (before : List DocumentFields) (document : OpenDocumentFields) (list : Option ItemListFields)
     (skipped : Bool) (at : ℕ) (rule : StubRule) → Known texts (keys_state before document list skipped)
@@ -53,7 +64,7 @@ keys_why texts before document (Some list) skipped at rule k e =
       | inl b ↦ same_why at rule texts (record { line = document.line; rule = S2 })
           (at_line AnyOf (lacking_at document.line) (items_with_last document.line list) at rule (items_with_last_fine document.line list)
           b)
-          (k.heads, inl (lacks_item texts before document list skipped at rule k.reached b))
+          (k.heads, lacking_item texts (lacks_item texts before document list skipped at rule k.reached b))
       | inr b ↦ document_why texts before document (with_items list.kind b.0 document) (Some list) skipped at rule k (b.0, b.1, refl)
           (items_line list.kind b.0 document) b.2
     ]

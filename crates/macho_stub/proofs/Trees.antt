@@ -16,6 +16,7 @@ use Rattle.macho_stub.proofs.Readings.{IsReadText, content_from}
 use Rattle.macho_stub.proofs.Mappings.{documents_fold, documents_unfold}
 use Rattle.macho_stub.proofs.TreesRead.{read_lines, read_document, documents_lines, documents_read}
 use Rattle.macho_stub.proofs.TreesFoundTop.{documents_found}
+use Rattle.macho_stub.proofs.Unders.{documents_old, new_tree, documents_lines as new_lines, documents_new}
 use Rattle.macho_stub_lines.proofs.Places.{same_lines}
 use Rattle.macho_stub_lines.proofs.Runs.{all_made, all_made_of}
 
@@ -72,12 +73,13 @@ AreClean texts = AllByRecursion IsClean texts
 
 -- what is in the grammar is a text as it is read
 pub to_read : (text : List ℕ) (says : List (DocumentOf Slice)) → IsStubText text says → IsReadText text (documents_texts says)
-to_read text says is = record {
-  clean = subst AreClean (same_lines text) (all_made IsClean line_text (lines_of text) is.clean);
-  trees = map read_document is.trees;
-  lines_of = sym (content_lines text) ∙ ap read_lines is.lines ∙ documents_lines is.trees;
-  documents = documents_read is.trees says (documents_fold is.trees says is.documents);
-}
+to_read text says is =
+    let o = documents_old is.trees says is.documents in record {
+      clean = subst AreClean (same_lines text) (all_made IsClean line_text (lines_of text) is.clean);
+      trees = map read_document o.olds;
+      lines_of = sym (content_lines text) ∙ ap read_lines (is.lines ∙ sym o.lines) ∙ documents_lines o.olds;
+      documents = documents_read o.olds says (documents_fold o.olds says o.are);
+    }
 
 -- and a text as it is read is in the grammar
 pub of_read : (text : List ℕ) (says : List DocumentFields) → IsReadText text says
@@ -87,9 +89,9 @@ of_read text says is =
       d.says,
       record {
         clean = all_made_of IsClean line_text (lines_of text) (subst AreClean (sym (same_lines text)) is.clean);
-        trees = d.trees;
-        lines = d.parts;
-        documents = documents_unfold d.trees d.says d.are_documents;
+        trees = map new_tree d.trees;
+        lines = d.parts ∙ sym (new_lines d.trees);
+        documents = documents_new d.trees d.says (documents_unfold d.trees d.says d.are_documents);
       },
       d.are,
     )

@@ -16,7 +16,8 @@ use Rattle.macho_stub_lines.specs.ReadLists.{ReadLine, read_line}
 use Rattle.macho_stub.specs.Documents.{ItemOf, ItemFields, item_texts}
 use Rattle.macho_stub.specs.steps.Opened.{OpenItemOf, OpenItemFields, no_item, with_key}
 use Rattle.macho_stub.specs.steps.Whole.{whole_item}
-use Rattle.macho_stub.specs.Grammar.{IsSkipped, ItemEntry, entries_then, item_value_at, is_deeper, ItemTree, item_then, items_then}
+use Rattle.macho_stub.specs.Grammar.{entries_then, ItemTree, item_then, items_then}
+use Rattle.macho_stub.specs.steps.Trees.{IsSkipped, ItemEntry, item_value_at, is_deeper}
 use Rattle.macho_stub.proofs.Folded.{GivesNames, ItemValue, IsItemEntry, ItemEntries, IsItem, AreItems}
 use Rattle.macho_stub.proofs.Readings as read
 use Rattle.macho_stub.proofs.TreeTexts.{items_texts, open_item_texts, has_key_texts, with_key_texts, whole_item_found}

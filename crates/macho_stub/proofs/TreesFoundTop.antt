@@ -15,7 +15,8 @@ use Rattle.macho_stub.specs.Documents.{ItemOf, ItemFields, DocumentOf, DocumentF
 use Rattle.macho_stub.specs.steps.Opened.{OpenDocumentOf, OpenDocumentFields, head_at, with_items}
 use Rattle.macho_stub.specs.steps.Whole.{whole_document}
 use Rattle.macho_stub_lines.specs.Bytes.{head, end, belongs_to_top}
-use Rattle.macho_stub.specs.Grammar.{ItemTree, Under, Lines, Listed, under_then, TopEntry, top_entries_then, DocumentTree, end_then, documents_then}
+use Rattle.macho_stub.specs.Grammar.{ItemTree, end_then}
+use Rattle.macho_stub.specs.steps.Trees.{Under, Lines, Listed, under_then, TopEntry, top_entries_then, DocumentTree, documents_then}
 use Rattle.macho_stub.proofs.Folded.{AreItems, AreItemsUnder, TopValue, TopEntries, AreDocuments}
 use Rattle.macho_stub.proofs.Readings as read
 use Rattle.macho_stub.proofs.TreeTexts.{items_texts, open_texts, is_some_texts, has_items_texts, with_items_texts, whole_document_found}

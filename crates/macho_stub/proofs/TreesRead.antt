@@ -16,7 +16,8 @@ use Rattle.macho_stub_lines.specs.Keys.{top_key, item_key}
 use Rattle.macho_stub_lines.specs.ReadLists.{ReadLine, read_line}
 use Rattle.macho_stub.specs.Documents.{ItemOf, DocumentOf, item_texts, documents_texts}
 use Rattle.macho_stub.specs.steps.Opened.{OpenItemOf, OpenDocumentOf, no_item, head_at}
-use Rattle.macho_stub.specs.Grammar.{IsSkipped, ItemEntry, entries_then, is_deeper, item_value_at, ItemTree, column_of, items_then, Under, Lines, Listed, under_then, TopEntry, top_entries_then, IsSkippedUnder, IsListUnder, DocumentTree, end_then, documents_then}
+use Rattle.macho_stub.specs.Grammar.{entries_then, ItemTree, column_of, items_then, end_then}
+use Rattle.macho_stub.specs.steps.Trees.{IsSkipped, ItemEntry, is_deeper, item_value_at, Under, Lines, Listed, under_then, TopEntry, top_entries_then, IsSkippedUnder, IsListUnder, DocumentTree, documents_then}
 use Rattle.macho_stub.proofs.Folded.{GivesNames, ItemValue, IsItemEntry, ItemEntries, IsItem, AreItems, AreItemsUnder, TopValue, TopEntries, AreDocuments}
 use Rattle.macho_stub.proofs.Readings as read
 use Rattle.macho_stub.proofs.TreeTexts.{items_texts, open_item_texts, open_texts, is_some_texts, has_key_texts, with_key_texts, has_items_texts, with_items_texts, whole_item_reads, whole_document_reads}

@@ -3,7 +3,7 @@
 -- value do. What is known of an item or a document keeps the property with each entry.
 -- An item or a document is whole where what it must have is known; so what it says are slices too, and what it doesn't
 -- say is the empty text, which stands everywhere.
-use Rattle.std.proofs.Common.{◌≡◌, ℕ, ◌+◌, List, [], ◌∷◌, ◌++◌, replicate, Option, Some, None, refl, sym, subst, arith}
+use Rattle.std.proofs.Common.{◌≡◌, ℕ, ◌+◌, List, [], ◌∷◌, ◌++◌, replicate, Option, Some, None, refl, sym, ◌∙◌, subst, arith}
 use Rattle.std.specs.Prelude.{unwrap_or}
 use Rattle.std.specs.List.{AllByRecursion}
 use Rattle.std.proofs.lemmas.List.{length-replicate}
@@ -20,9 +20,11 @@ use Rattle.macho_stub_lines.specs.Keys.{top_key, item_key}
 use Rattle.macho_stub.specs.Documents.{ItemOf, DocumentOf}
 use Rattle.macho_stub.specs.steps.Opened.{OpenItemOf, OpenDocumentOf, no_item, head_at, with_key, with_items}
 use Rattle.macho_stub.specs.Answer.{ItemStands, DocumentStands}
-use Rattle.macho_stub.specs.Grammar.{ItemEntry, entries_then, item_value_at, ItemTree, column_of, item_then, items_then, Under, Lines, Listed, under_then, TopEntry, top_entries_then, IsListUnder, DocumentTree, end_then, documents_then, no_text, IsStubText}
+use Rattle.macho_stub.specs.Grammar.{entries_then, ItemTree, column_of, item_then, items_then, end_then, no_text, IsStubText}
+use Rattle.macho_stub.specs.steps.Trees.{ItemEntry, item_value_at, Under, Lines, Listed, under_then, TopEntry, top_entries_then, IsListUnder, DocumentTree, documents_then}
 use Rattle.macho_stub.proofs.Folded.{GivesNames, ItemValue, ItemEntries, AreNamesOf, IsWholeItem, IsItem, AreItems, AreItemsUnder, TopValue, TopEntries, IsWholeDocument, AreDocuments}
 use Rattle.macho_stub.proofs.Mappings.{documents_fold}
+use Rattle.macho_stub.proofs.Unders.{documents_old}
 use Rattle.macho_stub_lines.proofs.Places.{scalar_stands, number_stands, value_stands, list_stands, content_stand, behind_stands, LineStands}
 use Rattle.macho_stub_lines.proofs.Runs.{all_front, all_behind}
 
@@ -321,5 +323,7 @@ documents_stand input (tree ∷ trees) (one ∷ says) a l =
 
 -- each text that the grammar has of a document is a slice of the input
 pub text_stands : (input : List ℕ) (says : List (DocumentOf Slice)) → IsStubText input says → AllByRecursion (DocumentStands input) says
-text_stands input says is = documents_stand input is.trees says (documents_fold is.trees says is.documents)
-    (subst (LinesStand input) is.lines (content_stand input))
+text_stands input says is =
+    let o = documents_old is.trees says is.documents in
+    documents_stand input o.olds says (documents_fold o.olds says o.are)
+    (subst (LinesStand input) (is.lines ∙ sym o.lines) (content_stand input))

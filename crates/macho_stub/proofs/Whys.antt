@@ -16,7 +16,7 @@ use Rattle.macho_stub_lines.specs.Keys.{Entry, entry_at, top_key, item_key}
 use Rattle.macho_stub.specs.Documents.{ItemFields, DocumentFields}
 use Rattle.macho_stub.specs.steps.Opened.{OpenDocumentFields, with_items, has_key, no_item}
 use Rattle.macho_stub.specs.steps.Reader.{ItemListFields, InsideFields, StateFields, names_value, top_entry, item_entry, item_key_line, key_column, first_line, with_whole, items_with_last, key_line, belongs}
-use Rattle.macho_stub.specs.Order.{MayStand, EndsWithout, IsLastHead, IsWhy, unread_key, in_column}
+use Rattle.macho_stub.specs.Order.{MayStand, EndsWithout, IsLastLine, IsWhy, unread_key, in_column}
 use Rattle.macho_stub_lines.proofs.Bind.{eq_false, chosen}
 use Rattle.macho_stub.proofs.Ruling.{bind_err, same_err}
 use Rattle.macho_stub.proofs.OnlyLines.{top_indent}
@@ -32,6 +32,7 @@ use Rattle.macho_stub.proofs.Twice.{twice_at_top, twice_in_item}
 use Rattle.macho_stub.proofs.Outsides.{no_item_lacks, ends_nothing, no_key_twice, flush, value_at_top, value_in_column, dash_no_key, dash_no_end, deep_no_end, no_deeper_key}
 use Rattle.macho_stub.proofs.NoNext.{no_next, column_steps}
 use Rattle.macho_stub.proofs.Kept.{items_line}
+use Rattle.macho_stub.proofs.Lasts.{IsHead}
 use Rattle.macho_stub.proofs.Since.{Known}
 
 abbrev WhyOf : ℕ → List (List ℕ) → List ℕ → Fault → Type 0
@@ -51,7 +52,7 @@ top_why : (first : List (List ℕ)) (before : List DocumentFields) (document who
     → IsWhy rule at first text
 top_why first before document whole list skipped text at rule k c clean l same deep (Ends ends w) =
     let q = at_line AnyOf (lacking_at whole.line) (with_whole before whole) at rule (with_whole_fine before whole) w in
-    let H : ℕ → Type 0 = λ n. IsLastHead n first in
+    let H : ℕ → Type 0 = λ n. IsLastLine IsHead n first in
     same_why at rule first text (record { line = whole.line; rule = S2 }) q (
       subst H (sym same) k.heads,
       record { clean = clean; lacks = inr (lacks_document first before document whole list skipped at rule k.reached c w, ends) },

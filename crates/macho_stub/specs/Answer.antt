@@ -14,7 +14,7 @@ use Rattle.macho_stub.specs.Order.{BreaksOff}
 pub record IsStub (text : List ℕ) (library : LibraryFields) : Type 0 where
   pub says : List (DocumentOf Slice)
   pub in_grammar : IsStubText text says
-  pub makes : MakesLibrary says library
+  pub makes : MakesLibrary (documents_texts says) library
 
 -- The texts of an item stand in the text at their places, and so do those of a document.
 pub record ItemStands (text : List ℕ) (item : ItemOf Slice) : Type 0 where

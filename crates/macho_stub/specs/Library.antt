@@ -1,37 +1,19 @@
 -- The library that the documents of a stub text make: its names, and the symbols as they are gathered.
-use Rattle.std.specs.Prelude.{ℕ, Bool, true, false, List, [], ◌++◌, if◌then◌else◌, codes}
-use Rattle.std.specs.List.{flat_map, list_any}
+use Rattle.std.specs.Prelude.{ℕ, Bool, List, ◌++◌, codes}
+use Rattle.std.specs.List.{flat_map, filter, list_any}
 use Rattle.std.specs.Str.{bytes_eq}
 use Rattle.macho_stub.specs.declared.library.DefinedStubLibrary.{DefinedStubLibrary}
 use Rattle.macho_stub_lines.specs.Lists.{texts}
-use Rattle.macho_stub_lines.specs.Slices.{Slice, texts_of}
-use Rattle.macho_stub.specs.Documents.{ItemOf, DocumentOf}
+use Rattle.macho_stub.specs.Documents.{ItemFields, DocumentFields}
 
--- the target that is linked for
-abbrev pub target : List ℕ
-target = codes "arm64e-macos"
-
--- the targets hold it
+-- the targets hold the one that is linked for
 unfoldable pub has_target : List (List ℕ) → Bool
-has_target targets = list_any (λ name. bytes_eq name target) targets
+has_target targets = list_any (λ name. bytes_eq name (codes "arm64e-macos")) targets
 
--- the symbols of an item, or its weak ones
-abbrev pub picked : {T : Type 0} → Bool → ItemOf T → List T
-picked false item = item.names
-picked true item = item.weak_names
-
--- the same, if the item is for the target
-abbrev pub picked_for_target : Bool → ItemOf Slice → List Slice
-picked_for_target weak item = if has_target (texts_of item.targets) then picked weak item else []
-
--- those of a document: of its exports, and then of its reexports
-abbrev pub picked_of_document : Bool → DocumentOf Slice → List Slice
-picked_of_document weak document =
-    flat_map (picked_for_target weak) document.exports ++ flat_map (picked_for_target weak) document.reexports
-
--- those of all documents
-abbrev pub gathered : Bool → List (DocumentOf Slice) → List Slice
-gathered weak documents = flat_map (picked_of_document weak) documents
+-- These names of the items that are for the target: by document, those of its exports and then those of its reexports.
+abbrev pub gathered : (ItemFields → List (List ℕ)) → List DocumentFields → List (List ℕ)
+gathered names documents =
+    flat_map (λ d. flat_map names (filter (λ item. has_target item.targets) (d.exports ++ d.reexports))) documents
 
 -- what a library's documents say of it
 pub record LibraryFields : Type 0 where

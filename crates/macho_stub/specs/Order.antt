@@ -29,17 +29,22 @@ MayStand first line = MayBegin (first ++ line ∷ [])
 abbrev pub in_column : ℕ → List ℕ → List ℕ
 in_column column text = replicate column space ++ text
 
--- a line with a key that isn't read
+-- a line with a key that isn't read, and the first line of an item with such a key
 abbrev pub unread_key : List ℕ
 unread_key = codes "a: a"
 
--- the first line of an item, with such a key
 abbrev pub unread_item : List ℕ
 unread_item = codes "- a: a"
 
--- the end of a flow list
-abbrev pub closing_bracket : List ℕ
-closing_bracket = codes "]"
+-- This is the number of the last line of which `IsSo` holds, with the lines before it.
+pub record IsLastLine (IsSo : List (List ℕ) → List ℕ → Type 0) (number : ℕ) (texts : List (List ℕ)) : Type 0 where
+  pub first : List (List ℕ)
+  pub line : List ℕ
+  pub more : List (List ℕ)
+  pub parts : texts ≡ first ++ line ∷ more
+  pub here : number ≡ length first + 1
+  pub so : IsSo first line
+  pub none : (a b : List (List ℕ)) (other : List ℕ) → more ≡ a ++ other ∷ b → IsSo (first ++ line ∷ a) other → ⊥
 
 -- ---- a key is lacking
 
@@ -51,38 +56,20 @@ LacksInItem first = (line : List ℕ) → is_passed line ≡ false → indent li
 abbrev pub LacksInDocument : List (List ℕ) → Type 0
 LacksInDocument first = MayStand first unread_key × (MayStand first head → ⊥) × (MayStand first end → ⊥)
 
--- a key that an item must have, with an empty list
-abbrev pub IsNeeded : List ℕ → Type 0
-IsNeeded key = (key ≡ codes "targets: []") ⊎ (key ≡ codes "libraries: []")
-
--- The line begins a next item: with the keys that are lacking put in, a dash may stand in its column.
+-- The line begins a next item: with the keys that are lacking put in, each with an empty list, a dash may stand in its column.
 pub record IsNextItem (first : List (List ℕ)) (line : List ℕ) : Type 0 where
   pub dash : has_dash line ≡ true
   pub column : ℕ
   pub keys : List (List ℕ)
-  pub needed : AllByRecursion IsNeeded keys
+  pub needed : AllByRecursion (λ key. (key ≡ codes "targets: []") ⊎ (key ≡ codes "libraries: []")) keys
   pub begins : MayStand (first ++ map (in_column column) keys) (in_column (indent line) unread_item)
 
--- an item ends at a line at column 0, or where the next one begins
-abbrev pub EndsItem : List (List ℕ) → List ℕ → Type 0
-EndsItem first line = ((is_passed line ≡ false) × (indent line ≡ 0)) ⊎ IsNextItem first line
-
--- a document ends at its end, or where the next one begins
-abbrev pub EndsDocument : List ℕ → Type 0
-EndsDocument line = (line ≡ head) ⊎ (line ≡ end)
-
--- The line ends an item or a document that lacks a key.
+-- The line ends an item that lacks a key, which ends at a line at column 0 or where the next one begins; or a document that
+-- lacks one, which ends at its end or where the next one begins.
 pub record EndsWithout (first : List (List ℕ)) (line : List ℕ) : Type 0 where
   pub clean : has_barred line ≡ false
-  pub lacks : (LacksInItem first × EndsItem first line) ⊎ (LacksInDocument first × EndsDocument line)
-
--- The last head among the lines is at this number.
-pub record IsLastHead (number : ℕ) (texts : List (List ℕ)) : Type 0 where
-  pub before : List (List ℕ)
-  pub behind : List (List ℕ)
-  pub parts : texts ≡ before ++ head ∷ behind
-  pub here : number ≡ length before + 1
-  pub none : AllByRecursion (λ line. line ≢ head) behind
+  pub lacks : (LacksInItem first × (((is_passed line ≡ false) × (indent line ≡ 0)) ⊎ IsNextItem first line))
+      ⊎ (LacksInDocument first × ((line ≡ head) ⊎ (line ≡ end)))
 
 -- ---- a key stands twice
 
@@ -98,10 +85,10 @@ pub record StandsTwice (first : List (List ℕ)) (line : List ℕ) : Type 0 wher
 -- ---- the first fault
 
 -- Why a line may not stand behind these: of a line outside the grammar, and of a second key, the line itself is told,
--- and of a lacking key the first line of its document.
+-- and of a lacking key the first line of its document, which is the last head.
 abbrev pub IsWhy : StubRule → ℕ → List (List ℕ) → List ℕ → Type 0
 IsWhy S1 number first line = (number ≡ length first + 1) × (EndsWithout first line → ⊥) × (StandsTwice first line → ⊥)
-IsWhy S2 number first line = IsLastHead number first × EndsWithout first line
+IsWhy S2 number first line = IsLastLine (λ before other. other ≡ head) number first × EndsWithout first line
 IsWhy S3 number first line = (number ≡ length first + 1) × StandsTwice first line
 IsWhy rule number first line = ⊥
 
@@ -115,38 +102,15 @@ pub record StopsAt (texts : List (List ℕ)) (number : ℕ) (rule : StubRule) : 
   pub stuck : MayStand first line → ⊥
   pub why : IsWhy rule number first line
 
--- behind these lines, and behind each of the further ones, a flow list may be closed
-abbrev pub IsOpenAlong : List (List ℕ) → List (List ℕ) → Type 0
-IsOpenAlong first [] = MayStand first closing_bracket
-IsOpenAlong first (line ∷ more) = MayStand first closing_bracket × IsOpenAlong (first ++ line ∷ []) more
-
--- The lines end inside a flow list that began at this number: from that line on, and not before it, a list may be
--- closed.
-pub record IsCutList (number : ℕ) (texts : List (List ℕ)) : Type 0 where
-  pub first : List (List ℕ)
-  pub line : List ℕ
-  pub more : List (List ℕ)
-  pub parts : texts ≡ first ++ line ∷ more
-  pub here : number ≡ length first + 1
-  pub before : MayStand first closing_bracket → ⊥
-  pub open_along : IsOpenAlong (first ++ line ∷ []) more
-
--- The lines end at a key of items, at this number, under which none stands: an item may stand there, and no key.
-pub record IsBareKey (number : ℕ) (texts : List (List ℕ)) : Type 0 where
-  pub first : List (List ℕ)
-  pub line : List ℕ
-  pub passed : List (List ℕ)
-  pub parts : texts ≡ first ++ line ∷ passed
-  pub here : number ≡ length first + 1
-  pub content : is_passed line ≡ false
-  pub no_content : AllByRecursion (λ other. is_passed other ≡ true) passed
-  pub items : MayStand texts unread_item
-  pub no_key : MayStand texts unread_key → ⊥
-
--- Why a text that goes on may not end here.
+-- Why a text that goes on may not end here. It ends inside a flow list: a line `]` may stand here, and the list begins at the
+-- last line in whose stead none may stand. Or an item may stand here and no key: the last line with content is a key of items,
+-- and no item stands under it. Or a key is lacking: a line `...` here would end an item or a document that lacks one.
 abbrev pub IsWhyAtEnd : StubRule → ℕ → List (List ℕ) → Type 0
-IsWhyAtEnd S1 number texts = IsCutList number texts ⊎ IsBareKey number texts
-IsWhyAtEnd S2 number texts = IsLastHead number texts × (LacksInItem texts ⊎ LacksInDocument texts)
+IsWhyAtEnd S1 number texts =
+    (MayStand texts (codes "]") × IsLastLine (λ before line. MayStand before (codes "]") → ⊥) number texts)
+    ⊎ (MayStand texts unread_item × (MayStand texts unread_key → ⊥)
+    × IsLastLine (λ before line. is_passed line ≡ false) number texts)
+IsWhyAtEnd S2 number texts = IsLastLine (λ before line. line ≡ head) number texts × EndsWithout texts end
 IsWhyAtEnd rule number texts = ⊥
 
 -- All lines may stand, but the text may not end behind them.

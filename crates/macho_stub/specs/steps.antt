@@ -3,4 +3,5 @@ pub mod Answer
 pub mod Checks
 pub mod Opened
 pub mod Reader
+pub mod Trees
 pub mod Whole

@@ -7,8 +7,8 @@ ghost use Rattle.macho_stub_lines.specs.declared.fault.StubFault.TheVariants.{Ou
 ghost use Rattle.macho_stub_lines.specs.Faults.{Gives};
 ghost use Rattle.macho_stub_lines.specs.Lists.{texts};
 ghost use Rattle.macho_stub.specs.steps.Opened.{item_of, items_of, document_of};
-ghost use Rattle.macho_stub.specs.Library.{has_target, picked, library_fields};
-ghost use Rattle.macho_stub.specs.steps.Checks.{texts_for_target, texts_of_document, is_listed, holds, gathered_texts, same_names, same_item, same_items, same_document, checked_libraries, checked_main, checked_document, checked_documents, library_of};
+ghost use Rattle.macho_stub.specs.Library.{has_target, library_fields};
+ghost use Rattle.macho_stub.specs.steps.Checks.{picked, texts_for_target, texts_of_document, is_listed, holds, gathered_texts, same_names, same_item, same_items, same_document, checked_libraries, checked_main, checked_document, checked_documents, library_of};
 
 use crate::document::{Document, Item};
 use macho_stub_lines::fault::{StubFault, StubRule};

@@ -2,6 +2,7 @@ pub mod Bind
 pub mod Cuts
 pub mod EntryTrees
 pub mod Found
+pub mod ListDerived
 pub mod ListTrees
 pub mod ListTreesFound
 pub mod ListTreesReads

@@ -9,9 +9,11 @@ use Rattle.macho_stub_lines.specs.declared.list.Expect.TheVariants.{AfterOpen}
 use Rattle.macho_stub_lines.specs.Bytes.{open_bracket, end}
 use Rattle.macho_stub_lines.specs.Slices.{Slice, Line, texts_of}
 use Rattle.macho_stub_lines.specs.Lists.{list_part, with_front}
-use Rattle.macho_stub_lines.specs.FlowLists.{Block, bytes_then, between_then, followed_then, final_then, ListTree, IsFlowList, slices_of}
+use Rattle.macho_stub_lines.specs.FlowLists.{Block, bytes_then, IsFlowList}
+use Rattle.macho_stub_lines.specs.steps.ListTrees.{between_then, followed_then, final_then, ListTree, slices_of, IsTreeList}
 use Rattle.macho_stub_lines.specs.ReadLists.{ReadLine, read_line, GoesOn, IsReadList}
 use Rattle.macho_stub_lines.proofs.Runs.{all_made, all_made_of}
+use Rattle.macho_stub_lines.proofs.ListDerived.{list_of_tree, tree_of_list}
 use Rattle.macho_stub_lines.proofs.ListTreesShape.{closing, texts_in, slices_say, list_remains, remains_spread}
 use Rattle.macho_stub_lines.proofs.ListTreesReads.{remains_read}
 use Rattle.macho_stub_lines.proofs.ListTreesFound.{read_remains}
@@ -38,7 +40,7 @@ list_found number at value more names read =
     ap (λ (head : List ℕ). record { head = head; more = more }) (behind_bracket value read.bracket) in
     let spelled = e ∙ ap (bytes_then (open_bracket ∷ [])) (spread.spelled ∙ ap (between_then spread.between) scalars.spelled) in (
       slices_of at tree,
-      record {
+      list_of_tree at value more (slices_of at tree) (record {
         tree = tree;
         tail = scalars.tail;
         spelled = spelled;
@@ -46,14 +48,14 @@ list_found number at value more names read =
         inside = all_made_of InList read_line more read.inside;
         ends = scalars.ends;
         is = refl;
-      },
+      }),
       slices_say scalars.followed scalars.final _ ∙ scalars.say ∙ sym found.are,
     )
 
 -- The tree of a list is read, with the texts of its scalars.
-pub list_reads : (number at : ℕ) (value : List ℕ) (more : List Line) (says : List Slice) → IsFlowList at value more says
+tree_reads : (number at : ℕ) (value : List ℕ) (more : List Line) (says : List Slice) → IsTreeList at value more says
     → IsReadList number value (map read_line more) (texts_of says)
-list_reads number at value more says list =
+tree_reads number at value more says list =
     let rest : Block = between_then list.tree.opening (followed_then list.tree.followed (final_then list.tree.final (closing list.tail))) in
     let names = texts_in list.tree.followed list.tree.final in
     let reads = remains_read false rest names (list_remains list.tree list.tail list.sound list.ends) AfterOpen refl number [] in
@@ -70,3 +72,8 @@ list_reads number at value more says list =
       goes_on = goes_on;
       inside = all_made InList read_line more list.inside;
     }
+
+-- A list is read, with the texts of its scalars.
+pub list_reads : (number at : ℕ) (value : List ℕ) (more : List Line) (says : List Slice) → IsFlowList at value more says
+    → IsReadList number value (map read_line more) (texts_of says)
+list_reads number at value more says list = tree_reads number at value more says (tree_of_list at value more says list)

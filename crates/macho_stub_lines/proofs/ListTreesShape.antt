@@ -9,7 +9,8 @@ use Rattle.macho_stub_lines.specs.Bytes.{space, comma, close_bracket, is_tail}
 use Rattle.macho_stub_lines.specs.Slices.{texts_of}
 use Rattle.macho_stub_lines.specs.steps.Spelling.{text_of}
 use Rattle.macho_stub_lines.specs.Spelling.{scalar_bytes}
-use Rattle.macho_stub_lines.specs.FlowLists.{Block, bytes_then, turn_then, Between, Spaces, Turn, Followed, Final, ListTree, between_then, followed_then, final_then, IsBetween, IsFollowed, IsFinal, IsListTree, slices_from}
+use Rattle.macho_stub_lines.specs.FlowLists.{Block, bytes_then, turn_then}
+use Rattle.macho_stub_lines.specs.steps.ListTrees.{Between, Spaces, Turn, Followed, Final, ListTree, between_then, followed_then, final_then, IsBetween, IsFollowed, IsFinal, IsListTree, slices_from}
 use Rattle.macho_stub_lines.proofs.ScalarTrees.{slice_text}
 use Rattle.macho_stub_lines.proofs.ListTreesTails.{tail_spaced}
 use Rattle.macho_stub_lines.proofs.ListTreesRemains.{Remains, Gap, Turned, Comma, Name, Close, ending}

@@ -13,7 +13,9 @@ use Rattle.std.proofs.Math.Seq.{take-append_seam, drop-append_seam}
 use Rattle.macho_stub_lines.specs.Bytes.{space, comma, colon, zero_digit, open_bracket, close_bracket, single_quote, double_quote, line_feed, is_passed}
 use Rattle.macho_stub_lines.specs.Slices.{Slice, StandsIn, Line, lines_of_parts, lines_of, content_of}
 use Rattle.macho_stub_lines.specs.Spelling.{ScalarTree, Plain, Single, Double, scalar_bytes, slice_of, IsScalarValue, IsNumberValue, Behind, NoValue, Value, behind_bytes, value_in, gap_of, EntryTree, entry_bytes, value_at, value_of}
-use Rattle.macho_stub_lines.specs.FlowLists.{Block, bytes_then, Between, Spaces, Turn, Followed, Final, between_then, followed_then, final_then, behind_between, slices_from, IsFlowList}
+use Rattle.macho_stub_lines.specs.FlowLists.{Block, bytes_then, IsFlowList}
+use Rattle.macho_stub_lines.proofs.ListDerived.{tree_of_list}
+use Rattle.macho_stub_lines.specs.steps.ListTrees.{Between, Spaces, Turn, Followed, Final, between_then, followed_then, final_then, behind_between, slices_from}
 
 -- ---- a text in the input
 
@@ -159,7 +161,8 @@ pub list_stands : (input : List ℕ) (at : ℕ) (value : List ℕ) (more : List 
     → StandsIn input (record { at = at; text = value })
     → AllByRecursion (λ line. StandsIn input (record { at = line.at; text = line.text })) more
     → IsFlowList at value more says → AllByRecursion (StandsIn input) says
-list_stands input at value more says head lines l =
+list_stands input at value more says head lines list =
+    let l = tree_of_list at value more says list in
     let B : Block → Type 0 = λ block. BlockStands input at block in
     let A : List Slice → Type 0 = λ slices. AllByRecursion (λ slice. StandsIn input slice) slices in
     let end = bytes_then (close_bracket ∷ []) (record { head = l.tail; more = [] }) in

@@ -1,5 +1,5 @@
--- Flow lists as trees: scalars in brackets, parted by commas, that may go on over lines.
-use Rattle.std.specs.Prelude.{◌≡◌, ◌≢◌, ℕ, ◌+◌, true, List, [], ◌∷◌, ◌++◌, length, replicate, Option, None, Some, IfSome}
+-- Flow lists: scalars in brackets, parted by commas, that may go on over lines.
+use Rattle.std.specs.Prelude.{◌≡◌, ◌≢◌, ℕ, ◌+◌, true, List, [], ◌∷◌, ◌++◌, length, replicate}
 use Rattle.std.specs.List.{AllByRecursion}
 use Rattle.macho_stub_lines.specs.Bytes.{space, comma, open_bracket, close_bracket, end, is_tail}
 use Rattle.macho_stub_lines.specs.Slices.{Slice, Line}
@@ -21,96 +21,37 @@ abbrev pub turn_then : List ℕ → ℕ → ℕ → Block → Block
 turn_then tail number at rest = record
     { head = tail; more = record { number = number; at = at; text = rest.head } ∷ rest.more }
 
--- ---- the tree
+-- ---- lists
 
--- What may stand between the parts of a list: spaces; or the rest of a line, which is spaces and a comment at most,
--- and on the next line, of this number and at this place, again what may stand between. (Blank lines and lines of a
--- comment alone aren't among the lines of a list.)
-pub data Between : Type 0 where
-  Spaces : ℕ → Between
-  Turn : List ℕ → ℕ → ℕ → Between → Between
+-- What may stand between the parts of a list, at this place, in front of the rest, which begins at the other place: spaces; or
+-- the rest of a line, which is spaces and a comment at most, and on the next line again what may stand between. (Blank lines and
+-- lines of a comment alone aren't among the lines of a list.)
+pub data IsGap : ℕ → Block → ℕ → Block → Type 0 where
+  spaces : (at count : ℕ) (rest : Block) → IsGap at (bytes_then (replicate count space) rest) (at + count) rest
+  turn : (at behind number next : ℕ) (tail : List ℕ) (block rest : Block) → is_tail tail ≡ true → IsGap next block behind rest
+      → IsGap at (turn_then tail number next block) behind rest
 
--- A scalar that a comma follows, with what stands before and behind the comma.
-pub record Followed : Type 0 where
-  pub scalar : ScalarTree
-  pub before : Between
-  pub behind : Between
-
--- A last scalar that no comma follows, with what stands behind it.
-pub record Final : Type 0 where
-  pub scalar : ScalarTree
-  pub behind : Between
-
--- A list: what stands behind its bracket, the scalars that a comma follows, and perhaps one more.
-pub record ListTree : Type 0 where
-  pub opening : Between
-  pub followed : List Followed
-  pub final : Option Final
-
--- how these are spelled in front of what follows
-abbrev pub between_then : Between → Block → Block
-between_then (Spaces count) rest = bytes_then (replicate count space) rest
-between_then (Turn tail number at between) rest = turn_then tail number at (between_then between rest)
-
-abbrev pub followed_then : List Followed → Block → Block
-followed_then [] rest = rest
-followed_then (one ∷ others) rest = bytes_then (scalar_bytes one.scalar) (between_then one.before
-    (bytes_then (comma ∷ []) (between_then one.behind (followed_then others rest))))
-
-abbrev pub final_then : Option Final → Block → Block
-final_then None rest = rest
-final_then (Some one) rest = bytes_then (scalar_bytes one.scalar) (between_then one.behind rest)
-
-abbrev pub list_then : ListTree → Block → Block
-list_then tree rest = bytes_then (open_bracket ∷ []) (between_then tree.opening
-    (followed_then tree.followed (final_then tree.final (bytes_then (close_bracket ∷ []) rest))))
-
--- ---- when it is sound
-
-abbrev pub IsBetween : Between → Type 0
-IsBetween (Spaces count) = Unit {0}
-IsBetween (Turn tail number at between) = (is_tail tail ≡ true) × IsBetween between
-
-pub record IsFollowed (one : Followed) : Type 0 where
-  pub scalar : IsScalar one.scalar
-  pub before : IsBetween one.before
-  pub behind : IsBetween one.behind
-
-pub record IsFinal (one : Final) : Type 0 where
-  pub scalar : IsScalar one.scalar
-  pub behind : IsBetween one.behind
-
-pub record IsListTree (tree : ListTree) : Type 0 where
-  pub opening : IsBetween tree.opening
-  pub followed : AllByRecursion IsFollowed tree.followed
-  pub final : IfSome tree.final IsFinal
-
--- ---- what it says
-
--- the place behind what stands between, where that begins at this place
-abbrev pub behind_between : ℕ → Between → ℕ
-behind_between at (Spaces count) = at + count
-behind_between at (Turn tail number next between) = behind_between next between
-
--- the scalars, from this place on
-abbrev pub slices_from : ℕ → List Followed → Option Final → List Slice
-slices_from at [] None = []
-slices_from at [] (Some one) = slice_of at one.scalar ∷ []
-slices_from at (one ∷ others) final =
-    let comma_at : ℕ = behind_between (at + length (scalar_bytes one.scalar)) one.before in
-    slice_of at one.scalar ∷ slices_from (behind_between (comma_at + 1) one.behind) others final
-
--- the scalars of a list that begins at this place
-abbrev pub slices_of : ℕ → ListTree → List Slice
-slices_of at tree = slices_from (behind_between (at + 1) tree.opening) tree.followed tree.final
+-- The scalars of a list, at this place, and their texts, in front of the rest: behind each stands a comma, which the last one
+-- may lack.
+pub data AreScalars : ℕ → Block → List Slice → Block → Type 0 where
+  none : (at : ℕ) (rest : Block) → AreScalars at rest [] rest
+  last : (at behind : ℕ) (scalar : ScalarTree) (block rest : Block) → IsScalar scalar
+      → IsGap (at + length (scalar_bytes scalar)) block behind rest
+      → AreScalars at (bytes_then (scalar_bytes scalar) block) (slice_of at scalar ∷ []) rest
+  next : (at comma_at next_at : ℕ) (scalar : ScalarTree) (before behind others rest : Block) (says : List Slice) → IsScalar scalar
+      → IsGap (at + length (scalar_bytes scalar)) before comma_at (bytes_then (comma ∷ []) behind)
+      → IsGap (comma_at + 1) behind next_at others → AreScalars next_at others says rest
+      → AreScalars at (bytes_then (scalar_bytes scalar) before) (slice_of at scalar ∷ says) rest
 
 -- The value, which begins at this place, and the lines under it are a list of these scalars, and behind its closing
 -- bracket stands nothing but spaces and a comment. A line `...` ends the document, so none is of the list.
 pub record IsFlowList (at : ℕ) (value : List ℕ) (more : List Line) (says : List Slice) : Type 0 where
-  pub tree : ListTree
+  pub opened : Block
+  pub spelled : record { head = value; more = more } ≡ bytes_then (open_bracket ∷ []) opened
+  pub first_at : ℕ
+  pub scalars : Block
+  pub gap : IsGap (at + 1) opened first_at scalars
   pub tail : List ℕ
-  pub spelled : record { head = value; more = more } ≡ list_then tree (record { head = tail; more = [] })
-  pub sound : IsListTree tree
-  pub inside : AllByRecursion (λ line. line.text ≢ end) more
+  pub are : AreScalars first_at scalars says (bytes_then (close_bracket ∷ []) (record { head = tail; more = [] }))
   pub ends : is_tail tail ≡ true
-  pub is : says ≡ slices_of at tree
+  pub inside : AllByRecursion (λ line. line.text ≢ end) more

@@ -11,9 +11,14 @@ use Rattle.std.specs.BTreeSet.{BTreeSet, contains_by}
 use Rattle.macho_stub_lines.specs.declared.fault.StubRule.TheVariants.{S2, S4, S5, S6, S7, S8, S9}
 use Rattle.macho_stub_lines.specs.Faults.{Reading, broken, ◌>>=◌}
 use Rattle.macho_stub.specs.Documents.{ItemFields, DocumentFields}
-use Rattle.macho_stub.specs.Library.{has_target, picked, LibraryFields}
+use Rattle.macho_stub.specs.Library.{has_target, LibraryFields}
 
--- the symbols of an item, or its weak ones, if the item is for the target
+-- the symbols of an item, or its weak ones
+abbrev pub picked : Bool → ItemFields → List (List ℕ)
+picked false item = item.names
+picked true item = item.weak_names
+
+-- the same, if the item is for the target
 abbrev pub texts_for_target : Bool → ItemFields → List (List ℕ)
 texts_for_target weak item = if has_target item.targets then picked weak item else []
 
