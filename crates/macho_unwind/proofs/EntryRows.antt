@@ -6,6 +6,7 @@
 -- so the LSDAs of a start are its entry's.
 use Rattle.std.proofs.Common.{◌≡◌, ◌≢◌, ℕ, zero, suc, ◌+◌, ◌-◌, ◌*◌, ◌/◌, ◌%◌, ◌^◌, ◌<◌, ◌≤◌, List, [], ◌∷◌, length, get_or, map, slice_index, Option, Some, None, IfSome, sym, ap, subst, ◌∙◌, refl, arith, inl, inr}
 use Rattle.std.specs.List.{Contains, All, AllPairs, flat_map, slice_get}
+use Rattle.std.specs.List.Sorted.{IsPermutation}
 use Rattle.std.specs.Option.{option_map}
 use Rattle.std.proofs.lemmas.Bool.{cases_lt}
 use Rattle.std.proofs.lemmas.List.{get_or-map, get_or_default, length-map}
@@ -16,12 +17,40 @@ use Rattle.macho_unwind_pages.specs.declared.entries.Personality.{Personality}
 use Rattle.macho_unwind_pages.specs.declared.plans.Lsda.{Lsda}
 use Rattle.macho_unwind_pages.specs.Entries.{AreEntries, inputs_of, ids_of, place_in, number_in, IsLast}
 use Rattle.macho_unwind_pages.specs.declared.paging.Row.{Row}
-use Rattle.macho_unwind_pages.specs.Plans.{PlanList, rows_of, row_from, lsda_at, lsda_from, IsPlanOf, HasSlot}
+use Rattle.macho_unwind_pages.specs.Plans.{PlanList, IsPlan, IsPlanOf, row_from, HasSlot}
+use Rattle.macho_unwind_pages.specs.steps.Words.{rows_of}
+use Rattle.macho_unwind_pages.specs.steps.Planning.{lsda_at, lsda_list}
+use Rattle.macho_unwind_pages.proofs.Divided.{rows_are}
+use Rattle.macho_unwind_pages.proofs.Planned.{lsdas_told}
 use Rattle.macho_unwind.specs.Sections.{personality_in, without_personality}
 use Rattle.macho_unwind.specs.steps.Says.{NamesSlot, IsLsdaOf, PlanSays}
 use Rattle.macho_unwind.specs.Entries.{found_for, IsEntryOf}
 use Rattle.macho_unwind.proofs.Members.{found_in, found_from}
 use Rattle.macho_unwind.proofs.Greatest.{top-of}
+
+-- A plan of entries that can be written, by the functions that its words tell.
+pub record IsMadeOf (text : ℕ) (entries : List ResolvedUnwindInfo) (plan : PlanList) : Type 0 where
+  pub formed : IsPlan plan
+  pub run : List ResolvedUnwindInfo
+  pub same : IsPermutation entries run
+  pub rising : AllPairs (λ e f. e.start < f.start) run
+  pub rows : rows_of plan ≡ map (row_from text (ids_of (inputs_of entries))) run
+  pub slots : All (HasSlot text (ids_of (inputs_of entries)) plan.personalities) entries
+  pub lsdas : plan.lsdas ≡ flat_map (lsda_list text) run
+  pub end : All (λ e. IsLast entries e → plan.end ≡ e.start + e.length - text) entries
+
+pub made_of : (text : ℕ) (entries : List ResolvedUnwindInfo) (plan : PlanList) → AreEntries text entries → IsPlanOf text entries plan
+    → IsPlan plan → IsMadeOf text entries plan
+made_of text entries plan are a formed = record {
+  formed = formed;
+  run = a.run;
+  same = a.same;
+  rising = a.rising;
+  rows = rows_are text entries plan are a;
+  slots = a.slots;
+  lsdas = a.lsdas ∙ lsdas_told text a.run;
+  end = a.end;
+}
 
 -- the bits of a code, and what is left without them
 code-bits : (encoding number : ℕ) → encoding / 2 ^ 28 % 4 ≡ 0 → number ≤ 3 → personality_in (encoding + 2 ^ 28 * number) ≡ number
@@ -49,11 +78,11 @@ slot-named slots ids text (Some p) has = record {
 }
 
 -- an entry of the run is an entry, and the other way round
-pub in_run : (text : ℕ) (entries : List ResolvedUnwindInfo) (plan : PlanList) (p : IsPlanOf text entries plan) (e : ResolvedUnwindInfo)
+pub in_run : (text : ℕ) (entries : List ResolvedUnwindInfo) (plan : PlanList) (p : IsMadeOf text entries plan) (e : ResolvedUnwindInfo)
     → Contains entries e → Contains p.run e
 in_run text entries plan p e c = Contains-permutation entries p.run e p.same c
 
-pub from_run : (text : ℕ) (entries : List ResolvedUnwindInfo) (plan : PlanList) (p : IsPlanOf text entries plan) (e : ResolvedUnwindInfo)
+pub from_run : (text : ℕ) (entries : List ResolvedUnwindInfo) (plan : PlanList) (p : IsMadeOf text entries plan) (e : ResolvedUnwindInfo)
     → Contains p.run e → Contains entries e
 from_run text entries plan p e c = Contains-permutation p.run entries e (IsPermutation-sym entries p.run p.same) c
 
@@ -95,7 +124,7 @@ unmapped f xs d y (k, lt, is) =
 
 -- the row of an entry is there
 pub row-of-entry : (text : ℕ) (entries : List ResolvedUnwindInfo) (plan : PlanList)
-    (p : IsPlanOf text entries plan) (e : ResolvedUnwindInfo)
+    (p : IsMadeOf text entries plan) (e : ResolvedUnwindInfo)
     → Contains entries e
     → Contains (rows_of plan) (row_from text (ids_of (inputs_of entries)) e)
 row-of-entry text entries plan p e c =
@@ -103,7 +132,7 @@ row-of-entry text entries plan p e c =
     subst (λ (rows : List Row). Contains rows (row e)) (sym p.rows) (mapped row p.run e (in_run text entries plan p e c))
 
 -- a row that is there is that of an entry
-pub entry-of-row : (text : ℕ) (entries : List ResolvedUnwindInfo) (plan : PlanList) (p : IsPlanOf text entries plan)
+pub entry-of-row : (text : ℕ) (entries : List ResolvedUnwindInfo) (plan : PlanList) (p : IsMadeOf text entries plan)
     (d : ResolvedUnwindInfo) (row : Row)
     → Contains (rows_of plan) row
     → IsMapped (row_from text (ids_of (inputs_of entries))) entries row
@@ -113,11 +142,11 @@ entry-of-row text entries plan p d row c =
 
 -- the LSDAs of a start
 lsda-listed : (text : ℕ) (run : List ResolvedUnwindInfo) (e : ResolvedUnwindInfo) (address : ℕ) → Contains run e → e.lsda ≡ Some address
-    → Contains (flat_map (lsda_from text) run) (record { function = e.start - text; lsda = address - text })
+    → Contains (flat_map (lsda_list text) run) (record { function = e.start - text; lsda = address - text })
 lsda-listed text run e address (k, lt, is) has =
     let lsda : Lsda = record { function = e.start - text; lsda = address - text } in
-    let one : lsda_from text (get_or run k e) ≡ lsda ∷ [] = ap (lsda_from text) is ∙ ap (lsda_at text e.start) has in
-    found_from (lsda_from text) run e lsda (record {
+    let one : lsda_list text (get_or run k e) ≡ lsda ∷ [] = ap (lsda_list text) is ∙ ap (lsda_at text e.start) has in
+    found_from (lsda_list text) run e lsda (record {
       item = k;
       place = 0;
       there = lt;
@@ -138,12 +167,12 @@ lsda-some text start o k none lt = absurd (omega (arith, ap (λ (q : Option ℕ)
 lsda-unlisted : (text : ℕ) (run : List ResolvedUnwindInfo) (e : ResolvedUnwindInfo)
     → AllPairs (λ x y. x.start < y.start) run → Contains run e
     → ((f : ResolvedUnwindInfo) → Contains run f → text ≤ f.start) → e.lsda ≡ None
-    → All (λ l. l.function ≢ e.start - text) (flat_map (lsda_from text) run)
+    → All (λ l. l.function ≢ e.start - text) (flat_map (lsda_list text) run)
 lsda-unlisted text run e rising one above none i d lt same =
-    let lsdas = flat_map (lsda_from text) run in
+    let lsdas = flat_map (lsda_list text) run in
     let l : Lsda = get_or lsdas i d in
     let c : Contains lsdas l = (i, lt, get_or_default lsdas i l d lt) in
-    let at = found_in (lsda_from text) run e l c in
+    let at = found_in (lsda_list text) run e l c in
     let f : ResolvedUnwindInfo = get_or run at.item e in
     let there : Contains run f = (at.item, at.there, get_or_default run at.item f e at.there) in
     let told = lsda-told text f.start f.lsda at.place l at.within in
@@ -155,7 +184,7 @@ lsda-unlisted text run e rising one above none i d lt same =
 lsda-said : (text : ℕ) (run : List ResolvedUnwindInfo) (e : ResolvedUnwindInfo) (o : Option ℕ)
     → AllPairs (λ x y. x.start < y.start) run → Contains run e
     → ((f : ResolvedUnwindInfo) → Contains run f → text ≤ f.start) → e.lsda ≡ o
-    → IsLsdaOf (flat_map (lsda_from text) run) (e.start - text) (option_map (λ address. address - text) o)
+    → IsLsdaOf (flat_map (lsda_list text) run) (e.start - text) (option_map (λ address. address - text) o)
 lsda-said text run e None rising one above is = lsda-unlisted text run e rising one above is
 lsda-said text run e (Some address) rising one above is = lsda-listed text run e address one is
 
@@ -178,7 +207,7 @@ last-of text entries e are one =
 -- the plan says of an offset what its entry says
 pub said-of-entry : (text : ℕ) (entries : List ResolvedUnwindInfo) (plan : PlanList) (offset : ℕ) (e : ResolvedUnwindInfo)
     → AreEntries text entries
-    → IsPlanOf text entries plan → IsEntryOf text entries offset e → PlanSays plan offset (found_for text e)
+    → IsMadeOf text entries plan → IsEntryOf text entries offset e → PlanSays plan offset (found_for text e)
 said-of-entry text entries plan offset e are p of =
     let ids = ids_of (inputs_of entries) in
     let has = holds_of (HasSlot text ids plan.personalities) entries e p.slots of.one in

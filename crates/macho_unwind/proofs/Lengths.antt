@@ -15,7 +15,8 @@ use Rattle.macho_bytes.proofs.Layouts.{length-spelling}
 use Rattle.macho_unwind_pages.specs.declared.plans.Lsda.{Lsda}
 use Rattle.macho_unwind_pages.specs.Plans.{PageList, PlanList, page_size, size_of}
 use Rattle.macho_unwind.specs.Layouts.{compact_unwind_info_header, page_entry, compressed_page, lsda_entry}
-use Rattle.macho_unwind.specs.Texts.{header_for, entry_for, entry_text, last_entry_for, lsda_for, lsda_text, head_for, page_text, section_text}
+use Rattle.macho_unwind.specs.Texts.{header_for, entry_for, last_entry_for, lsda_for, head_for, page_text, section_text}
+use Rattle.macho_unwind.specs.steps.Tables.{entry_text, lsda_text}
 
 -- the header has 28 bytes
 pub length-header_text : (plan : PlanList) → length (spelling compact_unwind_info_header (header_for plan)) ≡ 28

@@ -14,12 +14,14 @@ use Rattle.macho_unwind_pages.specs.Plans.{PlanList, IsPlan}
 use Rattle.macho_unwind.specs.declared.records.PageEntry.{PageEntry}
 use Rattle.macho_unwind.specs.declared.records.CompressedPage.{CompressedPage}
 use Rattle.macho_unwind.specs.Layouts.{lsda_entry}
-use Rattle.macho_unwind.specs.Sections.{entry_at, page_at, lsda_count, lsda_at, HasPage, IsWholePage}
-use Rattle.macho_unwind.specs.Texts.{HasPlaces, lsdas_place, lsda_place, page_of, entry_for, lsda_for, lsda_text, head_for}
+use Rattle.macho_unwind.specs.Sections.{entry_at, page_at, lsda_count, lsda_at, IsWholePage}
+use Rattle.macho_unwind.specs.Texts.{HasPlaces, lsdas_place, page_of, entry_for, lsda_for, head_for}
+use Rattle.macho_unwind.specs.steps.Tables.{lsda_place, lsda_text}
 use Rattle.macho_unwind.proofs.Lengths.{length-lsda_text}
 use Rattle.macho_unwind.proofs.Counting.{count-rising}
 use Rattle.macho_unwind.proofs.Standing.{PlanStands}
 use Rattle.macho_unwind.proofs.Readback.{lsda_place-within, entry-read, last-read, head-read, page-here}
+use Rattle.macho_unwind.specs.steps.Parts.{HasPage}
 
 -- an item that isn't there
 abbrev pub no_lsda : Lsda

@@ -6,7 +6,8 @@ use Rattle.std.proofs.Common.{◌≡◌, ℕ, ◌+◌, ◌<◌, [], length, get_
 use Rattle.std.specs.List.{Contains}
 use Rattle.std.proofs.lemmas.List.{get_or-map, length-map}
 use Rattle.macho_unwind_pages.specs.declared.paging.Row.{Row}
-use Rattle.macho_unwind_pages.specs.Plans.{PageList, PlanList, row_of, page_rows, rows_of, IsPlan}
+use Rattle.macho_unwind_pages.specs.Plans.{PageList, PlanList, IsPlan}
+use Rattle.macho_unwind_pages.specs.steps.Words.{row_of, page_rows, rows_of}
 use Rattle.macho_unwind.specs.Sections.{offset_in}
 use Rattle.macho_unwind.specs.Texts.{page_of}
 use Rattle.macho_unwind.proofs.Members.{found_in, found_from}

@@ -23,7 +23,8 @@ use Rattle.macho_unwind.specs.declared.records.PageEntry.{PageEntry}
 use Rattle.macho_unwind.specs.declared.records.CompressedPage.{CompressedPage}
 use Rattle.macho_unwind.specs.Layouts.{compact_unwind_info_header, page_entry, compressed_page}
 use Rattle.macho_unwind.specs.Sections.{header_of, entry_at, page_at, word_at, encoding_at, personality_at, HasTables}
-use Rattle.macho_unwind.specs.Texts.{HasPlaces, header_for, personalities_place, entries_place, lsda_place, pages_place, page_place, page_of, entry_for, entry_text, last_entry_for, head_for}
+use Rattle.macho_unwind.specs.Texts.{HasPlaces, header_for, personalities_place, entries_place, pages_place, page_place, page_of, entry_for, last_entry_for, head_for}
+use Rattle.macho_unwind.specs.steps.Tables.{lsda_place, entry_text}
 use Rattle.macho_unwind.proofs.Lengths.{length-entry_text}
 use Rattle.macho_unwind.proofs.Places.{place-grows}
 use Rattle.macho_unwind.proofs.Standing.{PlanStands, PageStands, word-stands, page-stands, page-parts}

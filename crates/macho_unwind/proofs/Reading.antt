@@ -5,9 +5,10 @@
 use Rattle.std.proofs.Common.{◌≡◌, ℕ, zero, suc, ◌+◌, ◌≤◌, ◌<◌, ◌-◌, ◌/◌, List, [], ◌∷◌, length, get_or, Some, sym, ap, subst, ◌∙◌, refl, arith, rules}
 use Rattle.macho_bytes.specs.Layouts.{Layout, reading, read_of, size_of}
 use Rattle.macho_unwind.specs.Layouts.{compressed_page}
-use Rattle.macho_unwind.specs.Sections.{entry_at, page_at, lsda_count, IsWholePage, HasPage}
+use Rattle.macho_unwind.specs.Sections.{entry_at, page_at, lsda_count, IsWholePage}
 use Rattle.macho_unwind.specs.declared.records.PageEntry.{PageEntry}
 use Rattle.macho_unwind.specs.declared.records.CompressedPage.{CompressedPage}
+use Rattle.macho_unwind.specs.steps.Parts.{HasPage}
 
 -- a record that was read is that of the bytes, and stands whole
 pub record IsRead {R : Type 0} (l : Layout R) (bytes : List ℕ) (at : ℕ) (r : R) : Type 0 where

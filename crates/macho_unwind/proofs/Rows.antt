@@ -7,7 +7,8 @@ use Rattle.macho_unwind_pages.specs.Plans.{PlanList}
 use Rattle.macho_unwind.specs.declared.lookup.Found.{Found}
 use Rattle.macho_unwind.specs.Sections.{last_entry, entry_at, first_at, page_at, word_at, start_at, encoding_at, HasTables, IsWholePage}
 use Rattle.macho_unwind.specs.Lookup.{IsGreatestUpTo, UnwindFinds}
-use Rattle.macho_unwind.specs.Texts.{page_text, section_text, page_place, lsda_place, last_place}
+use Rattle.macho_unwind.specs.Texts.{page_text, section_text, page_place, last_place}
+use Rattle.macho_unwind.specs.steps.Tables.{lsda_place}
 
 -- a function at 0x1000 of 0x20 bytes with encoding 0x02000000 (no frame)
 abbrev one_plan : PlanList

@@ -13,7 +13,8 @@ use Rattle.macho_bytes.proofs.Numbers.{little_is_sound, number-stands, stands-fr
 use Rattle.macho_bytes.proofs.Tables.{table-stands}
 use Rattle.macho_unwind_pages.specs.Plans.{PageList, PlanList, page_size, size_of}
 use Rattle.macho_unwind.specs.Layouts.{compact_unwind_info_header, page_entry, compressed_page}
-use Rattle.macho_unwind.specs.Texts.{header_for, personalities_place, entries_place, lsdas_place, pages_place, entry_text, last_entry_for, lsda_text, head_for, page_text, section_text}
+use Rattle.macho_unwind.specs.Texts.{header_for, personalities_place, entries_place, lsdas_place, pages_place, last_entry_for, head_for, page_text, section_text}
+use Rattle.macho_unwind.specs.steps.Tables.{entry_text, lsda_text}
 use Rattle.macho_unwind.proofs.Lengths.{length-header_text, length-entries, length-last_entry_text, length-lsdas, length-pages, length-head_text, length-page_text}
 
 -- number k of a row of words that stands

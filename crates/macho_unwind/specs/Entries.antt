@@ -59,12 +59,11 @@ abbrev pub FitsTheBound : List ResolvedUnwindInfo → List ℕ → Type 0
 FitsTheBound entries bytes =
     (span : ℕ) → SpansAtMost span entries → length bytes ≤ unwind_bound_of (inputs_of entries) span
 
--- The bytes are those of a plan of the entries, of which one entry or more have only one (`PlansAreOne`); its last page has a place of
--- 32 bits.
+-- The bytes are those of a plan of the entries, of which one entry or more have only one (`PlansAreOne`). That no number is cut to 32
+-- bits is said elsewhere: of a call by its clauses `few`, `near` and `fits`, of an image by `NoneStands`.
 pub record IsSectionOf (text : ℕ) (entries : List ResolvedUnwindInfo) (bytes : List ℕ) : Type 0 where
   pub plan : PlanList
   pub of_entries : IsPlanOf text entries plan
-  pub near : last_place plan < 2 ^ 32
   pub is : bytes ≡ section_text plan
 
 -- The last page of a plan of the entries has no place of 32 bits.

@@ -1,6 +1,6 @@
 -- Look-up of an offset in the bytes of a section `__unwind_info` (mach-o/compact_unwind_encoding.h).
 use Rattle.std.specs.Prelude.{◌≡◌, ◌≢◌, ℕ, ◌≤◌, ◌<◌, List, Option, Some, None, MatchOption}
-use Rattle.macho_unwind.specs.Sections.{header_of, last_entry, first_at, page_at, word_at, start_at, index_in, encoding_at, personality_in, without_personality, personality_at, lsda_count, lsda_at, HasTables, HasPage}
+use Rattle.macho_unwind.specs.Sections.{header_of, last_entry, entry_at, first_at, page_at, word_at, start_at, index_in, encoding_at, personality_in, without_personality, personality_at, lsda_count, lsda_at, HasTables, IsWholePage}
 use Rattle.macho_unwind.specs.declared.lookup.Found.{Found}
 
 -- Number k of so many numbers is the greatest that is not above a limit; among equal ones it is the last.
@@ -15,19 +15,11 @@ pub record IsPageOf (bytes : List ℕ) (offset k : ℕ) : Type 0 where
   pub chosen : IsGreatestUpTo offset (last_entry bytes) (first_at bytes) k
   pub before_end : offset < first_at bytes (last_entry bytes)
 
--- function j of a page is that of an offset
-abbrev pub IsFunctionOf : List ℕ → ℕ → ℕ → ℕ → Type 0
-IsFunctionOf bytes k offset j = IsGreatestUpTo offset (page_at bytes k).functions_len (start_at bytes k) j
-
 -- A personality of the table, by its number from 1 on.
 pub record IsPersonality (bytes : List ℕ) (number slot : ℕ) : Type 0 where
   pub one : 1 ≤ number
   pub there : number ≤ (header_of bytes).personalities_len
   pub is : slot ≡ personality_at bytes number
-
--- the personality that a number names: none for 0
-abbrev pub NamesPersonality : List ℕ → ℕ → Option ℕ → Type 0
-NamesPersonality bytes number slot = MatchOption slot (number ≡ 0) (IsPersonality bytes number)
 
 -- LSDA entry j of a page is the first one of the function at a start.
 pub record IsLsda (bytes : List ℕ) (k start lsda j : ℕ) : Type 0 where
@@ -52,10 +44,10 @@ pub record UnwindFinds (bytes : List ℕ) (offset : ℕ) (x : Found) : Type 0 wh
   pub encoding : ℕ
   pub tables : HasTables bytes
   pub page_of : IsPageOf bytes offset page
-  pub whole : HasPage bytes page
-  pub function_of : IsFunctionOf bytes page offset function
+  pub whole : IsWholePage bytes (entry_at bytes page) (page_at bytes page) (lsda_count bytes page)
+  pub function_of : IsGreatestUpTo offset (page_at bytes page).functions_len (start_at bytes page) function
   pub start : x.start ≡ start_at bytes page function
   pub encoded : encoding_at bytes page (index_in (word_at bytes page function)) ≡ Some encoding
   pub cleared : x.encoding ≡ without_personality encoding
-  pub personality : NamesPersonality bytes (personality_in encoding) x.personality
+  pub personality : MatchOption x.personality (personality_in encoding ≡ 0) (IsPersonality bytes (personality_in encoding))
   pub lsda : HasLsda bytes page x.start x.lsda

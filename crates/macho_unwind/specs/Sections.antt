@@ -66,10 +66,6 @@ pub record IsWholePage (bytes : List ℕ) (entry : PageEntry) (page : Compressed
   pub encodings : IsWhole bytes (entry.page_offset + page.local_opcodes_offset) WORD page.local_opcodes_len
   pub entries : IsWhole bytes entry.lsda_index_offset (size_of lsda_entry) lsdas
 
--- the page of entry k is a compressed one, and is whole
-abbrev pub HasPage : List ℕ → ℕ → Type 0
-HasPage bytes k = IsWholePage bytes (entry_at bytes k) (page_at bytes k) (lsda_count bytes k)
-
 -- function word number j of the page of entry k
 unfoldable pub word_at : List ℕ → ℕ → ℕ → ℕ
 word_at bytes k j = le_at WORD bytes ((entry_at bytes k).page_offset + (page_at bytes k).functions_offset + WORD * j)

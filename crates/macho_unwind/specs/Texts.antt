@@ -15,11 +15,8 @@ use Rattle.macho_unwind_pages.specs.Plans.{PageList, PlanList, page_size, plan_l
 use Rattle.macho_unwind_pages.specs.declared.plans.Plan.{Plan}
 
 -- the places of the tables
-abbrev pub encodings_place : ℕ
-encodings_place = size_of compact_unwind_info_header
-
 abbrev pub personalities_place : PlanList → ℕ
-personalities_place plan = encodings_place + WORD * length plan.globals
+personalities_place plan = size_of compact_unwind_info_header + WORD * length plan.globals
 
 abbrev pub entries_place : PlanList → ℕ
 entries_place plan = personalities_place plan + WORD * length plan.personalities
@@ -43,15 +40,11 @@ pub record HasPlaces (plan : PlanList) : Type 0 where
   pub some : 0 < length plan.pages
   pub fits : last_place plan < 2 ^ 32
 
--- the place of the first LSDA entry of a function that starts no earlier than this
-abbrev pub lsda_place : PlanList → ℕ → ℕ
-lsda_place plan start = lsdas_place plan + size_of lsda_entry * count_by (λ l. nat_lt l.function start) plan.lsdas
-
 abbrev pub header_for : PlanList → CompactUnwindInfoHeader
 header_for plan = record {
   -- `UNWIND_SECTION_VERSION`
   version = 1;
-  global_opcodes_offset = encodings_place;
+  global_opcodes_offset = size_of compact_unwind_info_header;
   global_opcodes_len = length plan.globals;
   personalities_offset = personalities_place plan;
   personalities_len = length plan.personalities;
@@ -62,12 +55,12 @@ header_for plan = record {
 abbrev pub page_of : PlanList → ℕ → PageList
 page_of plan k = slice_index_or plan.pages k (record { first = 0; words = []; locals = [] })
 
--- the entry of page k
+-- the entry of page k, with the place of the first LSDA entry of a function that starts no earlier than the first one of the page
 abbrev pub entry_for : PlanList → ℕ → PageEntry
 entry_for plan k = record {
   first_address = (page_of plan k).first;
   page_offset = page_place plan k;
-  lsda_index_offset = lsda_place plan (page_of plan k).first;
+  lsda_index_offset = lsdas_place plan + size_of lsda_entry * count_by (λ l. nat_lt l.function (page_of plan k).first) plan.lsdas;
 }
 
 -- the last entry: the end of the last function, no page, and the end of the LSDA entries
@@ -86,12 +79,6 @@ head_for page = record {
   local_opcodes_len = length page.locals;
 }
 
-abbrev pub entry_text : PlanList → ℕ → List ℕ
-entry_text plan k = spelling page_entry (entry_for plan k)
-
-abbrev pub lsda_text : Lsda → List ℕ
-lsda_text l = spelling lsda_entry (lsda_for l)
-
 -- a page: its head, the words of its functions, and the encodings of this page alone
 unfoldable pub page_text : PageList → List ℕ
 page_text page =
@@ -103,9 +90,9 @@ section_text plan =
     spelling compact_unwind_info_header (header_for plan)
     ++ row_bytes little WORD plan.globals
     ++ row_bytes little WORD plan.personalities
-    ++ flat_map (entry_text plan) (range_with_len 0 (length plan.pages))
+    ++ flat_map (λ k. spelling page_entry (entry_for plan k)) (range_with_len 0 (length plan.pages))
     ++ spelling page_entry (last_entry_for plan)
-    ++ flat_map lsda_text plan.lsdas
+    ++ flat_map (λ l. spelling lsda_entry (lsda_for l)) plan.lsdas
     ++ flat_map page_text plan.pages
 
 -- the bytes of a plan, and none without a plan

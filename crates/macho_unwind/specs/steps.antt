@@ -3,3 +3,4 @@ pub mod Conditions
 pub mod Parts
 pub mod Planned
 pub mod Says
+pub mod Tables

@@ -4,9 +4,9 @@
 //! personality. The function's start leads to its LSDA. The tables are searched from front to back, since nothing says
 //! that a section that was made elsewhere has them in order.
 ghost use Rattle.std.specs.Prelude.{◌≡◌, ℕ, ◌+◌, ◌<◌, ◌≤◌, ◌^◌, ◌↔◌, IsTrue, IfSome, MatchOption, Option};
-ghost use Rattle.macho_unwind.specs.Sections.{header_of, HasTables, HasPage, IsWhole, entry_at, first_at, word_at, encoding_at, lsda_at};
-ghost use Rattle.macho_unwind.specs.Lookup.{UnwindFinds, IsPageOf, IsFunctionOf, NamesPersonality, HasLsda};
-ghost use Rattle.macho_unwind.specs.steps.Parts.{IsBest, IsPage, IsWordOf};
+ghost use Rattle.macho_unwind.specs.Sections.{header_of, HasTables, IsWhole, entry_at, first_at, word_at, encoding_at, lsda_at};
+ghost use Rattle.macho_unwind.specs.Lookup.{UnwindFinds, IsPageOf, HasLsda};
+ghost use Rattle.macho_unwind.specs.steps.Parts.{HasPage, IsFunctionOf, NamesPersonality, IsBest, IsPage, IsWordOf};
 
 use crate::records::{CompactUnwindInfoHeader, CompressedPage, LsdaEntry, PageEntry};
 use macho_numbers::little_at;

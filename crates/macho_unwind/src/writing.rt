@@ -3,7 +3,8 @@ ghost use Rattle.std.specs.Prelude.{◌≡◌, ◌+◌, ◌-◌, ◌*◌, ◌^�
 ghost use Rattle.std.specs.List.{flat_map, AllPairs, range_with_len};
 ghost use Rattle.macho_bytes.specs.Texts.{put};
 ghost use Rattle.macho_unwind_pages.specs.Plans.{IsPlan, plan_list, page_list, page_size, size_of};
-ghost use Rattle.macho_unwind.specs.Texts.{HasPlaces, header_for, page_place, entries_place, lsdas_place, pages_place, last_place, entry_text, last_entry_for, lsda_text, page_text, section_text};
+ghost use Rattle.macho_unwind.specs.Texts.{HasPlaces, header_for, page_place, entries_place, lsdas_place, pages_place, last_place, last_entry_for, page_text, section_text};
+ghost use Rattle.macho_unwind.specs.steps.Tables.{entry_text, lsda_text};
 ghost use Rattle.macho_unwind.specs.Layouts.{page_entry};
 ghost use Rattle.macho_bytes.specs.Layouts.{spelling};
 

@@ -10,7 +10,8 @@ use Rattle.std.proofs.lemmas.List.{get_or_append_left, get_or-append_right}
 use Rattle.std.proofs.lemmas.List.Elements.{All-map, Contains-get_or}
 use Rattle.std.proofs.lemmas.List.Sums.{fails_before_first, passes_at_first, position_or_len_is}
 use Rattle.macho_unwind_pages.specs.Bounds.{PAGE_SPAN}
-use Rattle.macho_unwind_pages.specs.Plans.{PageList, Row, IsNamed, row_of, page_rows, codes_on, first_place}
+use Rattle.macho_unwind_pages.specs.Plans.{PageList, Row}
+use Rattle.macho_unwind_pages.specs.steps.Words.{IsNamed, row_of, page_rows, codes_on, first_place}
 
 -- the first place of a code that stands in a list
 pub first_inside : (codes : List ℕ) (code : ℕ) → Contains codes code → first_place codes code < length codes

@@ -2,18 +2,17 @@
 --
 -- The new word's place is the new start less the page's first, above all places so far. If the page's list of codes grows, it
 -- grows at its end, so the codes of the words so far keep their numbers; the new code was on neither list, so codes differ.
-use Rattle.std.proofs.Common.{◌≡◌, ℕ, suc, ◌+◌, ◌/◌, ◌%◌, ◌^◌, ◌<◌, ◌≤◌, ◌==◌, Bool, false, not, cond, List, [], ◌∷◌, ◌++◌, length, map, get_or, slice_index, Contains, refl, sym, ap, subst, ◌∙◌, arith, inl, inr, ◌⊎◌, length-append, append_assoc}
-use Rattle.std.specs.List.{All, AllPairs, list_any}
-use Rattle.std.proofs.lemmas.Bool.{cases_lt, cases_Bool}
+use Rattle.std.proofs.Common.{◌≡◌, ℕ, suc, ◌+◌, ◌/◌, ◌%◌, ◌^◌, ◌<◌, ◌≤◌, List, [], ◌∷◌, ◌++◌, length, map, get_or, slice_index, Contains, refl, sym, ap, subst, ◌∙◌, arith, inl, inr, ◌⊎◌, length-append, append_assoc}
+use Rattle.std.specs.List.{All, AllPairs}
+use Rattle.std.proofs.lemmas.Bool.{cases_lt}
 use Rattle.std.proofs.lemmas.List.{get_or_append_left, get_or-append_right, map_push}
 use Rattle.std.proofs.lemmas.List.Elements.{All-push, All-contains, Contains-append_left, Contains-append_right}
 use Rattle.std.proofs.lemmas.List.Quantifiers.{all_pairs_push}
-use Rattle.macho_unwind_pages.specs.Bounds.{PAGE_SPAN, MOST_LOCALS, MOST_WORDS, locals_in}
-use Rattle.macho_unwind_pages.specs.Plans.{PageList, Row, IsNamed, IsPage, AreLocals, row_of, page_rows, codes_on, first_place, first_row}
-use Rattle.macho_unwind_pages.specs.steps.Paging.{IsFull, IsOpenTo, Adds, HasFewLocals, empty_page}
-use Rattle.macho_unwind_pages.proofs.Naming.{is_in}
+use Rattle.macho_unwind_pages.specs.Bounds.{PAGE_SPAN, MOST_LOCALS, MOST_WORDS}
+use Rattle.macho_unwind_pages.specs.Plans.{PageList, Row, IsPage}
+use Rattle.macho_unwind_pages.specs.steps.Words.{IsNamed, AreLocals, row_of, page_rows, codes_on, first_place, first_row}
+use Rattle.macho_unwind_pages.specs.steps.Paging.{IsFull, IsOpenTo, Adds, empty_page}
 use Rattle.macho_unwind_pages.proofs.FirstUses.{first_inside, first_stays, first_at_end, names_codes}
-use Rattle.std.proofs.lemmas.List.Sums.{sum_by-append}
 
 -- a page as it is made; it may have no function yet
 pub record IsOpenPage (globals : List ℕ) (page : PageList) : Type 0 where
@@ -27,7 +26,6 @@ pub record IsOpenPage (globals : List ℕ) (page : PageList) : Type 0 where
   pub words : All (λ word. word < 2 ^ 32) page.words
   pub codes : All (λ code. code < 2 ^ 32) page.locals
   pub own : AreLocals globals page
-  pub few : HasFewLocals globals page
 
 -- all functions so far start before another one
 abbrev pub AllBefore : PageList → ℕ → Type 0
@@ -58,7 +56,6 @@ empty_is_open globals first h = record {
   start = h;
   words = λ k d within. absurd (omega arith);
   codes = λ k d within. absurd (omega arith);
-  few = omega arith;
   own = record {
     used = λ k d within. absurd (omega arith);
     own = λ k d within. absurd (omega arith);
@@ -66,7 +63,8 @@ empty_is_open globals first h = record {
   };
 }
 
-row_same : (start code : ℕ) (row : Row) → start ≡ row.start → code ≡ row.code
+-- a function is its start and its code
+pub row_same : (start code : ℕ) (row : Row) → start ≡ row.start → code ≡ row.code
     → (let r : Row = record { start = start; code = code } in r) ≡ row
 row_same start code row s c = rw (s, c) refl
 
@@ -183,40 +181,6 @@ own_more globals old new row behind page a =
           )));
     }
 
-few_more : (globals : List ℕ) (old new : PageList) (row : Row) → old.first ≤ row.start → IsOpenPage globals old → Adds globals old new row
-    → HasFewLocals globals new
-few_more globals old new row behind page a =
-    go a.locals
-  where
-    codes_are : codes_on globals new ≡ codes_on globals old ++ row.code ∷ []
-    codes_are = codes_more globals old new row behind page a
-
-    parts : locals_in globals (codes_on globals new)
-        ≡ locals_in globals (codes_on globals old) + locals_in globals (row.code ∷ [])
-    parts = ap (locals_in globals) codes_are
-        ∙ sum_by-append (λ code. cond (not (list_any (λ global. code == global) globals)) 1 0) (codes_on globals old) (row.code ∷ [])
-
-    one : list_any (λ global. row.code == global) globals ≡ false → locals_in globals (row.code ∷ []) ≡ 1
-    one out = ap (λ (b : Bool). 0 + cond (not b) 1 0) out
-
-    out_of : ¬ IsNamed globals old row.code → list_any (λ global. row.code == global) globals ≡ false
-    out_of absent = elim (cases_Bool (list_any (λ global. row.code == global) globals)) [
-      | inl there ↦ absurd (absent (Contains-append_left globals old.locals row.code (is_in globals row.code there)))
-      | inr out ↦ out
-    ]
-
-    go : (new.locals ≡ old.locals) ⊎ ((new.locals ≡ old.locals ++ row.code ∷ []) × ¬ IsNamed globals old row.code)
-        → HasFewLocals globals new
-    go (inl same) = omega (arith, ap length same, parts, page.few)
-    go (inr more) = omega (
-      arith,
-      ap length more.0,
-      length-append old.locals (row.code ∷ []),
-      parts,
-      one (out_of more.1),
-      page.few,
-    )
-
 -- an open page that takes a function stays open: each code is used, is its own, and is in the order of first use
 pub page_more : (globals : List ℕ) (old new : PageList) (row : Row) → IsOpenPage globals old
     → (length old.words ≡ 0 → row.start ≡ old.first)
@@ -237,7 +201,6 @@ page_more globals old new row page begins before room a = record {
   words = subst (All (λ word. word < 2 ^ 32)) (sym a.words) (All-push (λ word. word < 2 ^ 32) old.words a.word page.words a.fits);
   codes = codes a.locals;
   own = own_more globals old new row room.behind page a;
-  few = few_more globals old new row room.behind page a;
 }
   where
     first : slice_index (old.words ++ a.word ∷ []) 0 % PAGE_SPAN ≡ 0

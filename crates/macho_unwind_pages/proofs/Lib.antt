@@ -1,3 +1,4 @@
+pub mod OwnCodes
 pub mod Orders
 pub mod Numbers
 pub mod Ranked
@@ -9,6 +10,7 @@ pub mod PagesMade
 pub mod Charging
 pub mod Told
 pub mod Gathered
+pub mod Divided
 pub mod Planned
 pub mod OneList
 pub mod OnePage

@@ -10,7 +10,8 @@ use Rattle.std.proofs.lemmas.List.{length-take, get_or-append_right, take_all}
 use Rattle.std.proofs.lemmas.List.Folds.{list_any-append}
 use Rattle.std.proofs.lemmas.Map.Views.{list_any-from_Contains, Contains-from_any}
 use Rattle.indexmap.specs.IndexMap.{IndexMap, keys}
-use Rattle.macho_unwind_pages.specs.Plans.{PageList, Row, IsNamed}
+use Rattle.macho_unwind_pages.specs.Plans.{PageList, Row}
+use Rattle.macho_unwind_pages.specs.steps.Words.{IsNamed}
 use Rattle.macho_unwind_pages.specs.steps.Paging.{globals_in, IsOpenTo, Names, Adds}
 
 -- a list in which the test finds a code has the code

@@ -1,16 +1,22 @@
--- A page is known by its functions.
+-- A page is that of its functions.
 --
--- Two pages of the same functions begin at the same offset, that of the first function. The codes that a page names alone are
--- those of its functions that not every page may name, by their first use, so both pages have the same ones in the same
--- order. A code has one number, since no code stands twice among those that a page may name. A word is a place and the number of
--- a code, so both pages have the same words.
-use Rattle.std.proofs.Common.{◌≡◌, ℕ, ◌+◌, ◌-◌, ◌/◌, ◌%◌, ◌<◌, ◌≤◌, List, [], ◌∷◌, ◌++◌, length, map, drop, get_or, slice_index, Contains, refl, sym, ap, subst, ◌∙◌, arith, inl, inr, length-append}
-use Rattle.std.specs.List.{All, AllPairs}
-use Rattle.std.proofs.lemmas.Bool.{cases_lt}
-use Rattle.std.proofs.lemmas.List.{map-append, append-nil, get_or_append_left, get_or-append_right, get_or_default}
-use Rattle.std.proofs.lemmas.List.Elements.{All-map, All-contains, All-head, All-tail, Contains-append_left, Contains-append_cases}
+-- It begins at the offset of its first function. The codes that a page names alone are those of its functions that not every page may
+-- name, by their first use. A code has one number, since no code stands twice among those that a page may name; a word is a place and the
+-- number of a code. A page that is closed to a function has no room for it: it is too far away, or there would be too many codes or words.
+use Rattle.std.proofs.Common.{◌≡◌, ℕ, suc, ◌+◌, ◌-◌, ◌/◌, ◌<◌, ◌≤◌, ◌==◌, true, false, List, [], ◌∷◌, ◌++◌, length, map, drop, get_or, slice_index, Contains, refl, sym, ap, ◌∙◌, arith, inl, inr, length-append}
+use Rattle.std.specs.List.{All, position_or_len}
+use Rattle.std.proofs.lemmas.Bool.{cases_Bool, cases_lt, eq-eqb, ne_eqb}
+use Rattle.std.proofs.lemmas.Cmp.{nat_eq_equiv}
+use Rattle.std.proofs.lemmas.List.{length-map, get_or_append_left, get_or-append_right, get_or_default}
+use Rattle.std.proofs.lemmas.List.Elements.{All-map, All-contains, Contains-append_left, Contains-append_right, Contains-append_cases}
+use Rattle.std.proofs.lemmas.List.Sums.{position_or_len_is}
+use Rattle.std.proofs.lemmas.Map.Views.{list_any-from_Contains}
 use Rattle.macho_unwind_pages.specs.Bounds.{PAGE_SPAN}
-use Rattle.macho_unwind_pages.specs.Plans.{PageList, Row, IsNamed, IsPage, AreLocals, row_of, page_rows, codes_on, first_place, first_row}
+use Rattle.macho_unwind_pages.specs.Plans.{PageList, Row, IsPage, FitOnPage, own_codes, page_start, word_for, page_for}
+use Rattle.macho_unwind_pages.specs.steps.Words.{IsNamed, IsClosedTo, AreLocals, row_of, page_rows, codes_on, first_place, first_row}
+use Rattle.macho_unwind_pages.proofs.Orders.{has}
+use Rattle.macho_unwind_pages.proofs.OwnCodes.{has_own, own_apart, own_used, own_order, own_prefix, own_new}
+use Rattle.macho_unwind_pages.proofs.Naming.{is_in, is_not_in}
 use Rattle.macho_unwind_pages.proofs.FirstUses.{names_codes}
 use Rattle.macho_unwind_pages.proofs.OneList.{AreDistinct, rising_once}
 
@@ -45,20 +51,8 @@ own_one globals page code named not_global = elim (Contains-append_cases globals
   | inr own ↦ own
 ]
 
--- the codes that a page names alone, on one that goes on with more functions
-pub locals_stay : (globals : List ℕ) (p q : PageList) (more : List Row) → AreLocals globals p → IsPage globals q
-    → page_rows globals q ≡ page_rows globals p ++ more → (code : ℕ) → Contains p.locals code → Contains q.locals code
-locals_stay globals p q more own is cut code there =
-    let used : Contains (codes_on globals p) code = All-contains (Contains (codes_on globals p)) p.locals code own.used there in
-    let joined : codes_on globals q ≡ codes_on globals p ++ map (λ row. row.code) more
-    = ap (map (λ (row : Row). row.code)) cut ∙ map-append (λ (row : Row). row.code) (page_rows globals p) more in
-    let on_q : Contains (codes_on globals q) code
-    = subst (λ l. Contains l code) (sym joined) (Contains-append_left (codes_on globals p) (map (λ row. row.code) more) code used) in
-    own_one globals q code (All-contains (IsNamed globals q) (codes_on globals q) code (names_codes globals q is.named) on_q)
-    (All-contains (λ c. ¬ Contains globals c) p.locals code own.own there)
-
 -- lists of distinct numbers, none of which both have
-distinct_joined : (xs ys : List ℕ) → AreDistinct xs → AreDistinct ys → All (λ y. ¬ Contains xs y) ys
+pub distinct_joined : (xs ys : List ℕ) → AreDistinct xs → AreDistinct ys → All (λ y. ¬ Contains xs y) ys
     → AreDistinct (xs ++ ys)
 distinct_joined xs ys once_x once_y apart i j d low within same = elim (cases_lt j (length xs)) [
   | inl inside ↦ once_x i j d low inside (left i (omega arith) ∙ same ∙ sym (left j inside))
@@ -89,63 +83,143 @@ place_once xs i j once inside within same = elim (cases_lt i j) [
   | inr high ↦ elim (cases_lt j i) [ inl low ↦ absurd (once j i 0 low inside (sym same)) | inr equal ↦ omega arith ]
 ]
 
--- the word of a function on a page
-word_once : (globals : List ℕ) (page : PageList) (v w : ℕ) → AreDistinct (globals ++ page.locals)
-    → v / PAGE_SPAN < length globals + length page.locals → w / PAGE_SPAN < length globals + length page.locals
-    → row_of globals page v ≡ row_of globals page w → v ≡ w
-word_once globals page v w once inside within same =
-    let size = length-append globals page.locals in
-    let place : v % PAGE_SPAN ≡ w % PAGE_SPAN = omega (arith, ap (λ (r : Row). r.start) same) in
-    let number : v / PAGE_SPAN ≡ w / PAGE_SPAN
-    = place_once (globals ++ page.locals) (v / PAGE_SPAN) (w / PAGE_SPAN) once (omega arith) (omega arith)
-    (ap (λ (r : Row). r.code) same) in
-    omega arith
-
-words_once : (f : ℕ → Row) (P : ℕ → Type 0) (vs ws : List ℕ) → ((v w : ℕ) → P v → P w → f v ≡ f w → v ≡ w) → All P vs → All P ws
-    → map f vs ≡ map f ws → vs ≡ ws
-words_once f P [] [] once all every same = refl
-words_once f P [] (w ∷ ws) once all every same = absurd (omega (arith, ap length same))
-words_once f P (v ∷ vs) [] once all every same = absurd (omega (arith, ap length same))
-words_once f P (v ∷ vs) (w ∷ ws) once all every same =
-    let front : f v ≡ f w = cc in
-    let rest : map f vs ≡ map f ws = cc in
-    ap (λ x. x ∷ vs) (once v w (All-head P v vs all) (All-head P w ws every) front)
-    ∙ ap (λ l. w ∷ l) (words_once f P vs ws once (All-tail P v vs all) (All-tail P w ws every) rest)
-
-one_page : (p q : PageList) → p.first ≡ q.first → p.words ≡ q.words → p.locals ≡ q.locals → p ≡ q
+-- pages with the same parts are one
+pub one_page : (p q : PageList) → p.first ≡ q.first → p.words ≡ q.words → p.locals ≡ q.locals → p ≡ q
 one_page p q first words locals =
     ap (λ (v : ℕ). record p { first = v }) first
     ∙ ap (λ (l : List ℕ). record p { first = q.first; words = l }) words
     ∙ ap (λ (l : List ℕ). record q { locals = l }) locals
 
--- pages with the same functions are one page
-pub same_page : (globals : List ℕ) (p q : PageList) → AreDistinct globals → IsPage globals p → IsPage globals q
-    → AreLocals globals p → AreLocals globals q → page_rows globals p ≡ page_rows globals q → p ≡ q
-same_page globals p q once is_p is_q own_p own_q same =
-    one_page p q first words locals
+-- the own codes of a page are those of its functions
+own_are : (globals : List ℕ) (page : PageList) → IsPage globals page → AreLocals globals page
+    → page.locals ≡ own_codes globals (page_rows globals page)
+own_are globals page is own =
+    rising_once (first_place on) page.locals (own_codes globals rows) own.order (own_order globals rows) to from
   where
-    fronts : first_row globals p ∷ map (row_of globals p) (drop 1 p.words) ≡ first_row globals q ∷ map (row_of globals q) (drop 1 q.words)
-    fronts = sym (begins globals p is_p) ∙ same ∙ begins globals q is_q
+    rows : List Row
+    rows = page_rows globals page
 
-    first : p.first ≡ q.first
-    first =
-        let front : first_row globals p ≡ first_row globals q = cc fronts in
-        omega (arith, ap (λ (r : Row). r.start) front, starts globals p is_p, starts globals q is_q)
+    on : List ℕ
+    on = codes_on globals page
 
-    codes : codes_on globals q ≡ codes_on globals p
-    codes = ap (map (λ (r : Row). r.code)) (sym same)
+    to : (x : ℕ) → Contains page.locals x → Contains (own_codes globals rows) x
+    to x c =
+        let used : has x on ≡ true
+        = list_any-from_Contains nat_eq_equiv x on (All-contains (Contains on) page.locals x own.used c) in
+        let out : has x globals ≡ false = elim (cases_Bool (has x globals)) [
+          | inl there ↦ absurd (All-contains (λ y. ¬ Contains globals y) page.locals x own.own c (is_in globals x there))
+          | inr h ↦ h
+        ] in
+        is_in (own_codes globals rows) x (has_own globals rows x ∙ rw (used, out) refl)
 
-    locals : p.locals ≡ q.locals
-    locals = rising_once (first_place (codes_on globals p)) p.locals q.locals own_p.order
-        (subst (λ l. AllPairs (λ a b. first_place l a < first_place l b) q.locals) codes own_q.order)
-        (locals_stay globals p q [] own_p is_q (sym same ∙ sym (append-nil (page_rows globals p))))
-        (locals_stay globals q p [] own_q is_p (same ∙ sym (append-nil (page_rows globals q))))
+    from : (x : ℕ) → Contains (own_codes globals rows) x → Contains page.locals x
+    from x c =
+        let used : has x on ≡ true
+        = All-contains (λ y. has y on ≡ true) (own_codes globals rows) x (own_used globals rows) c in
+        let out : has x globals ≡ false
+        = All-contains (λ y. has y globals ≡ false) (own_codes globals rows) x (own_apart globals rows) c in
+        own_one globals page x (All-contains (IsNamed globals page) on x (names_codes globals page is.named) (is_in on x used))
+        (is_not_in globals x out)
 
-    rows_with : ℕ → List ℕ → List Row
-    rows_with start own = map (row_of globals (record { first = start; words = q.words; locals = own })) q.words
+-- the first place of the number at a place of distinct ones
+place_of : (xs : List ℕ) (n : ℕ) → AreDistinct xs → n < length xs → position_or_len (λ x. slice_index xs n == x) xs ≡ n
+place_of xs n once inside =
+    position_or_len_is (λ x. slice_index xs n == x) xs n 0 (omega arith)
+    (λ k low. ne_eqb (slice_index xs n) (slice_index xs k) (λ e. once k n 0 low inside (sym e)))
+    (λ h. eq-eqb (slice_index xs n) (slice_index xs n) refl)
 
-    words : p.words ≡ q.words
-    words = words_once (row_of globals p) (λ w. w / PAGE_SPAN < length globals + length p.locals) p.words q.words
-        (λ v w. word_once globals p v w (distinct_joined globals p.locals once (distinct globals p own_p) own_p.own)) is_p.named
-        (subst (λ l. All (λ w. w / PAGE_SPAN < length globals + length l) q.words) (sym locals) is_q.named)
-        (same ∙ sym (ap (λ s. rows_with s p.locals) first ∙ ap (rows_with q.first) locals))
+-- what is made of each element and back again
+pub map_back : {X Y : Type 0} (f : X → Y) (h : Y → X) (xs : List X) → ((x : X) → Contains xs x → h (f x) ≡ x) → map h (map f xs) ≡ xs
+map_back f h [] back = refl
+map_back f h (x ∷ xs) back =
+    ap (λ y. y ∷ map h (map f xs)) (back x (0, omega arith, refl))
+    ∙ ap (λ l. x ∷ l) (map_back f h xs (λ y c. back y (suc c.0, omega (arith, c.1), c.2)))
+
+-- the start of a page's functions is the page's
+pub page_starts : (globals : List ℕ) (page : PageList) → IsPage globals page → page_start (page_rows globals page) ≡ page.first
+page_starts globals page is = ap page_start (begins globals page is) ∙ starts globals page is
+
+-- a page is that of its functions
+pub page_is : (globals : List ℕ) (page : PageList) → AreDistinct globals → IsPage globals page → AreLocals globals page
+    → page ≡ page_for globals (page_rows globals page)
+page_is globals page once is own =
+    one_page page (page_for globals rows) (sym first) (sym (map_back (row_of globals page) (word_for globals rows) page.words word)) locals
+  where
+    rows : List Row
+    rows = page_rows globals page
+
+    first : page_start rows ≡ page.first
+    first = page_starts globals page is
+
+    locals : page.locals ≡ own_codes globals rows
+    locals = own_are globals page is own
+
+    all_once : AreDistinct (globals ++ page.locals)
+    all_once = distinct_joined globals page.locals once (distinct globals page own) own.own
+
+    word : (w : ℕ) → Contains page.words w → word_for globals rows (row_of globals page w) ≡ w
+    word w c =
+        let inside = All-contains (λ v. v / PAGE_SPAN < length globals + length page.locals) page.words w is.named c in
+        let place = place_of (globals ++ page.locals) (w / PAGE_SPAN) all_once (omega (arith, inside, length-append globals page.locals)) in
+        let at : position_or_len (λ x. (row_of globals page w).code == x) (globals ++ own_codes globals rows) ≡ w / PAGE_SPAN
+        = ap (λ l. position_or_len (λ x. (row_of globals page w).code == x) (globals ++ l)) (sym locals) ∙ place in
+        omega (arith, at, first)
+
+-- and has room for them
+pub page_fits : (globals : List ℕ) (page : PageList) → IsPage globals page → AreLocals globals page
+    → FitOnPage globals (page_rows globals page)
+page_fits globals page is own =
+    let locals = ap length (own_are globals page is own) in record {
+      near = λ k d h. omega (arith, near_all globals page k d h, page_starts globals page is);
+      locals = omega (arith, locals, is.locals);
+      room = omega (arith, locals, is.room, length-map page.words (row_of globals page));
+    }
+
+pub start_kept : (xs ys : List Row) → 0 < length xs → page_start (xs ++ ys) ≡ page_start xs
+start_kept [] ys some = absurd (omega arith)
+start_kept (x ∷ xs) ys some = refl
+
+-- a page that is closed to a function has no room for it
+pub page_full : (globals : List ℕ) (page : PageList) (row : Row) → IsPage globals page → AreLocals globals page
+    → IsClosedTo globals page row → FitOnPage globals (page_rows globals page ++ row ∷ []) → ⊥
+page_full globals page row is own shut fit =
+    go shut
+  where
+    rows : List Row
+    rows = page_rows globals page
+
+    size : length rows ≡ length page.words
+    size = length-map page.words (row_of globals page)
+
+    locals : length page.locals ≡ length (own_codes globals rows)
+    locals = ap length (own_are globals page is own)
+
+    start : page_start (rows ++ row ∷ []) ≡ page.first
+    start = start_kept rows (row ∷ []) (omega (arith, size, is.some)) ∙ page_starts globals page is
+
+    new : ¬ IsNamed globals page row.code → length (own_codes globals (rows ++ row ∷ [])) ≡ length (own_codes globals rows) + 1
+    new absent = own_new globals rows row
+        (elim (cases_Bool (has row.code globals)) [
+          | inl there ↦ absurd (absent (Contains-append_left globals page.locals row.code (is_in globals row.code there)))
+          | inr h ↦ h
+        ])
+        (elim (cases_Bool (has row.code (codes_on globals page))) [
+          | inl there ↦ absurd (absent (All-contains (IsNamed globals page) (codes_on globals page) row.code
+              (names_codes globals page is.named) (is_in (codes_on globals page) row.code there)))
+          | inr h ↦ h
+        ])
+
+    longer : length (rows ++ row ∷ []) ≡ length rows + 1
+    longer = length-append rows (row ∷ [])
+
+    go : IsClosedTo globals page row → ⊥
+    go (inl far) = omega (
+      arith,
+      All-contains (λ r. r.start < page_start (rows ++ row ∷ []) + PAGE_SPAN) (rows ++ row ∷ []) row fit.near
+          (Contains-append_right rows (row ∷ []) row (0, omega arith, refl)),
+      start,
+      far,
+    )
+    go (inr (inl (absent, many))) = omega (arith, new absent, locals, many, fit.locals)
+    go (inr (inr (inl (absent, many)))) = omega (arith, new absent, locals, many, fit.room, longer, size)
+    go (inr (inr (inr many))) = omega (arith, own_prefix globals rows (row ∷ []), locals, many, fit.room, longer, size)

@@ -4,16 +4,16 @@
 -- language-specific data are those of the run, and their shared encodings, their slots and their end are those of the entries.
 -- Functions are divided into pages in one way.
 use Rattle.std.proofs.Common.{◌≡◌, ℕ, List, map, sym, ap, subst, ◌∙◌}
-use Rattle.std.specs.List.{flat_map}
+use Rattle.std.specs.List.{flat_map, filter_map}
 use Rattle.std.proofs.lemmas.List.Sorted.{Contains-permutation, IsPermutation-sym}
 use Rattle.macho_unwind_pages.specs.declared.entries.ResolvedUnwindInfo.{ResolvedUnwindInfo}
 use Rattle.macho_unwind_pages.specs.declared.plans.Lsda.{Lsda}
-use Rattle.macho_unwind_pages.specs.Entries.{inputs_of, ids_of, codes_of}
-use Rattle.macho_unwind_pages.specs.Plans.{PageList, PlanList, IsPlanOf, page_rows, row_from, lsda_from}
+use Rattle.macho_unwind_pages.specs.Entries.{inputs_of, ids_of}
+use Rattle.macho_unwind_pages.specs.Plans.{PageList, PlanList, IsPlanOf, page_for, row_from, lsda_from}
 use Rattle.macho_unwind_pages.specs.Laws.{PlansAreOne}
-use Rattle.macho_unwind_pages.proofs.OneList.{AreDistinct, rising_once}
+use Rattle.macho_unwind_pages.proofs.OneList.{rising_once}
 use Rattle.macho_unwind_pages.proofs.OneDivision.{IsDivision, same_pages}
-use Rattle.macho_unwind_pages.proofs.OneTables.{globals_once, same_slots, same_end}
+use Rattle.macho_unwind_pages.proofs.OneTables.{same_slots, same_end}
 
 -- two plans of the same entries have one run
 one_run : (text : ℕ) (entries : List ResolvedUnwindInfo) (p q : PlanList) (a : IsPlanOf text entries p) (b : IsPlanOf text entries q)
@@ -23,8 +23,8 @@ one_run text entries p q a b =
     (λ e c. Contains-permutation entries b.run e b.same (Contains-permutation a.run entries e (IsPermutation-sym entries a.run a.same) c))
     (λ e c. Contains-permutation entries a.run e a.same (Contains-permutation b.run entries e (IsPermutation-sym entries b.run b.same) c))
 
-division : (text : ℕ) (entries : List ResolvedUnwindInfo) (p : PlanList) → IsPlanOf text entries p → IsDivision p.globals p.pages
-division text entries p a = record { each = a.formed.pages; locals = a.locals; closed = a.closed }
+division : (text : ℕ) (entries : List ResolvedUnwindInfo) (p : PlanList) (a : IsPlanOf text entries p) → IsDivision p.globals a.pages
+division text entries p a = record { each = a.divided.each; closed = a.divided.closed }
 
 one_list : (p q : PlanList) → p.globals ≡ q.globals → p.personalities ≡ q.personalities → p.lsdas ≡ q.lsdas → p.pages ≡ q.pages
     → p.end ≡ q.end → p ≡ q
@@ -40,11 +40,13 @@ pub plans_are_one : PlansAreOne
 plans_are_one text entries p q some a b =
     let run : a.run ≡ b.run = one_run text entries p q a b in
     let shared : p.globals ≡ q.globals = a.globals ∙ sym b.globals in
-    let functions : flat_map (page_rows q.globals) p.pages ≡ flat_map (page_rows q.globals) q.pages
-    = ap (λ g. flat_map (page_rows g) p.pages) (sym shared) ∙ a.rows
-    ∙ ap (map (row_from text (ids_of (inputs_of entries)))) run ∙ sym b.rows in
+    let functions : flat_map (λ page. page) a.pages ≡ flat_map (λ page. page) b.pages
+    = a.divided.all ∙ ap (map (row_from text (ids_of (inputs_of entries)))) run ∙ sym b.divided.all in
+    let divided : a.pages ≡ b.pages
+    = same_pages q.globals a.pages b.pages (subst (λ g. IsDivision g a.pages) shared (division text entries p a))
+    (division text entries q b)
+    functions in
     let pages : p.pages ≡ q.pages
-    = same_pages q.globals p.pages q.pages (subst AreDistinct (sym b.globals) (globals_once (codes_of (inputs_of entries))))
-    (subst (λ g. IsDivision g p.pages) shared (division text entries p a)) (division text entries q b) functions in
-    one_list p q shared (same_slots text entries p q a b) (a.lsdas ∙ ap (flat_map (lsda_from text)) run ∙ sym b.lsdas) pages
+    = a.written ∙ ap (λ g. map (page_for g) a.pages) shared ∙ ap (map (page_for q.globals)) divided ∙ sym b.written in
+    one_list p q shared (same_slots text entries p q a b) (a.lsdas ∙ ap (filter_map (lsda_from text)) run ∙ sym b.lsdas) pages
     (same_end text entries p q some a b)

@@ -12,7 +12,8 @@ use Rattle.std.proofs.lemmas.List.Sorted.{All-permutation, Contains-permutation,
 use Rattle.std.proofs.lemmas.Option.{get_or_from_slice_get}
 use Rattle.macho_unwind_pages.specs.declared.entries.Personality.{Personality}
 use Rattle.macho_unwind_pages.specs.declared.entries.ResolvedUnwindInfo.{ResolvedUnwindInfo}
-use Rattle.macho_unwind_pages.specs.Entries.{inputs_of, named_by, named_ids, ids_of, place_in, IsLast, ranks_before, ranked}
+use Rattle.macho_unwind_pages.specs.Entries.{inputs_of, named_by, named_ids, ids_of, place_in, IsLast, ranks_before}
+use Rattle.macho_unwind_pages.specs.steps.Ranks.{ranked}
 use Rattle.macho_unwind_pages.specs.Bounds.{MOST_GLOBALS, globals_of}
 use Rattle.macho_unwind_pages.specs.Plans.{PlanList, IsPlanOf, HasSlot}
 use Rattle.macho_unwind_pages.proofs.Orders.{has, nat_lt-strict, rises-in_order, rises_once, has-in_order}

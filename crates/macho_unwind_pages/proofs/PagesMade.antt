@@ -10,8 +10,9 @@ use Rattle.std.proofs.lemmas.List.{get_or_append_left, get_or-append_right, appe
 use Rattle.std.proofs.lemmas.List.Elements.{All-push}
 use Rattle.std.proofs.lemmas.List.Quantifiers.{all_pairs_push}
 use Rattle.macho_unwind_pages.specs.Bounds.{PAGE_SPAN}
-use Rattle.macho_unwind_pages.specs.Plans.{PageList, Row, IsPage, IsClosedTo, AreClosed, AreLocals, page_rows, first_row}
-use Rattle.macho_unwind_pages.specs.steps.Paging.{IsOpenTo, Adds, ArePages, HasFewLocals, empty_page}
+use Rattle.macho_unwind_pages.specs.Plans.{PageList, Row, IsPage}
+use Rattle.macho_unwind_pages.specs.steps.Words.{IsClosedTo, AreClosed, AreLocals, page_rows, first_row}
+use Rattle.macho_unwind_pages.specs.steps.Paging.{IsOpenTo, Adds, ArePages, empty_page}
 use Rattle.macho_unwind_pages.proofs.Growing.{IsOpenPage, AllBefore, is_page, empty_is_open, rows_more, first_kept, first_new, words_more, page_more}
 
 -- closed pages and an open one, of functions of which the last starts at an offset
@@ -20,7 +21,6 @@ pub record ArePagesTo (globals : List ℕ) (functions : List Row) (last : ℕ) (
   pub some : 0 < length page.words
   pub each : All (IsPage globals) done
   pub locals : All (AreLocals globals) done
-  pub few : All (HasFewLocals globals) done
   pub is : IsOpenPage globals page
   pub order : AllPairs (λ p q. AllBefore p q.first) done
   pub before : All (λ p. AllBefore p page.first) done
@@ -39,7 +39,6 @@ taken globals functions last done old new row pages later room a = record {
   some = omega (arith, words_more globals old new row a);
   each = pages.each;
   locals = pages.locals;
-  few = pages.few;
   is = page_more globals old new row pages.is (λ none. absurd (omega (arith, pages.some)))
       (λ k d h. omega (arith, pages.upto k d h)) room a;
   order = pages.order;
@@ -86,7 +85,6 @@ first_taken globals page row a = record {
   some = omega (arith, words_more globals (empty_page row.start) page row a);
   each = λ k d h. absurd (omega arith);
   locals = λ k d h. absurd (omega arith);
-  few = λ k d h. absurd (omega arith);
   is = opened globals page row a;
   order = λ i j d low h. absurd (omega arith);
   before = λ k d h. absurd (omega arith);
@@ -136,7 +134,6 @@ closed_and_opened globals functions last done old new row pages later shut a = r
   some = omega (arith, words_more globals (empty_page row.start) new row a);
   each = All-push (IsPage globals) done old pages.each (is_page globals old pages.some pages.is);
   locals = All-push (AreLocals globals) done old pages.locals pages.is.own;
-  few = All-push (HasFewLocals globals) done old pages.few pages.is.few;
   is = opened globals new row a;
   order = all_pairs_push (λ p q. AllBefore p q.first) done old pages.order pages.before;
   before = All-push (λ p. AllBefore p new.first) done old
@@ -164,7 +161,6 @@ all_pages globals functions last done page pages = record {
       ∙ ap (λ l. flat_map (page_rows globals) done ++ l) (append-nil (page_rows globals page)) ∙ pages.rows;
   each = All-push (IsPage globals) done page pages.each (is_page globals page pages.some pages.is);
   locals = All-push (AreLocals globals) done page pages.locals pages.is.own;
-  few = All-push (HasFewLocals globals) done page pages.few pages.is.few;
   order = all_pairs_push (λ p q. AllBefore p q.first) done page pages.order pages.before;
   closed = closed_more globals done page pages.closed pages.next;
 }

@@ -3,9 +3,10 @@
 -- The sorted run is a permutation of the entries, so all that is said of each entry or counted over all is the same of it: codes,
 -- those that not every page may name, and data. So the law of pages and bytes gives the bound of the entries. A page's first start
 -- is that of one of its functions, so it lies between the least start and the span above it.
-use Rattle.std.proofs.Common.{◌≡◌, ℕ, zero, suc, ◌+◌, ◌-◌, ◌^◌, ◌<◌, ◌≤◌, ◌==◌, true, Option, None, Some, IfSome, List, [], ◌∷◌, ◌++◌, length, map, take, get_or, IsPermutation, sym, ap, subst, ◌∙◌, arith, inl, inr, ◌⊎◌}
+use Rattle.std.proofs.Common.{◌≡◌, ℕ, zero, suc, ◌+◌, ◌-◌, ◌^◌, ◌<◌, ◌≤◌, ◌==◌, true, Option, None, Some, IfSome, List, [], ◌∷◌, ◌++◌, length, map, take, get_or, IsPermutation, refl, sym, ap, subst, ◌∙◌, arith, inl, inr, ◌⊎◌}
 use Rattle.std.specs.Prelude.{IsSomeAnd}
-use Rattle.std.specs.List.{All, AllPairs, flat_map, list_any}
+use Rattle.std.specs.List.{All, AllPairs, flat_map, filter_map, cons_option, list_any}
+use Rattle.std.specs.Option.{option_map}
 use Rattle.std.proofs.lemmas.List.{length-take}
 use Rattle.std.proofs.lemmas.List.Elements.{All-map, All-append, All-take}
 use Rattle.std.proofs.lemmas.List.Sorted.{All-permutation, Contains-permutation, IsPermutation-sym, length_permutation}
@@ -13,10 +14,15 @@ use Rattle.macho_unwind_pages.specs.declared.entries.UnwindInput.{UnwindInput}
 use Rattle.macho_unwind_pages.specs.declared.entries.Personality.{Personality}
 use Rattle.macho_unwind_pages.specs.declared.entries.ResolvedUnwindInfo.{ResolvedUnwindInfo}
 use Rattle.macho_unwind_pages.specs.declared.plans.Lsda.{Lsda}
-use Rattle.macho_unwind_pages.specs.Entries.{AreEntries, IsLast, input_of, inputs_of, ids_of, code_in, codes_of, ranked}
-use Rattle.macho_unwind_pages.specs.Plans.{PlanList, Row, IsPlan, IsPlanOf, HasSlot, IsFar, HasFarAddress, HasFarOffset, row_from, lsda_at, lsda_from}
+use Rattle.macho_unwind_pages.specs.Entries.{AreEntries, IsLast, input_of, inputs_of, ids_of, code_in, codes_of}
+use Rattle.macho_unwind_pages.specs.steps.Ranks.{ranked}
+use Rattle.macho_unwind_pages.specs.Plans.{PlanList, Row, IsPlan, IsPlanOf, HasSlot, IsFar, HasFarAddress, HasFarOffset, row_from, lsda_from}
+use Rattle.macho_unwind_pages.specs.steps.Words.{page_rows}
 use Rattle.macho_unwind_pages.specs.steps.Paging.{ArePages}
-use Rattle.macho_unwind_pages.specs.steps.Planning.{IsNear, IsBehind, IsNumbered, HasShortCode, IsReady, IsAssembled}
+use Rattle.macho_unwind_pages.specs.steps.Planning.{lsda_at, lsda_list, IsNear, IsBehind, IsNumbered, HasShortCode, IsReady, IsAssembled}
+use Rattle.macho_unwind_pages.proofs.OneList.{AreDistinct}
+use Rattle.macho_unwind_pages.proofs.OneTables.{globals_once}
+use Rattle.macho_unwind_pages.proofs.Divided.{divided, written}
 use Rattle.macho_unwind_pages.proofs.Gathered.{numbered, short_codes, behind, alike, ranked_codes, short_ranks}
 
 -- what the parts are made from
@@ -64,11 +70,25 @@ pairs_cons R y ys first rest zero (suc j) d low h = first j d (omega arith)
 pairs_cons R y ys first rest (suc i) zero d low h = absurd (omega arith)
 pairs_cons R y ys first rest (suc i) (suc j) d low h = rest i j d (omega arith) (omega arith)
 
+-- the data of a run, one by one
+pub lsdas_told : (text : ℕ) (run : List ResolvedUnwindInfo) → filter_map (lsda_from text) run ≡ flat_map (lsda_list text) run
+lsdas_told text [] = refl
+lsdas_told text (e ∷ run) = go (lsdas_told text run) e.lsda
+  where
+    go : filter_map (lsda_from text) run ≡ flat_map (lsda_list text) run → (o : Option ℕ)
+        → cons_option (option_map (λ address. let l : Lsda = record { function = e.start - text; lsda = address - text } in l) o)
+        (filter_map (lsda_from text) run)
+        ≡ lsda_at text e.start o ++ flat_map (lsda_list text) run
+    go rest None = rest
+    go rest (Some address) =
+        let l : Lsda = record { function = e.start - text; lsda = address - text } in
+        ap (λ (ls : List Lsda). l ∷ ls) rest
+
 lsda_bounds : (text : ℕ) (least : ℕ) (run : List ResolvedUnwindInfo) → text ≤ least → All (λ e. least < e.start) run
-    → All (λ l. least - text < l.function) (flat_map (lsda_from text) run)
+    → All (λ l. least - text < l.function) (flat_map (lsda_list text) run)
 lsda_bounds text least [] above later = λ k d h. absurd (omega arith)
 lsda_bounds text least (e ∷ run) above later =
-    All-append (λ l. least - text < l.function) (lsda_from text e) (flat_map (lsda_from text) run) (one e.lsda)
+    All-append (λ l. least - text < l.function) (lsda_list text e) (flat_map (lsda_list text) run) (one e.lsda)
     (lsda_bounds text least run above (λ k d h. later (suc k) d (omega arith)))
   where
     one : (o : Option ℕ) → All (λ l. least - text < l.function) (lsda_at text e.start o)
@@ -80,25 +100,25 @@ lsda_bounds text least (e ∷ run) above later =
         first (suc k) d h = absurd (omega arith)
 
 lsda_order : (text : ℕ) (run : List ResolvedUnwindInfo) → All (IsBehind text) run → AllPairs (λ e f. e.start < f.start) run
-    → AllPairs (λ l m. l.function < m.function) (flat_map (lsda_from text) run)
+    → AllPairs (λ l m. l.function < m.function) (flat_map (lsda_list text) run)
 lsda_order text [] above rising = λ i j d low h. absurd (omega arith)
 lsda_order text (e ∷ run) above rising =
     go e.lsda (lsda_order text run (λ k d h. above (suc k) d (omega arith))
     (λ i j d low h. rising (suc i) (suc j) d (omega arith) (omega arith)))
   where
-    go : (o : Option ℕ) → AllPairs (λ l m. l.function < m.function) (flat_map (lsda_from text) run)
-        → AllPairs (λ l m. l.function < m.function) (lsda_at text e.start o ++ flat_map (lsda_from text) run)
+    go : (o : Option ℕ) → AllPairs (λ l m. l.function < m.function) (flat_map (lsda_list text) run)
+        → AllPairs (λ l m. l.function < m.function) (lsda_at text e.start o ++ flat_map (lsda_list text) run)
     go None rest = rest
     go (Some address) rest =
         pairs_cons (λ l m. l.function < m.function) (record { function = e.start - text; lsda = address - text })
-        (flat_map (lsda_from text) run)
+        (flat_map (lsda_list text) run)
         (lsda_bounds text e.start run (above 0 e (omega arith)).start (λ k d h. rising 0 (suc k) d (omega arith) (omega arith))) rest
 
 lsda_short : (text : ℕ) (run : List ResolvedUnwindInfo) → All (IsNear text) run
-    → All (λ l. (l.function < 2 ^ 32) × (l.lsda < 2 ^ 32)) (flat_map (lsda_from text) run)
+    → All (λ l. (l.function < 2 ^ 32) × (l.lsda < 2 ^ 32)) (flat_map (lsda_list text) run)
 lsda_short text [] near = λ k d h. absurd (omega arith)
 lsda_short text (e ∷ run) near =
-    All-append (λ l. (l.function < 2 ^ 32) × (l.lsda < 2 ^ 32)) (lsda_from text e) (flat_map (lsda_from text) run)
+    All-append (λ l. (l.function < 2 ^ 32) × (l.lsda < 2 ^ 32)) (lsda_list text e) (flat_map (lsda_list text) run)
     (one e.lsda (near 0 e (omega arith)).lsda) (lsda_short text run (λ k d h. near (suc k) d (omega arith)))
   where
     one : (o : Option ℕ) → IfSome o (λ address. address < text + 2 ^ 32)
@@ -116,7 +136,7 @@ lsda_short text (e ∷ run) near =
 pub assembled_of : (text : ℕ) (ids codes : List ℕ) (run : List ResolvedUnwindInfo) (rows : List Row) (ranks : List ℕ) (plan : PlanList)
     → IsReady text ids codes run → ranks ≡ ranked codes → rows ≡ map (row_from text ids) run → ArePages (take 224 ranks) rows plan.pages
     → plan.globals ≡ take 224 ranks → length plan.personalities ≡ length ids → All (HasSlot text ids plan.personalities) run
-    → plan.lsdas ≡ flat_map (lsda_from text) run → All (λ slot. slot < 2 ^ 32) plan.personalities → IsAssembled text ids codes run plan
+    → plan.lsdas ≡ flat_map (lsda_list text) run → All (λ slot. slot < 2 ^ 32) plan.personalities → IsAssembled text ids codes run plan
 assembled_of text ids codes run rows ranks plan is ranks_are rows_are pages globals count slots lsdas short = record {
   pages = subst (λ g. ArePages g (map (row_from text ids) run) plan.pages) (sym globals)
       (subst (λ rs. ArePages (take 224 ranks) rs plan.pages) rows_are pages);
@@ -169,8 +189,8 @@ far_of_run text entries run moved far =
     go (inl address) = inl address
     go (inr last) = inr (All-permutation (λ f. f.start ≤ far.0.start) run entries (IsPermutation-sym entries run moved) last.0, last.1)
 
--- the plan
-is_plan : (text : ℕ) (ids codes : List ℕ) (run : List ResolvedUnwindInfo) (plan : PlanList) → IsReady text ids codes run
+-- the plan can be written
+pub is_plan : (text : ℕ) (ids codes : List ℕ) (run : List ResolvedUnwindInfo) (plan : PlanList) → IsReady text ids codes run
     → IsAssembled text ids codes run plan → plan.end < 2 ^ 32 → IsPlan plan
 is_plan text ids codes run plan are is low = record {
   pages = is.pages.each;
@@ -189,18 +209,18 @@ pub planned : (text : ℕ) (entries run : List ResolvedUnwindInfo) (plan : PlanL
     → IsAssembled text (ids_of (inputs_of entries)) (codes_of (inputs_of entries)) run plan → IsPermutation entries run
     → plan.end ≡ end → end < 2 ^ 32 → All (λ e. IsLast run e → e.start + e.length ≡ text + end) run → IsPlanOf text entries plan
 planned text entries run plan end are is moved end_is low ends = record {
-  formed = is_plan text _ _ run plan are is (omega (arith, end_is));
   run = run;
   same = moved;
   rising = are.rising;
-  rows = is.pages.rows;
+  pages = map (page_rows plan.globals) plan.pages;
+  divided = divided plan.globals (map (row_from text (ids_of (inputs_of entries))) run) plan.pages is.pages;
+  written = written plan.globals (map (row_from text (ids_of (inputs_of entries))) run) plan.pages
+      (subst AreDistinct (sym is.globals) (globals_once (codes_of (inputs_of entries)))) is.pages;
   globals = is.globals;
-  locals = is.pages.locals;
-  closed = is.pages.closed;
   personalities = is.count;
   slots = All-permutation (HasSlot text (ids_of (inputs_of entries)) plan.personalities) run entries
       (IsPermutation-sym entries run moved) is.slots;
-  lsdas = is.lsdas;
+  lsdas = is.lsdas ∙ sym (lsdas_told text run);
   end = λ k d h last. omega (
     arith,
     end_is,

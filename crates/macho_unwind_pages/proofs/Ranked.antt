@@ -23,9 +23,9 @@ use Rattle.std.proofs.lemmas.Map.Entries.{hash_map_get_place}
 use Rattle.std.proofs.lemmas.Option.{slice_get-get_or}
 use Rattle.std.proofs.lemmas.Bool.Decides.{Decides-eqb}
 use Rattle.indexmap.specs.IndexMap.{IndexMap, keys, get, IsUnique}
-use Rattle.macho_unwind_pages.specs.Bounds.{locals_in}
-use Rattle.macho_unwind_pages.specs.steps.Ranks.{Counts, IsNumberOf}
-use Rattle.macho_unwind_pages.specs.Entries.{times, ranks_before, ranked}
+use Rattle.macho_unwind_pages.specs.steps.Tallies.{locals_in}
+use Rattle.macho_unwind_pages.specs.steps.Ranks.{Counts, IsNumberOf, ranked}
+use Rattle.macho_unwind_pages.specs.Entries.{times, ranks_before}
 use Rattle.macho_unwind_pages.proofs.Orders.{IsStrict, Rises, has, above_weaker, in_order-unique}
 
 -- the test on two counts and two codes

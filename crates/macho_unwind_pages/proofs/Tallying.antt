@@ -4,8 +4,10 @@ use Rattle.std.specs.List.{count_by}
 use Rattle.std.proofs.lemmas.List.{length-take}
 use Rattle.macho_unwind_pages.specs.declared.entries.UnwindInput.{UnwindInput}
 use Rattle.macho_unwind_pages.specs.declared.bound.Tallies.{Tallies}
-use Rattle.macho_unwind_pages.specs.Entries.{ids_of, code_in, codes_of, ranked}
-use Rattle.macho_unwind_pages.specs.Bounds.{MOST_GLOBALS, globals_of, locals_in, tallies_of}
+use Rattle.macho_unwind_pages.specs.Entries.{ids_of, code_in, codes_of}
+use Rattle.macho_unwind_pages.specs.steps.Ranks.{ranked}
+use Rattle.macho_unwind_pages.specs.Bounds.{MOST_GLOBALS, globals_of}
+use Rattle.macho_unwind_pages.specs.steps.Tallies.{tallies_of, locals_in}
 
 abbrev tallies_from : List UnwindInput → List ℕ → List ℕ → List ℕ → Tallies
 tallies_from entries ids codes globals = record {

@@ -11,14 +11,6 @@ use Rattle.macho_unwind_pages.specs.Orders.{in_order}
 abbrev pub MOST_PERSONALITIES : ℕ
 MOST_PERSONALITIES = 3
 
--- where the personality's number begins in an encoding
-abbrev pub PERSONALITY_UNIT : ℕ
-PERSONALITY_UNIT = 2 ^ 28
-
--- the numbers of bits 28 and 29
-abbrev pub PERSONALITY_NUMBERS : ℕ
-PERSONALITY_NUMBERS = 4
-
 -- an entry without its addresses
 abbrev pub input_of : ResolvedUnwindInfo → UnwindInput
 input_of e = record { encoding = e.encoding; personality = option_map (λ p. p.id) e.personality; lsda = is_some e.lsda }
@@ -50,7 +42,7 @@ number_in ids (Some id) = 1 + place_in ids id
 
 -- an entry's code: its encoding with its personality's number in bits 28 and 29
 abbrev pub code_in : List ℕ → UnwindInput → ℕ
-code_in ids e = e.encoding + PERSONALITY_UNIT * number_in ids e.personality
+code_in ids e = e.encoding + 2 ^ 28 * number_in ids e.personality
 
 -- the code of each entry
 abbrev pub codes_of : List UnwindInput → List ℕ
@@ -64,10 +56,6 @@ times codes code = count_by (λ other. code == other) codes
 abbrev pub ranks_before : List ℕ → ℕ → ℕ → Bool
 ranks_before codes a b = nat_lt (times codes b) (times codes a) || (times codes a == times codes b && nat_lt b a)
 
--- the codes of a list by rank, each once
-abbrev pub ranked : List ℕ → List ℕ
-ranked codes = in_order (ranks_before codes) codes
-
 -- What is asked of entries: starts are distinct, no address is below the text's, no function ends at 2^64 or later,
 -- one id has one slot, and the personality's bits of encodings are clear.
 pub record AreEntries (text : ℕ) (entries : List ResolvedUnwindInfo) : Type 0 where
@@ -78,7 +66,7 @@ pub record AreEntries (text : ℕ) (entries : List ResolvedUnwindInfo) : Type 0 
   pub ends : All (λ e. e.start + e.length < 2 ^ 64) entries
   pub alike : All (λ e. All (λ f.
       IfSome e.personality (λ p. IfSome f.personality (λ q. p.id ≡ q.id → p.slot ≡ q.slot))) entries) entries
-  pub clear : All (λ e. e.encoding / PERSONALITY_UNIT % PERSONALITY_NUMBERS ≡ 0) entries
+  pub clear : All (λ e. e.encoding / 2 ^ 28 % 4 ≡ 0) entries
 
 -- no entry starts later
 abbrev pub IsLast : List ResolvedUnwindInfo → ResolvedUnwindInfo → Type 0

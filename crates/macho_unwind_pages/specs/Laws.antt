@@ -4,7 +4,7 @@ use Rattle.std.specs.List.{AllPairs, range_with_len}
 use Rattle.macho_unwind_pages.specs.declared.entries.UnwindInput.{UnwindInput}
 use Rattle.macho_unwind_pages.specs.declared.entries.ResolvedUnwindInfo.{ResolvedUnwindInfo}
 use Rattle.macho_unwind_pages.specs.Entries.{AreEntries, SpansAtMost, inputs_of, ids_of}
-use Rattle.macho_unwind_pages.specs.Bounds.{tallies_of, most_pages, unwind_bound_of}
+use Rattle.macho_unwind_pages.specs.Bounds.{most_pages, unwind_bound_of}
 use Rattle.macho_unwind_pages.specs.Plans.{PlanList, IsPlanOf, size_of}
 
 -- one entry or more have one plan at most
@@ -15,7 +15,7 @@ PlansAreOne =
 
 -- a plan has no more pages than are told before, for any span that the starts keep to
 abbrev pub HasFewPages : List ResolvedUnwindInfo → PlanList → Type 0
-HasFewPages entries plan = (span : ℕ) → SpansAtMost span entries → length plan.pages ≤ most_pages (tallies_of (inputs_of entries)) span
+HasFewPages entries plan = (span : ℕ) → SpansAtMost span entries → length plan.pages ≤ most_pages (inputs_of entries) span
 
 -- and no more bytes
 abbrev pub IsShort : List ResolvedUnwindInfo → PlanList → Type 0

@@ -2,3 +2,5 @@
 pub mod Paging
 pub mod Planning
 pub mod Ranks
+pub mod Tallies
+pub mod Words

@@ -1,7 +1,8 @@
 //! The room that the unwind section needs at most, told before entries have addresses.
 ghost use Rattle.std.specs.Prelude.{◌≡◌, ◌+◌, ◌*◌, ◌^◌, ◌<◌, ◌≤◌, length, take, count_by, SomeIff, MatchOption, IfOk, IfErr, OnOk};
 ghost use Rattle.macho_unwind_pages.specs.Entries.{MOST_PERSONALITIES, ids_of};
-ghost use Rattle.macho_unwind_pages.specs.Bounds.{tallies_of, most_pages, bytes_of, unwind_bound_of};
+ghost use Rattle.macho_unwind_pages.specs.Bounds.{unwind_bound_of};
+ghost use Rattle.macho_unwind_pages.specs.steps.Tallies.{tallies_of, pages_of, bytes_of};
 ghost use Rattle.macho_unwind_pages.specs.Calls.{SizeFault, BoundFault, TellsBound};
 
 use crate::entries::{UnwindFault, UnwindInput};
@@ -64,7 +65,7 @@ fn with_records(bytes: u64, size: u64, count: u64) -> Option<u64>
 
 /// The bytes of the section with so many of each thing, with a span from the least to the greatest start.
 fn bytes(tallies: Tallies, span: u64) -> Option<u64>
-    ensures { MatchOption result (2 ^ 64 ≤ bytes_of tallies (most_pages tallies span)) (λ n. n ≡ bytes_of tallies (most_pages tallies span)) }
+    ensures { MatchOption result (2 ^ 64 ≤ bytes_of tallies (pages_of tallies span)) (λ n. n ≡ bytes_of tallies (pages_of tallies span)) }
 {
     let words = tallies.entries.checked_add(tallies.local)?;
     let pages = if tallies.entries == 0 {

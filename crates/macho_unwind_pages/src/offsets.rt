@@ -6,8 +6,8 @@ ghost use Rattle.indexmap.specs.IndexMap.{keys};
 ghost use Rattle.macho_unwind_pages.specs.Entries.{MOST_PERSONALITIES, IsLast};
 ghost use Rattle.macho_unwind_pages.specs.declared.entries.ResolvedUnwindInfo.{ResolvedUnwindInfo};
 ghost use Rattle.macho_unwind_pages.specs.declared.entries.UnwindFault.TheVariants.{OffsetTooLarge};
-ghost use Rattle.macho_unwind_pages.specs.Plans.{row_from, lsda_from, HasSlot, HasFarAddress, HasFarOffset};
-ghost use Rattle.macho_unwind_pages.specs.steps.Planning.{IsNear, IsBehind, IsNumbered, AreAlike, HasShortCode};
+ghost use Rattle.macho_unwind_pages.specs.Plans.{row_from, HasSlot, HasFarAddress, HasFarOffset};
+ghost use Rattle.macho_unwind_pages.specs.steps.Planning.{lsda_list, IsNear, IsBehind, IsNumbered, AreAlike, HasShortCode};
 
 use crate::entries::{ResolvedUnwindInfo, UnwindFault};
 use crate::numbering::{code, input, place};
@@ -130,7 +130,7 @@ pub(crate) fn lsdas(
 ) -> Result<Vec<Lsda>, AllocError>
     requires behind { All (IsBehind text_start) run.now }
     requires near { All (IsNear text_start) run.now }
-    ensures { IfOk result (λ lsdas. lsdas.items ≡ flat_map (lsda_from text_start) run.now) }
+    ensures { IfOk result (λ lsdas. lsdas.items ≡ flat_map (lsda_list text_start) run.now) }
 {
     let mut lsdas = Vec::new(alloc);
     for entry in run {

@@ -7,7 +7,8 @@ ghost use Rattle.std.specs.List.{AllPairs, list_any};
 ghost use Rattle.indexmap.specs.IndexMap.{keys};
 ghost use Rattle.macho_unwind_pages.specs.Bounds.{MOST_LOCALS};
 ghost use Rattle.macho_unwind_pages.specs.steps.Ranks.{IsNumberOf};
-ghost use Rattle.macho_unwind_pages.specs.Plans.{page_list, IsNamed, IsClosedTo};
+ghost use Rattle.macho_unwind_pages.specs.Plans.{page_list};
+ghost use Rattle.macho_unwind_pages.specs.steps.Words.{IsNamed, IsClosedTo};
 ghost use Rattle.macho_unwind_pages.specs.steps.Paging.{globals_in, empty_page, IsFull, IsOpenTo, Names, Adds, ArePages};
 
 use crate::plans::Page;

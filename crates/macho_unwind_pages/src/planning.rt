@@ -2,8 +2,9 @@
 ghost use Rattle.std.specs.Prelude.{◌≡◌, ◌==◌, ◌^◌, ◌<◌, ◌≤◌, true, length, map, All, IfOk, IfErr, OnOk};
 ghost use Rattle.std.specs.List.{AllPairs, list_any};
 ghost use Rattle.macho_unwind_pages.specs.Bounds.{globals_of};
-ghost use Rattle.macho_unwind_pages.specs.Entries.{MOST_PERSONALITIES, AreEntries, inputs_of, ids_of, ranked};
-ghost use Rattle.macho_unwind_pages.specs.Plans.{plan_list, page_list, IsPlanOf, HasFarOffset};
+ghost use Rattle.macho_unwind_pages.specs.Entries.{MOST_PERSONALITIES, AreEntries, inputs_of, ids_of};
+ghost use Rattle.macho_unwind_pages.specs.steps.Ranks.{ranked};
+ghost use Rattle.macho_unwind_pages.specs.Plans.{plan_list, page_list, IsPlan, IsPlanOf, HasFarOffset};
 ghost use Rattle.macho_unwind_pages.specs.steps.Paging.{ArePages};
 ghost use Rattle.macho_unwind_pages.specs.steps.Planning.{IsReady, IsAssembled};
 ghost use Rattle.macho_unwind_pages.specs.Laws.{HasFewPages, IsShort};
@@ -47,6 +48,7 @@ fn assembled(
 ) -> Result<Plan, AllocError>
     requires { IsReady text_start ids.now codes.now run.now }
     ensures done { IfOk result (λ p. IsAssembled text_start ids.now codes.now run.now (plan_list p)) }
+    ensures formed { IfOk result (λ p. IsPlan (plan_list p)) }
     ensures end { IfOk result (λ p. p.end ≡ end) }
 {
     let personalities = slots(alloc, text_start, ids, run)?;
@@ -72,6 +74,7 @@ pub fn plan(
     requires some { 0 < length entries.now }
     requires entries { AreEntries text_start entries.now }
     ensures done { IfOk result (λ p. IsPlanOf text_start entries.now (plan_list p)) }
+    ensures formed { IfOk result (λ p. IsPlan (plan_list p)) }
     ensures pages { IfOk result (λ p. HasFewPages entries.now (plan_list p)) }
     ensures short { IfOk result (λ p. IsShort entries.now (plan_list p)) }
     ensures few { OnOk result (length (ids_of (inputs_of entries.now)) ≤ MOST_PERSONALITIES) }

@@ -3,9 +3,8 @@ ghost use Rattle.std.specs.Prelude.{◌≡◌, ◌==◌, take, is_some, IfSome, 
 ghost use Rattle.std.specs.List.{list_any};
 ghost use Rattle.std.specs.Ordering.{nat_cmp, ordering_then};
 ghost use Rattle.indexmap.specs.IndexMap.{keys};
-ghost use Rattle.macho_unwind_pages.specs.Entries.{ranked};
-ghost use Rattle.macho_unwind_pages.specs.Bounds.{locals_in};
-ghost use Rattle.macho_unwind_pages.specs.steps.Ranks.{Counts, IsNumberOf};
+ghost use Rattle.macho_unwind_pages.specs.steps.Ranks.{ranked, Counts, IsNumberOf};
+ghost use Rattle.macho_unwind_pages.specs.steps.Tallies.{locals_in};
 
 use indexmap::IndexMap;
 use std::alloc::{AllocError, Global};

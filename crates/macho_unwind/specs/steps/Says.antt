@@ -3,7 +3,8 @@
 use Rattle.std.specs.Prelude.{◌≡◌, ◌≢◌, ℕ, ◌-◌, ◌≤◌, ◌<◌, List, length, slice_index, All, Contains, Option, Some, None}
 use Rattle.macho_unwind_pages.specs.declared.plans.Lsda.{Lsda}
 use Rattle.macho_unwind_pages.specs.declared.paging.Row.{Row}
-use Rattle.macho_unwind_pages.specs.Plans.{PlanList, rows_of}
+use Rattle.macho_unwind_pages.specs.Plans.{PlanList}
+use Rattle.macho_unwind_pages.specs.steps.Words.{rows_of}
 use Rattle.macho_unwind.specs.Sections.{personality_in, without_personality}
 use Rattle.macho_unwind.specs.declared.lookup.Found.{Found}
 

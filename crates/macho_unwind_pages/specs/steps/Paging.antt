@@ -2,9 +2,10 @@
 use Rattle.std.specs.Prelude.{◌≡◌, ℕ, ◌+◌, ◌-◌, ◌/◌, ◌%◌, ◌^◌, ◌<◌, ◌≤◌, ◌⊎◌, List, [], ◌∷◌, ◌++◌, length, flat_map, take, All}
 use Rattle.std.specs.List.{AllPairs}
 use Rattle.indexmap.specs.IndexMap.{IndexMap, keys}
-use Rattle.macho_unwind_pages.specs.Bounds.{PAGE_SPAN, MOST_GLOBALS, MOST_LOCALS, MOST_WORDS, locals_in}
+use Rattle.macho_unwind_pages.specs.Bounds.{PAGE_SPAN, MOST_GLOBALS, MOST_LOCALS, MOST_WORDS}
 use Rattle.macho_unwind_pages.specs.steps.Ranks.{IsNumberOf}
-use Rattle.macho_unwind_pages.specs.Plans.{PageList, Row, IsNamed, IsPage, AreLocals, AreClosed, page_rows, codes_on}
+use Rattle.macho_unwind_pages.specs.Plans.{PageList, Row, IsPage}
+use Rattle.macho_unwind_pages.specs.steps.Words.{IsNamed, AreLocals, AreClosed, page_rows}
 
 -- the codes of a table that every page may name
 abbrev pub globals_in : {S : Type 0} → IndexMap ℕ ℕ S → List ℕ
@@ -13,10 +14,6 @@ globals_in ranks = take MOST_GLOBALS (keys ranks)
 -- a page without functions, from an offset on
 abbrev pub empty_page : ℕ → PageList
 empty_page first = record { first = first; words = []; locals = [] }
-
--- A page has no more codes of its own than functions with a code that not every page may name.
-abbrev pub HasFewLocals : List ℕ → PageList → Type 0
-HasFewLocals globals page = length page.locals ≤ locals_in globals (codes_on globals page)
 
 -- a page that has codes of its own stands beside as many global ones as there may be
 abbrev pub IsFull : List ℕ → PageList → Type 0
@@ -56,6 +53,5 @@ pub record ArePages (globals : List ℕ) (functions : List Row) (pages : List Pa
   pub rows : flat_map (page_rows globals) pages ≡ functions
   pub each : All (IsPage globals) pages
   pub locals : All (AreLocals globals) pages
-  pub few : All (HasFewLocals globals) pages
   pub order : AllPairs (λ p q. All (λ word. p.first + word % PAGE_SPAN < q.first) p.words) pages
   pub closed : AreClosed globals pages

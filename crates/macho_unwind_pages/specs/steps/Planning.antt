@@ -1,12 +1,13 @@
 -- What the parts of a plan ask of entries.
-use Rattle.std.specs.Prelude.{◌≡◌, ℕ, ◌+◌, ◌^◌, ◌<◌, ◌≤◌, IfSome, List, length, map, flat_map, ◌==◌, true, All}
+use Rattle.std.specs.Prelude.{◌≡◌, ℕ, ◌+◌, ◌-◌, ◌^◌, ◌<◌, ◌≤◌, Option, None, Some, IfSome, List, [], ◌∷◌, length, map, flat_map, ◌==◌, true, All}
 use Rattle.std.specs.List.{AllPairs, list_any}
 use Rattle.macho_unwind_pages.specs.declared.entries.ResolvedUnwindInfo.{ResolvedUnwindInfo}
-use Rattle.macho_unwind_pages.specs.Entries.{MOST_PERSONALITIES, place_in, input_of, code_in, ranked}
+use Rattle.macho_unwind_pages.specs.declared.plans.Lsda.{Lsda}
+use Rattle.macho_unwind_pages.specs.Entries.{MOST_PERSONALITIES, place_in, input_of, code_in}
+use Rattle.macho_unwind_pages.specs.steps.Ranks.{ranked, IsNumberOf}
 use Rattle.macho_unwind_pages.specs.Bounds.{globals_of}
-use Rattle.macho_unwind_pages.specs.Plans.{PlanList, row_from, lsda_from, HasSlot}
+use Rattle.macho_unwind_pages.specs.Plans.{PlanList, row_from, HasSlot}
 use Rattle.macho_unwind_pages.specs.steps.Paging.{ArePages}
-use Rattle.macho_unwind_pages.specs.steps.Ranks.{IsNumberOf}
 
 -- the addresses of an entry are told by offsets of 32 bits
 pub record IsNear (text : ℕ) (e : ResolvedUnwindInfo) : Type 0 where
@@ -46,12 +47,20 @@ pub record IsReady (text : ℕ) (ids codes : List ℕ) (run : List ResolvedUnwin
   pub fit : All (λ code. code < 2 ^ 32) codes
   pub ranked : All (λ e. list_any (λ other. code_in ids (input_of e) == other) (ranked codes) ≡ true) run
 
+-- what an entry adds to the list of language-specific data
+abbrev pub lsda_at : ℕ → ℕ → Option ℕ → List Lsda
+lsda_at text start None = []
+lsda_at text start (Some address) = record { function = start - text; lsda = address - text } ∷ []
+
+abbrev pub lsda_list : ℕ → ResolvedUnwindInfo → List Lsda
+lsda_list text e = lsda_at text e.start e.lsda
+
 -- The parts of a plan.
 pub record IsAssembled (text : ℕ) (ids codes : List ℕ) (run : List ResolvedUnwindInfo) (plan : PlanList) : Type 0 where
   pub pages : ArePages plan.globals (map (row_from text ids) run) plan.pages
   pub globals : plan.globals ≡ globals_of codes
   pub count : length plan.personalities ≡ length ids
   pub slots : All (HasSlot text ids plan.personalities) run
-  pub lsdas : plan.lsdas ≡ flat_map (lsda_from text) run
+  pub lsdas : plan.lsdas ≡ flat_map (lsda_list text) run
   pub short_codes : All (λ code. code < 2 ^ 32) plan.globals
   pub short_slots : All (λ slot. slot < 2 ^ 32) plan.personalities

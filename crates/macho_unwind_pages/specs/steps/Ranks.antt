@@ -1,7 +1,12 @@
 -- Counting codes, and numbering those that every page may name.
 use Rattle.std.specs.Prelude.{◌≡◌, ℕ, ◌<◌, ◌==◌, if◌then◌else◌, None, Some, nat_eq, List, length, slice_index}
 use Rattle.indexmap.specs.IndexMap.{IndexMap, get}
-use Rattle.macho_unwind_pages.specs.Entries.{times}
+use Rattle.macho_unwind_pages.specs.Orders.{in_order}
+use Rattle.macho_unwind_pages.specs.Entries.{times, ranks_before}
+
+-- the codes of a list by rank, each once
+abbrev pub ranked : List ℕ → List ℕ
+ranked codes = in_order (ranks_before codes) codes
 
 -- A table has how often each code of a list stands there, and no other codes.
 abbrev pub Counts : {S : Type 0} → List ℕ → IndexMap ℕ ℕ S → Type 0

@@ -15,7 +15,8 @@ use Rattle.macho_unwind_pages.specs.declared.plans.Page.{Page}
 use Rattle.macho_unwind_pages.specs.Plans.{plan_list, page_list}
 use Rattle.macho_unwind.specs.declared.records.PageEntry.{PageEntry}
 use Rattle.macho_unwind.specs.Layouts.{page_entry}
-use Rattle.macho_unwind.specs.Texts.{entries_place, entry_text}
+use Rattle.macho_unwind.specs.Texts.{entries_place}
+use Rattle.macho_unwind.specs.steps.Tables.{entry_text}
 use Rattle.macho_unwind.proofs.Lengths.{length-entry_text}
 use Rattle.macho_unwind.proofs.Places.{place-grows, page_formed, place_more, entry_is}
 use Rattle.macho_unwind.proofs.writing.write_entries.Goals as goal

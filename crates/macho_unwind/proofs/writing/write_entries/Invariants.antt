@@ -6,7 +6,8 @@ use Rattle.std.proofs.Common.{◌≡◌, ◌+◌, ◌*◌, length, take}
 use Rattle.std.specs.List.{range_with_len}
 use Rattle.macho_bytes.proofs.Sequences.{MoreTexts}
 use Rattle.macho_unwind_pages.specs.Plans.{plan_list}
-use Rattle.macho_unwind.specs.Texts.{page_place, entries_place, entry_text}
+use Rattle.macho_unwind.specs.Texts.{page_place, entries_place}
+use Rattle.macho_unwind.specs.steps.Tables.{entry_text}
 use Rattle.macho_unwind.proofs.writing.write_entries.Given as goal
 
 -- the entries so far are put, and the next page's place is known

@@ -5,7 +5,7 @@
 use Rattle.std.proofs.Common.{◌+◌, get_or, arith}
 use Rattle.macho_bytes.proofs.Sequences.{texts_begin, texts_go_on}
 use Rattle.macho_unwind_pages.specs.declared.plans.Lsda.{Lsda}
-use Rattle.macho_unwind.specs.Texts.{lsda_text}
+use Rattle.macho_unwind.specs.steps.Tables.{lsda_text}
 use Rattle.macho_unwind.proofs.Reading.{read_alike}
 use Rattle.macho_unwind.proofs.Lengths.{length-lsda_text}
 use Rattle.macho_unwind.proofs.writing.write_lsdas.Goals as goal

@@ -4,7 +4,7 @@
 -- which end at that place.
 use Rattle.std.proofs.Common.{◌≡◌, ◌+◌, ◌*◌, take}
 use Rattle.macho_bytes.proofs.Sequences.{MoreTexts}
-use Rattle.macho_unwind.specs.Texts.{lsda_text}
+use Rattle.macho_unwind.specs.steps.Tables.{lsda_text}
 use Rattle.macho_unwind.proofs.writing.write_lsdas.Given as goal
 
 -- the entries so far are put

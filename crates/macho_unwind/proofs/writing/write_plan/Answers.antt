@@ -16,7 +16,8 @@ use Rattle.macho_unwind_pages.specs.declared.plans.Lsda.{Lsda}
 use Rattle.macho_unwind_pages.specs.Plans.{plan_list, page_list, page_size}
 use Rattle.macho_unwind.specs.declared.records.CompactUnwindInfoHeader.{CompactUnwindInfoHeader}
 use Rattle.macho_unwind.specs.Layouts.{compact_unwind_info_header, page_entry}
-use Rattle.macho_unwind.specs.Texts.{header_for, personalities_place, entries_place, lsdas_place, pages_place, entry_text, last_entry_for, lsda_text, page_text, section_text}
+use Rattle.macho_unwind.specs.Texts.{header_for, personalities_place, entries_place, lsdas_place, pages_place, last_entry_for, page_text, section_text}
+use Rattle.macho_unwind.specs.steps.Tables.{entry_text, lsda_text}
 use Rattle.macho_unwind.proofs.Lengths.{length-header_text, length-entries, length-last_entry_text, length-lsdas, length-pages}
 use Rattle.macho_unwind.proofs.Places.{pages_short, texts-listed}
 use Rattle.macho_unwind.proofs.Joining.{IsPutUpTo, put_next}

@@ -6,8 +6,9 @@
 use Rattle.std.proofs.Common.{ℕ, ap, ◌∙◌, map, take, arith}
 use Rattle.std.proofs.lemmas.List.{length-map}
 use Rattle.indexmap.specs.IndexMap.{keys}
-use Rattle.macho_unwind_pages.specs.Entries.{ranked, code_in}
-use Rattle.macho_unwind_pages.specs.Bounds.{locals_in}
+use Rattle.macho_unwind_pages.specs.Entries.{code_in}
+use Rattle.macho_unwind_pages.specs.steps.Ranks.{ranked}
+use Rattle.macho_unwind_pages.specs.steps.Tallies.{locals_in}
 use Rattle.macho_unwind_pages.proofs.Tallying.{tallied}
 use Rattle.macho_unwind_pages.proofs.bound.tally.Goals as goal
 

@@ -2,7 +2,7 @@
 --
 -- The functions are those of the run, so there is one, they start in order, and the code of each is ranked. So they can be
 -- put on pages beside the first ranks. With the slots and the data of the run these are the parts of a plan.
-use Rattle.std.proofs.Common.{◌≡◌, ◌==◌, ◌<◌, List, length, map, true, refl, sym, ap, subst, ◌∙◌, arith}
+use Rattle.std.proofs.Common.{◌≡◌, ◌==◌, ◌<◌, List, length, map, true, refl, sym, ap, subst, ◌∙◌, arith, rules}
 use Rattle.std.specs.List.{All, AllPairs, list_any}
 use Rattle.std.proofs.lemmas.List.{length-map}
 use Rattle.std.proofs.lemmas.List.Elements.{All-map}
@@ -10,8 +10,8 @@ use Rattle.macho_unwind_pages.specs.Bounds.{globals_of}
 use Rattle.macho_unwind_pages.specs.Plans.{Row, row_from, page_list}
 use Rattle.macho_unwind_pages.specs.steps.Paging.{ArePages}
 use Rattle.macho_unwind_pages.proofs.Gathered.{rows_rise}
-use Rattle.macho_unwind_pages.specs.Entries.{ranked}
-use Rattle.macho_unwind_pages.proofs.Planned.{assembled_of}
+use Rattle.macho_unwind_pages.specs.steps.Ranks.{ranked}
+use Rattle.macho_unwind_pages.proofs.Planned.{assembled_of, is_plan}
 use Rattle.macho_unwind_pages.proofs.planning.assembled.Goals as goal
 
 pub globals_and_pages-requires-clause-some : goal.globals_and_pages-requires-clause-some
@@ -42,3 +42,7 @@ returns-clause-done c =
     c.as_slice.ensures.value c.in_ok-globals.ensures.pages)
     c.in_ok-globals.ensures.globals c.in_ok-personalities.ensures.length c.in_ok-personalities.ensures.done
     c.in_ok-lsdas.ensures c.in_ok-personalities.ensures.short
+
+pub returns-clause-formed : goal.returns-clause-formed
+returns-clause-formed c =
+    is_plan c.args.text_start c.args.ids.now c.args.codes.now c.args.run.now _ c.requires (returns-clause-done c) (search rules)

@@ -4,7 +4,8 @@
 -- since k is a place in a slice.
 use Rattle.std.proofs.Common.{◌≡◌, ◌≤◌, take}
 use Rattle.indexmap.specs.IndexMap.{keys}
-use Rattle.macho_unwind_pages.specs.Bounds.{MOST_GLOBALS, locals_in}
+use Rattle.macho_unwind_pages.specs.Bounds.{MOST_GLOBALS}
+use Rattle.macho_unwind_pages.specs.steps.Tallies.{locals_in}
 use Rattle.macho_unwind_pages.proofs.ranking.local_count.Given as goal
 
 abbrev pub invariant-loop-code : goal.invariant-loop-code

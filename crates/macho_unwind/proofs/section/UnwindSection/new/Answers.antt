@@ -8,9 +8,10 @@ use Rattle.std.proofs.Common.{◌<◌, length, refl, arith}
 use Rattle.std.proofs.lemmas.Bool.Decides.{nat_tests}
 use Rattle.std.proofs.lemmas.List.{length-map}
 use Rattle.macho_unwind_pages.specs.Plans.{plan_list, page_list}
-use Rattle.macho_unwind.proofs.EntryLookup.{finds-entries, finds-only-entries, no-ids, some-page}
+use Rattle.macho_unwind.proofs.EntryRows.{made_of}
+use Rattle.macho_unwind.proofs.EntryLookup.{written, finds-entries, finds-only-entries, no-ids, some-page}
 use Rattle.macho_unwind.proofs.Lengths.{length-section}
-use Rattle.macho_unwind.proofs.OnePlace.{is_section, no_far_page, no_page_at_all}
+use Rattle.macho_unwind.proofs.OnePlace.{no_far_page, no_page_at_all}
 use Rattle.macho_unwind.proofs.section.UnwindSection.new.Goals as goal
 
 pub returns-then-is_empty-clause-few : goal.returns-then-is_empty-clause-few
@@ -32,24 +33,26 @@ section_size-requires-clause-some c =
     let some : 0 < length c.args.entries.now = grind (arith, nat_tests) in
     omega (
       arith,
-      some-page c.args.text_start c.args.entries.now (plan_list c.in_ok-plan.plan) c.in_ok-plan.ensures.done some,
+      some-page c.args.text_start c.args.entries.now (plan_list c.in_ok-plan.plan)
+          (made_of c.args.text_start c.args.entries.now (plan_list c.in_ok-plan.plan) c.requires c.in_ok-plan.ensures.done
+          c.in_ok-plan.ensures.formed) some,
       length-map c.in_ok-plan.plan.pages.items page_list,
     )
 
 pub returns-clause-done : goal.returns-clause-done
-returns-clause-done c some =
-    is_section c.args.text_start c.args.entries.now (plan_list c.in_ok-plan.plan) _ some c.in_ok-plan.ensures.done
-    c.in-Some.ensures.1 refl
+returns-clause-done c some = record { plan = plan_list c.in_ok-plan.plan; of_entries = c.in_ok-plan.ensures.done; is = refl }
 
 pub returns-clause-found : goal.returns-clause-found
 returns-clause-found c =
-    let test = c.is_empty.ensures in
-    let full = c.if-is_empty.false in
-    let some : 0 < length c.args.entries.now = grind (arith, nat_tests) in
-    finds-entries c.args.text_start c.args.entries.now _ c.requires (returns-clause-done c some)
+    finds-entries c.args.text_start c.args.entries.now _ c.requires
+    (written c.args.text_start c.args.entries.now (plan_list c.in_ok-plan.plan) c.requires c.in_ok-plan.ensures.done
+    c.in_ok-plan.ensures.formed c.in-Some.ensures.1)
 
 pub returns-clause-only : goal.returns-clause-only
-returns-clause-only c some = finds-only-entries c.args.text_start c.args.entries.now _ c.requires some (returns-clause-done c some)
+returns-clause-only c some =
+    finds-only-entries c.args.text_start c.args.entries.now _ c.requires
+    (written c.args.text_start c.args.entries.now (plan_list c.in_ok-plan.plan) c.requires c.in_ok-plan.ensures.done
+    c.in_ok-plan.ensures.formed c.in-Some.ensures.1)
 
 pub returns-clause-room : goal.returns-clause-room
 returns-clause-room c span spans =
