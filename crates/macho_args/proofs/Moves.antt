@@ -12,7 +12,7 @@ use Rattle.macho_args.specs.Effects.{joined}
 use Rattle.macho_args.specs.Store.{CanonicalPaths, Directories, IsToldDirectory, KeepsOutside, Store}
 
 -- there is an answer that may be given
-some_answer : (known : Option Directories) (path : List ℕ) → (answer : Bool) × IsToldDirectory known path answer
+pub some_answer : (known : Option Directories) (path : List ℕ) → (answer : Bool) × IsToldDirectory known path answer
 some_answer (Some known) path = (_, refl)
 some_answer None path = (false, tt)
 

@@ -5,11 +5,14 @@
 -- drops the same library paths in both. So by induction on the words the fold with canonical paths is the fold
 -- that keeps paths, finished at the end. The root for the last path that was kept is all that it asks, so any
 -- answer to one question gives a choice of roots for all paths.
-use Rattle.std.proofs.Common.{◌≡◌, ℕ, zero, suc, ◌+◌, List, [], ◌∷◌, ◌++◌, Bool, true, false, cond, refl, ap, sym, ◌∙◌, drop}
+use Rattle.std.proofs.Common.{◌≡◌, ℕ, zero, suc, ◌+◌, List, [], ◌∷◌, ◌++◌, Bool, true, false, cond, ◌&&◌, arith, refl, ap, sym, ◌∙◌, drop}
 use Rattle.std.proofs.Common.{Option, Some, None, Result, Ok, Err, codes, nat_eq, ◌⊎◌, inl, inr}
 use Rattle.std.specs.List.{starts_with}
-use Rattle.std.specs.Option.{ok_or, option_map, unwrap_or}
+use Rattle.std.specs.List.{AllZip}
+use Rattle.std.specs.Option.{ok_or, option_map, option_map_or, unwrap_or}
 use Rattle.std.specs.Str.{bytes_eq}
+use Rattle.std.proofs.lemmas.Bool.Decides.{nat_tests}
+use Rattle.macho_args.proofs.Moves.{some_answer}
 use Rattle.macho_args.specs.declared.fault.ArgsFault.{ArgsFault}
 use Rattle.macho_args.specs.declared.options.LinkOption.{LinkOption}
 use Rattle.macho_args.specs.declared.options.LinkOption.TheVariants.{Sets, Takes, PlatformVersion, Ignored, Refused}
@@ -24,15 +27,19 @@ use Rattle.macho_args.specs.steps.Effects.{HasCause}
 use Rattle.macho_args.specs.Effects.{uuid_of, count_of}
 use Rattle.macho_args.specs.Effects.{◌>>=◌, at_root, joined, with_flag, with_value, with_platform}
 use Rattle.std.specs.FinMap.{get}
-use Rattle.macho_args.specs.Store.{CanonicalPaths, Directories}
-use Rattle.macho_args.specs.SearchPaths.{FollowsRoot, IsParsed, IsRefused, IsRootFor}
-use Rattle.macho_args.specs.steps.KeptRoot.{keep_root, settled, SettlesRoot}
+use Rattle.macho_args.specs.Store.{CanonicalPaths, Directories, IsToldCanonical}
+use Rattle.macho_args.specs.SearchPaths.{IsMoved, IsParsed, IsRefused}
+use Rattle.macho_args.specs.steps.KeptRoot.{FollowsRoot, IsRootFor, keep_root, kept_of, settled, SettlesRoot}
 use Rattle.macho_args.specs.Options.{option_named, joined_option}
 use Rattle.macho_args.specs.Settings.{Settings, Input, fresh}
 use Rattle.macho_args.specs.Version.{version_of}
-use Rattle.macho_args.specs.Words.{read_from, read_option, read_word, read_plain, read_unnamed, read_all, args_of, without_inputs, taking}
+use Rattle.macho_args.specs.Words.{read_from, read_option, read_plain, args_of, without_inputs, taking}
 
-module _ (root_of : List ℕ → List ℕ) where
+module _ (canonical : List ℕ → Option (List ℕ)) where
+  -- the root for a path
+  abbrev pub root_of : List ℕ → List ℕ
+  root_of path = unwrap_or (canonical path) path
+
   -- the library paths below the root
   abbrev below : Option (List ℕ) → List (List ℕ) → List (List ℕ)
   below (Some path) paths = joined (root_of path) (codes "usr/lib") ∷ paths
@@ -63,7 +70,7 @@ module _ (root_of : List ℕ → List ℕ) where
   finished-or None fault f = refl
 
   value-finish : (option : Valued) (i : ℕ) (v : List ℕ) (s : Settings)
-      → with_value (at_root root_of) option i v (finish s) ≡ finished (with_value keep_root option i v s)
+      → with_value (at_root canonical) option i v (finish s) ≡ finished (with_value keep_root option i v s)
   unfolding with_value
   value-finish Output i v s = refl
   value-finish Entry i v s = refl
@@ -104,7 +111,8 @@ module _ (root_of : List ℕ → List ℕ) where
       ∙ finished-cond (starts_with nat_eq word (codes "-")) (Err (Unknown i)) _
 
   unnamed-finish : (option : Option Valued) (i : ℕ) (word : List ℕ) (s : Settings)
-      → read_unnamed (at_root root_of) option i word (finish s) ≡ finished (read_unnamed keep_root option i word s)
+      → option_map_or (λ o. with_value (at_root canonical) o i (drop 2 word) (finish s)) option (read_plain i word (finish s))
+      ≡ finished (option_map_or (λ o. with_value keep_root o i (drop 2 word) s) option (read_plain i word s))
   unnamed-finish (Some option) i word s = value-finish option i (drop 2 word) s
   unnamed-finish None i word s = plain-finish i word s
 
@@ -124,7 +132,7 @@ module _ (root_of : List ℕ → List ℕ) where
   flag-finish Map s = refl
 
   option-finish : (option : Option LinkOption) (i : ℕ) (word : List ℕ) (behind : List (List ℕ)) (s : Settings)
-      → read_option (at_root root_of) option i word behind (finish s) ≡ finished-read (read_option keep_root option i word behind s)
+      → read_option (at_root canonical) option i word behind (finish s) ≡ finished-read (read_option keep_root option i word behind s)
   option-finish (Some (Sets flag)) i word behind s = ap (λ t. Ok (t, 0)) (flag-finish flag s)
   option-finish (Some (Takes option)) i word [] s = refl
   option-finish (Some (Takes option)) i word (v ∷ behind) s = taking-finish 1 _ _ (value-finish option (i + 1) v s)
@@ -144,8 +152,8 @@ module _ (root_of : List ℕ → List ℕ) where
   then-finish m (Err fault) f g is next = rw is refl
 
   from-finish : (values i : ℕ) (words : List (List ℕ)) (s : Settings)
-      → read_from (at_root root_of) values i words (finish s) ≡ finished (read_from keep_root values i words s)
-  unfolding read_from read_word
+      → read_from (at_root canonical) values i words (finish s) ≡ finished (read_from keep_root values i words s)
+  unfolding read_from
   from-finish values i [] s = refl
   from-finish zero i (word ∷ behind) s =
       then-finish _ _ _ _ (option-finish (option_named word) i word behind s)
@@ -163,15 +171,15 @@ module _ (root_of : List ℕ → List ℕ) where
   checked-finish m (Ok s) is = rw is (inputs-finish s.generate s.inputs s)
   checked-finish m (Err fault) is = rw is refl
 
-  pub all-finish : (words : List (List ℕ)) → args_of root_of words ≡ finished (read_all keep_root words)
-  unfolding read_all
+  pub all-finish : (words : List (List ℕ)) → args_of canonical words ≡ finished (kept_of words)
+  unfolding args_of kept_of
   all-finish words = checked-finish _ _ (from-finish 0 0 words fresh)
 
--- A choice of roots: the one that was answered for a path, and for each other path some root that may be told.
+-- A choice of canonical paths: the one that was answered for a path, and for each other path some one that may be told.
 record Roots (known : Option CanonicalPaths) (path root : List ℕ) : Type 0 where
-  root_of : List ℕ → List ℕ
-  each : (other : List ℕ) → IsRootFor known other (root_of other)
-  here : root ≡ root_of path
+  canonical : List ℕ → Option (List ℕ)
+  each : (other : List ℕ) → IsToldCanonical known other (canonical other)
+  here : root ≡ root_of canonical path
 
 -- some root may be told for a path
 some_root : (known : Option CanonicalPaths) (path : List ℕ) → (root : List ℕ) × IsRootFor known path root
@@ -181,52 +189,97 @@ some_root None path = (path, record { canonical = None; told = tt; is = refl })
 roots : (known : Option CanonicalPaths) (path root : List ℕ) → IsRootFor known path root → Roots known path root
 roots (Some known) path root found =
     record {
-      root_of = λ other. unwrap_or (get known other) other;
-      each = λ other. record { canonical = get known other; told = refl; is = refl };
+      canonical = λ other. get known other;
+      each = λ other. refl;
       here = found.is ∙ ap (λ answer. unwrap_or answer path) found.told;
     }
-roots None path root found =
-    record { root_of = λ other. root; each = λ other. record { canonical = Some root; told = tt; is = refl }; here = refl }
+roots None path root found = record { canonical = λ other. Some root; each = λ other. tt; here = refl }
 
--- The words are refused, whatever the roots are.
-pub words-refused : (words : List (List ℕ)) (fault : ArgsFault) → HasCause (read_all keep_root words) fault
+-- The words are refused, whatever the canonical paths are.
+pub words-refused : (words : List (List ℕ)) (fault : ArgsFault) → HasCause (kept_of words) fault
     → (fault ≡ OutOfMemory) ⊎ IsRefused words fault
 words-refused words fault (inl memory) = inl memory
-words-refused words fault (inr why) = inr (record { told = λ root_of. all-finish root_of words ∙ rw why refl })
+words-refused words fault (inr why) = inr (record { told = λ canonical. all-finish canonical words ∙ rw why refl })
 
--- what the words say, for some roots that may be told
+-- what the words say, for some canonical paths that may be told
 record Said (known : Option CanonicalPaths) (words : List (List ℕ)) (said : Settings) : Type 0 where
-  root_of : List ℕ → List ℕ
-  each : (path : List ℕ) → IsRootFor known path (root_of path)
-  is : args_of root_of words ≡ Ok said
+  canonical : List ℕ → Option (List ℕ)
+  each : (path : List ℕ) → IsToldCanonical known path (canonical path)
+  is : args_of canonical words ≡ Ok said
+
+-- Below `/` a path is what it was, so without a root the framework paths may be said to go below `/`.
+below_slash : (path : List ℕ) (is_directory : Bool)
+    → path ≡ cond (starts_with nat_eq path (codes "/") && is_directory) (joined (codes "/") (drop 1 path)) path
+unfolding joined
+below_slash [] is_directory = refl
+below_slash (b ∷ path) is_directory = stays b path (starts_with nat_eq (b ∷ path) (codes "/")) refl is_directory
+  where
+    stays : (b : ℕ) (path : List ℕ) (slash : Bool) → starts_with nat_eq (b ∷ path) (codes "/") ≡ slash → (is_directory : Bool)
+        → b ∷ path ≡ cond (slash && is_directory) (codes "/" ++ path) (b ∷ path)
+    stays b path false is is_directory = refl
+    stays b path true is false = refl
+    stays b path true is true = let same : b ≡ 47 = grind (arith, nat_tests) in ap (λ c. c ∷ path) same
+
+stay : (known : Option Directories) (paths : List (List ℕ)) → AllZip (IsMoved known (codes "/")) paths paths
+stay known [] = tt
+stay known (path ∷ paths) =
+    let answer = some_answer known (joined (codes "/") (drop 1 path)) in
+    (record { is_directory = answer.0; told = answer.1; is = below_slash path answer.0 }, stay known paths)
 
 module _ (known : Option CanonicalPaths) (words : List (List ℕ)) (kept said : Settings)
-    (read : read_all keep_root words ≡ Ok kept) where
-  said_as : (root_of : List ℕ → List ℕ) → finish root_of kept ≡ said → args_of root_of words ≡ Ok said
-  said_as root_of is = all-finish root_of words ∙ (rw read refl ∙ ap Ok is)
+    (read : kept_of words ≡ Ok kept) where
+  said_as : (canonical : List ℕ → Option (List ℕ)) → finish canonical kept ≡ said → args_of canonical words ≡ Ok said
+  said_as canonical is = all-finish canonical words ∙ (rw read refl ∙ ap Ok is)
 
   -- without a root the fields stay
-  finish-none : (root_of : List ℕ → List ℕ) → kept.sysroot ≡ None → finish root_of kept ≡ kept
-  finish-none root_of none =
-      ap (λ root. record kept { sysroot = option_map root_of root; lib_search_path = below root_of root kept.lib_search_path }) none
+  finish-none : (canonical : List ℕ → Option (List ℕ)) → kept.sysroot ≡ None → finish canonical kept ≡ kept
+  finish-none canonical none =
+      ap (λ root. record kept {
+        sysroot = option_map (root_of canonical) root;
+        lib_search_path = below canonical root kept.lib_search_path;
+      }) none
       ∙ ap (λ root. record kept { sysroot = root }) (sym none)
 
-  finish-some : (root_of : List ℕ → List ℕ) (path : List ℕ) → kept.sysroot ≡ Some path
-      → finish root_of kept ≡ settled (root_of path) kept
-  finish-some root_of path some = rw some refl
+  finish-some : (canonical : List ℕ → Option (List ℕ)) (path : List ℕ) → kept.sysroot ≡ Some path
+      → finish canonical kept ≡ settled (root_of canonical path) kept
+  finish-some canonical path some = rw some refl
 
   said_by_settling : (root : Option (List ℕ)) → kept.sysroot ≡ root → SettlesRoot known root kept said → Said known words said
   said_by_settling None none settles =
       let any = roots known [] (some_root known []).0 (some_root known []).1 in
-      record { root_of = any.root_of; each = any.each; is = said_as any.root_of (finish-none any.root_of none ∙ sym settles) }
+      record { canonical = any.canonical; each = any.each; is = said_as any.canonical (finish-none any.canonical none ∙ sym settles) }
   said_by_settling (Some path) some settles =
       let chosen = roots known path settles.root settles.root_for in
-      let is_settled = finish-some chosen.root_of path some ∙ (ap (λ root. settled root kept) (sym chosen.here) ∙ sym settles.is) in
-      record { root_of = chosen.root_of; each = chosen.each; is = said_as chosen.root_of is_settled }
+      let is_settled = finish-some chosen.canonical path some ∙ (ap (λ root. settled root kept) (sym chosen.here) ∙ sym settles.is) in
+      record { canonical = chosen.canonical; each = chosen.each; is = said_as chosen.canonical is_settled }
+
+  parsed_below : (directories : Option Directories) (args : Settings) (root : Option (List ℕ)) → said.sysroot ≡ root
+      → Said known words said → FollowsRoot directories root said args → IsParsed directories known words args
+  parsed_below directories args None none one follows = record {
+    canonical = one.canonical;
+    told = one.each;
+    said = said;
+    read = one.is;
+    root = codes "/";
+    is_root = rw none refl;
+    frameworks = said.framework_search_path;
+    each = stay directories said.framework_search_path;
+    is = follows;
+  }
+  parsed_below directories args (Some root) some one follows = record {
+    canonical = one.canonical;
+    told = one.each;
+    said = said;
+    read = one.is;
+    root = root;
+    is_root = rw some refl;
+    frameworks = follows.frameworks;
+    each = follows.each;
+    is = follows.is;
+  }
 
   -- What was kept and then settled is what the words say, and the rule on framework paths follows.
   pub words-parsed : (directories : Option Directories) (args : Settings) → SettlesRoot known kept.sysroot kept said
       → FollowsRoot directories said.sysroot said args → IsParsed directories known words args
   words-parsed directories args settles follows =
-      let one = said_by_settling kept.sysroot refl settles in
-      record { root_of = one.root_of; roots = one.each; said = said; read = one.is; follows = follows }
+      parsed_below directories args said.sysroot refl (said_by_settling kept.sysroot refl settles) follows

@@ -2,7 +2,7 @@
 use Rattle.std.specs.Prelude.{ℕ, ◌+◌, ◌==◌, List, [], ◌∷◌, ◌++◌, codes, true, nat_eq, if◌then◌else◌}
 use Rattle.std.specs.Prelude.{Option, Some, None, option_and_then, Result, Ok, Err}
 use Rattle.std.specs.List.{starts_with, ends_with, list_any}
-use Rattle.std.specs.Option.{ok_or}
+use Rattle.std.specs.Option.{ok_or, unwrap_or}
 use Rattle.std.specs.Result.{result_ok}
 use Rattle.std.specs.Str.{bytes_eq}
 use Rattle.hex.specs.Hex.{decode_sized}
@@ -48,11 +48,10 @@ count_of text = option_and_then (λ n. if n == 0 then None else Some n) (number_
 unfoldable pub joined : List ℕ → List ℕ → List ℕ
 joined root path = if ends_with nat_eq root (codes "/") then root ++ path else root ++ (codes "/" ++ path)
 
--- The root is set, and the library paths become its `usr/lib` alone. `root_of` is the canonical path of a
--- path, else the path itself.
-abbrev pub at_root : (List ℕ → List ℕ) → List ℕ → Settings → Settings
-at_root root_of path s =
-    let root = root_of path in
+-- The root is the canonical path of a path, else that itself, and the library paths become its `usr/lib` alone.
+abbrev pub at_root : (List ℕ → Option (List ℕ)) → List ℕ → Settings → Settings
+at_root canonical path s =
+    let root = unwrap_or (canonical path) path in
     record s { sysroot = Some root; lib_search_path = joined root (codes "usr/lib") ∷ [] }
 
 -- The value of an option, which stands in the word i. `set_root` is what the path of `-syslibroot` does.
@@ -68,8 +67,8 @@ with_value set_root FrameworkPath i v s = Ok (record s { framework_search_path =
 with_value set_root Root i v s = Ok (set_root v s)
 with_value set_root Library i v s =
     if starts_with nat_eq v (codes ":") then Err (Unsupported i)
-    else Ok (record s { inputs = s.inputs ++ library i v ∷ [] })
-with_value set_root Framework i v s = Ok (record s { inputs = s.inputs ++ framework i v ∷ [] })
+    else Ok (record s { inputs = s.inputs ++ record { kind = library; word = i; name = v } ∷ [] })
+with_value set_root Framework i v s = Ok (record s { inputs = s.inputs ++ record { kind = framework; word = i; name = v } ∷ [] })
 with_value set_root Arch i v s = if bytes_eq v (codes "arm64") then Ok s else Err (BadArch i)
 with_value set_root Mllvm i v s =
     if bytes_eq v (codes "-enable-linkonceodr-outlining") then Ok s else Err (Unsupported i)

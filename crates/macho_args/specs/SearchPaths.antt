@@ -1,6 +1,6 @@
 -- The meaning of a command line: what its words say, and then the rule on framework paths.
 use Rattle.std.specs.Prelude.{◌≡◌, ℕ, drop, List, [], ◌∷◌, ◌++◌, codes, Bool, ◌&&◌, nat_eq, if◌then◌else◌}
-use Rattle.std.specs.Prelude.{Option, None, Some, unwrap_or, Ok, Err}
+use Rattle.std.specs.Prelude.{Option, unwrap_or, Ok, Err}
 use Rattle.std.specs.List.{AllZip, starts_with}
 use Rattle.macho_args.specs.declared.fault.ArgsFault.{ArgsFault}
 use Rattle.macho_args.specs.Effects.{joined}
@@ -13,45 +13,27 @@ abbrev pub standard_frameworks : List ℕ → List (List ℕ)
 standard_frameworks root =
     joined root (codes "Library/Frameworks") ∷ joined root (codes "System/Library/Frameworks") ∷ []
 
--- a path that begins with `/` goes below the root, where that is a directory
-abbrev pub moved : List ℕ → Bool → List ℕ → List ℕ
-moved root is_directory path =
-    if starts_with nat_eq path (codes "/") && is_directory then joined root (drop 1 path) else path
-
--- a framework path, and what becomes of it
+-- A framework path, and what becomes of it: one that begins with `/` goes below the root, if a directory stands there. (Below the root `/`
+-- each path stays as it is.)
 pub record IsMoved (known : Option Directories) (root path new : List ℕ) : Type 0 where
   pub is_directory : Bool
   pub told : IsToldDirectory known (joined root (drop 1 path)) is_directory
-  pub is : new ≡ moved root is_directory path
+  pub is : new ≡ (if starts_with nat_eq path (codes "/") && is_directory then joined root (drop 1 path) else path)
 
--- each framework path goes below the root, and the root's standard ones come last
-pub record IsBelow (known : Option Directories) (root : List ℕ) (said args : Settings) : Type 0 where
-  pub frameworks : List (List ℕ)
-  pub each : AllZip (IsMoved known root) said.framework_search_path frameworks
-  pub is : args ≡ record said { framework_search_path = frameworks ++ standard_frameworks root }
-
--- without a root only the standard framework paths are added, below `/`
-abbrev pub FollowsRoot : Option Directories → Option (List ℕ) → Settings → Settings → Type 0
-FollowsRoot known (Some root) said args = IsBelow known root said args
-FollowsRoot known None said args =
-    args ≡ record said { framework_search_path = said.framework_search_path ++ standard_frameworks (codes "/") }
-
--- the root for a path that was given: its canonical path, else the path itself
-pub record IsRootFor (known : Option CanonicalPaths) (path root : List ℕ) : Type 0 where
-  pub canonical : Option (List ℕ)
-  pub told : IsToldCanonical known path canonical
-  pub is : root ≡ unwrap_or canonical path
-
--- The fields are the meaning of the words: what the words say, by the canonical paths that are told, and then
--- the rule on framework paths, by the directories that are told.
+-- The fields are the meaning of the words: what the words say, by the canonical paths that are told; and then framework paths go below
+-- the root, `/` where none is given, by the directories that are told, and its standard ones come last.
 pub record IsParsed (directories : Option Directories) (canonical_paths : Option CanonicalPaths)
     (words : List (List ℕ)) (args : Settings) : Type 0 where
-  pub root_of : List ℕ → List ℕ
-  pub roots : (path : List ℕ) → IsRootFor canonical_paths path (root_of path)
+  pub canonical : List ℕ → Option (List ℕ)
+  pub told : (path : List ℕ) → IsToldCanonical canonical_paths path (canonical path)
   pub said : Settings
-  pub read : args_of root_of words ≡ Ok said
-  pub follows : FollowsRoot directories said.sysroot said args
+  pub read : args_of canonical words ≡ Ok said
+  pub root : List ℕ
+  pub is_root : root ≡ unwrap_or said.sysroot (codes "/")
+  pub frameworks : List (List ℕ)
+  pub each : AllZip (IsMoved directories root) said.framework_search_path frameworks
+  pub is : args ≡ record said { framework_search_path = frameworks ++ standard_frameworks root }
 
 -- The words have no meaning: they have this fault, whatever the canonical paths are.
 pub record IsRefused (words : List (List ℕ)) (fault : ArgsFault) : Type 0 where
-  pub told : (root_of : List ℕ → List ℕ) → args_of root_of words ≡ Err fault
+  pub told : (canonical : List ℕ → Option (List ℕ)) → args_of canonical words ≡ Err fault

@@ -9,18 +9,17 @@ use Rattle.macho_args.specs.declared.fields.PlatformVersion.{PlatformVersion}
 use Rattle.macho_args.specs.declared.fields.MachOArgs.{MachOArgs}
 use Rattle.macho_args.specs.Version.{version_number}
 
--- an input: a file by its path, or a library or a framework by its name, each with the index of the word
--- in which the path or name stands
-pub data Input : Type 0 where
-  file : ℕ → List ℕ → Input
-  library : ℕ → List ℕ → Input
-  framework : ℕ → List ℕ → Input
+-- what an input is asked for as: a file by its path, a library or a framework by its name
+pub data InputKind : Type 0 where
+  file : InputKind
+  library : InputKind
+  framework : InputKind
 
--- the index of the word in which an input's path or name stands
-abbrev pub word_of : Input → ℕ
-word_of (file word path) = word
-word_of (library word name) = word
-word_of (framework word name) = word
+-- an input, with the index of the word in which its path or name stands
+pub record Input : Type 0 where
+  pub kind : InputKind
+  pub word : ℕ
+  pub name : List ℕ
 
 -- a platform with the lowest version that the output runs on and the version of the SDK, both packed
 pub record Platform : Type 0 where
@@ -50,9 +49,9 @@ pub record Settings : Type 0 where
 
 -- an input without where its text lies in memory
 abbrev pub input_of : InputSpec → Input
-input_of (File word path) = file word (string_bytes path)
-input_of (Lib word name) = library word (string_bytes name)
-input_of (Framework word name) = framework word (string_bytes name)
+input_of (File word path) = record { kind = file; word = word; name = string_bytes path }
+input_of (Lib word name) = record { kind = library; word = word; name = string_bytes name }
+input_of (Framework word name) = record { kind = framework; word = word; name = string_bytes name }
 
 -- a platform without where its name lies in memory
 abbrev pub platform_of : PlatformVersion → Platform

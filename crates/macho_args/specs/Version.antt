@@ -1,5 +1,5 @@
 -- Versions of up to three parts, packed as `mach-o/loader.h` packs them (`LC_BUILD_VERSION`).
-use Rattle.std.specs.Prelude.{ℕ, ◌+◌, ◌*◌, ◌==◌, List, [], ◌∷◌, codes, Option, None, Some, option_and_then}
+use Rattle.std.specs.Prelude.{ℕ, ◌+◌, ◌*◌, ◌==◌, nat_lt, if◌then◌else◌, List, [], codes, length, get_or, Option, None, Some, option_and_then}
 use Rattle.std.specs.List.{slice_split}
 use Rattle.macho_args.specs.Numbers.{number_up_to}
 use Rattle.macho_args.specs.declared.version.SemanticVersion.{SemanticVersion}
@@ -13,10 +13,6 @@ infixl 10 ◌>>=◌
 abbrev pub ◌>>=◌ : {A B : Type 0} → Option A → (A → Option B) → Option B
 o >>= f = option_and_then f o
 
--- the parts between the dots of a text (46 is the dot)
-abbrev pub dotted_parts : List ℕ → List (List ℕ)
-dotted_parts text = slice_split (λ byte. byte == 46) text
-
 -- three parts in one number: 16 bits of the first, 8 each of the others
 abbrev pub packed : List ℕ → List ℕ → List ℕ → Option ℕ
 packed major minor patch = do
@@ -25,13 +21,8 @@ packed major minor patch = do
   z ← number_up_to 255 patch
   Some (x * 65536 + y * 256 + z)
 
--- one to three parts, of which missing ones are 0
-abbrev pub packed_parts : List (List ℕ) → Option ℕ
-packed_parts (major ∷ []) = packed major (codes "0") (codes "0")
-packed_parts (major ∷ minor ∷ []) = packed major minor (codes "0")
-packed_parts (major ∷ minor ∷ patch ∷ []) = packed major minor patch
-packed_parts _ = None
-
--- the version that a text writes, packed
+-- The version that a text writes, packed: one to three parts between dots (46), of which missing ones are 0.
 unfoldable pub version_of : List ℕ → Option ℕ
-version_of text = packed_parts (dotted_parts text)
+version_of text =
+    let parts : List (List ℕ) = slice_split (λ byte. byte == 46) text in
+    if nat_lt 3 (length parts) then None else packed (get_or parts 0 []) (get_or parts 1 (codes "0")) (get_or parts 2 (codes "0"))

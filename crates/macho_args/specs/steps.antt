@@ -2,3 +2,4 @@
 pub mod Effects
 pub mod KeptRoot
 pub mod Options
+pub mod Version

@@ -130,7 +130,7 @@ impl MachOArgs {
     // Adds a framework by its name.
     fn add_framework(&mut self, alloc: Global, word: u32, name: &str) -> Result<(), ArgsFault>
         ensures done { OnOk result (settings_of self.new ≡ record (settings_of self.old) {
-          inputs = (settings_of self.old).inputs ++ framework word name.now ∷ [];
+          inputs = (settings_of self.old).inputs ++ record { kind = framework; word = word; name = name.now } ∷ [];
         }) }
         ensures why { IfErr result (λ fault. fault ≡ OutOfMemory) }
     {

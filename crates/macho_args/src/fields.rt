@@ -32,11 +32,11 @@ pub enum InputSpec {
 }
 
 impl InputSpec {
-    ghost use Rattle.macho_args.specs.Settings.{input_of, word_of};
+    ghost use Rattle.macho_args.specs.Settings.{input_of};
 
     /// The index of the word in which the path or the name stands.
     pub fn word(&self) -> u32
-        ensures { result ≡ word_of (input_of self.now) }
+        ensures { result ≡ (input_of self.now).word }
     {
         match self {
             InputSpec::File { word, .. }

@@ -3,18 +3,20 @@
 //! Each word is an option's name, a value of the option before it, an option with its value behind two letters,
 //! or an input. So `-o out a.o -lc` gives the output `out`, the file `a.o` of word 2 and the library `c` of word 3.
 
-ghost use Rattle.std.specs.Prelude.{◌≡◌, ◌+◌, ◌-◌, ◌<◌, ◌^◌, length, drop};
+ghost use Rattle.std.specs.Prelude.{◌≡◌, ◌+◌, ◌-◌, ◌<◌, ◌^◌, length, drop, map};
 ghost use Rattle.std.specs.Prelude.{Some, Ok, Err, OnOk, OnErr, IfOk, IfErr, MatchResult, ◌⊎◌, []};
+ghost use Rattle.std.specs.Option.{option_map_or};
+ghost use Rattle.std.specs.String.{string_bytes};
 ghost use Rattle.macho_args.specs.declared.fault.ArgsFault.TheVariants.{OutOfMemory};
 ghost use Rattle.macho_args.specs.declared.options.LinkOption.TheVariants.{PlatformVersion};
 ghost use Rattle.macho_args.specs.steps.Effects.{HasCause};
 ghost use Rattle.macho_args.specs.steps.KeptRoot.{keep_root};
-ghost use Rattle.macho_args.specs.Options.{joined_option};
+ghost use Rattle.macho_args.specs.Effects.{with_value};
+ghost use Rattle.macho_args.specs.Options.{joined_option, option_named as option_of};
 ghost use Rattle.macho_args.specs.SearchPaths.{IsParsed, IsRefused};
 ghost use Rattle.macho_args.specs.Settings.{settings_of, fresh};
 ghost use Rattle.macho_args.specs.Store.{KeepsOutside};
-ghost use Rattle.macho_args.specs.Words.{read_from, read_option, read_plain, read_unnamed, read_word};
-ghost use Rattle.macho_args.specs.Words.{texts_of, without_inputs};
+ghost use Rattle.macho_args.specs.Words.{read_from, read_option, read_plain, without_inputs};
 
 use crate::fault::ArgsFault;
 use crate::fields::{InputSpec, MachOArgs};
@@ -34,10 +36,10 @@ impl MachOArgs {
 
         // The fields are the meaning of the words.
         ensures done { OnOk result (IsParsed (D.directories paths.old) (D.canonical_paths paths.old)
-            (texts_of words.now) (settings_of self.new)) }
+            (map string_bytes words.now) (settings_of self.new)) }
 
         // A fault is that of the words, or memory ran out.
-        ensures why { IfErr result (λ fault. (fault ≡ OutOfMemory) ⊎ IsRefused (texts_of words.now) fault) }
+        ensures why { IfErr result (λ fault. (fault ≡ OutOfMemory) ⊎ IsRefused (map string_bytes words.now) fault) }
         ensures kept { OnErr result (settings_of self.new ≡ settings_of self.old) }
         ensures outside { KeepsOutside D.directories D.canonical_paths D.holds D.faults D.write_faults
             paths.old paths.new }
@@ -59,8 +61,8 @@ impl MachOArgs {
         requires fresh { settings_of self.old ≡ fresh }
         requires few { length words.now < 2 ^ 32 - 1 }
         ensures done { OnOk result (IsParsed (D.directories paths.old) (D.canonical_paths paths.old)
-            (texts_of words.now) (settings_of self.new)) }
-        ensures why { IfErr result (λ fault. (fault ≡ OutOfMemory) ⊎ IsRefused (texts_of words.now) fault) }
+            (map string_bytes words.now) (settings_of self.new)) }
+        ensures why { IfErr result (λ fault. (fault ≡ OutOfMemory) ⊎ IsRefused (map string_bytes words.now) fault) }
         ensures outside { KeepsOutside D.directories D.canonical_paths D.holds D.faults D.write_faults
             paths.old paths.new }
     {
@@ -87,8 +89,8 @@ impl MachOArgs {
     pub(crate) fn read_words(&mut self, alloc: Global, words: &[String]) -> Result<(), ArgsFault>
         requires { length words.now < 2 ^ 32 - 1 }
         ensures done { OnOk result
-            (read_from keep_root 0 0 (texts_of words.now) (settings_of self.old) ≡ Ok (settings_of self.new)) }
-        ensures why { IfErr result (HasCause (read_from keep_root 0 0 (texts_of words.now) (settings_of self.old))) }
+            (read_from keep_root 0 0 (map string_bytes words.now) (settings_of self.old) ≡ Ok (settings_of self.new)) }
+        ensures why { IfErr result (HasCause (read_from keep_root 0 0 (map string_bytes words.now) (settings_of self.old))) }
     {
         let mut values = 0;
         for i in 0..words.len() {
@@ -109,10 +111,10 @@ impl MachOArgs {
         requires within { place < length words.now }
         requires few { length words.now < 2 ^ 32 - 1 }
         ensures done { IfOk result (λ left.
-            read_from keep_root values place (texts_of (drop place words.now)) (settings_of self.old)
-            ≡ read_from keep_root left (place + 1) (texts_of (drop (place + 1) words.now)) (settings_of self.new)) }
+            read_from keep_root values place (map string_bytes (drop place words.now)) (settings_of self.old)
+            ≡ read_from keep_root left (place + 1) (map string_bytes (drop (place + 1) words.now)) (settings_of self.new)) }
         ensures why { IfErr result
-            (HasCause (read_from keep_root values place (texts_of (drop place words.now)) (settings_of self.old))) }
+            (HasCause (read_from keep_root values place (map string_bytes (drop place words.now)) (settings_of self.old))) }
     {
         if values > 0 {
             return Ok(values - 1);
@@ -126,7 +128,6 @@ impl MachOArgs {
     }
 
     // Reads the word with this index, and answers how many of the words behind it are its values.
-    #[tactic(auto, unfolding(crate::specs::Words::read_word))]
     fn read_word(
         &mut self,
         alloc: Global,
@@ -135,10 +136,11 @@ impl MachOArgs {
         behind: &[String],
     ) -> Result<usize, ArgsFault>
         requires { word + 1 + length behind.now < 2 ^ 32 }
-        ensures done { IfOk result (λ values. read_word keep_root word text.now (texts_of behind.now) (settings_of self.old)
+        ensures done { IfOk result (λ values.
+            read_option keep_root (option_of text.now) word text.now (map string_bytes behind.now) (settings_of self.old)
             ≡ Ok (settings_of self.new, values)) }
-        ensures why { IfErr result
-            (HasCause (read_word keep_root word text.now (texts_of behind.now) (settings_of self.old))) }
+        ensures why { IfErr result (HasCause
+            (read_option keep_root (option_of text.now) word text.now (map string_bytes behind.now) (settings_of self.old))) }
     {
         match option_named(text) {
             Some(LinkOption::Sets(flag)) => {
@@ -171,10 +173,10 @@ impl MachOArgs {
     ) -> Result<usize, ArgsFault>
         requires { word + 1 + length behind.now < 2 ^ 32 }
         ensures done { IfOk result (λ values.
-            read_option keep_root (Some PlatformVersion) word [] (texts_of behind.now) (settings_of self.old)
+            read_option keep_root (Some PlatformVersion) word [] (map string_bytes behind.now) (settings_of self.old)
             ≡ Ok (settings_of self.new, values)) }
         ensures why { IfErr result (HasCause
-            (read_option keep_root (Some PlatformVersion) word [] (texts_of behind.now) (settings_of self.old))) }
+            (read_option keep_root (Some PlatformVersion) word [] (map string_bytes behind.now) (settings_of self.old))) }
     {
         let [platform, minimum, sdk, ..] = behind else {
             return Err(ArgsFault::MissingValue { word });
@@ -193,9 +195,11 @@ impl MachOArgs {
     #[tactic(auto, unfolding(crate::specs::Options::joined_option))]
     fn read_unnamed(&mut self, alloc: Global, word: u32, text: &str) -> Result<(), ArgsFault>
         ensures done { OnOk result
-            (read_unnamed keep_root (joined_option text.now) word text.now (settings_of self.old) ≡ Ok (settings_of self.new)) }
-        ensures why { IfErr result
-            (HasCause (read_unnamed keep_root (joined_option text.now) word text.now (settings_of self.old))) }
+            (option_map_or (λ option. with_value keep_root option word (drop 2 text.now) (settings_of self.old))
+            (joined_option text.now) (read_plain word text.now (settings_of self.old)) ≡ Ok (settings_of self.new)) }
+        ensures why { IfErr result (HasCause
+            (option_map_or (λ option. with_value keep_root option word (drop 2 text.now) (settings_of self.old))
+            (joined_option text.now) (read_plain word text.now (settings_of self.old)))) }
     {
         if let Some(path) = after_prefix(text, "-F") {
             self.set_value(alloc, Valued::FrameworkPath, word, path)

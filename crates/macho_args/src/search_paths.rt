@@ -4,8 +4,8 @@ ghost use Rattle.std.specs.Prelude.{◌≡◌, ◌++◌, IfOk, OnOk, Some, map};
 ghost use Rattle.std.specs.List.{AllZip};
 ghost use Rattle.std.specs.String.{string_bytes};
 ghost use Rattle.macho_args.specs.Effects.{joined as joined_path};
-ghost use Rattle.macho_args.specs.steps.KeptRoot.{SettlesRoot, settled};
-ghost use Rattle.macho_args.specs.SearchPaths.{FollowsRoot, IsBelow, IsMoved, IsRootFor, standard_frameworks};
+ghost use Rattle.macho_args.specs.steps.KeptRoot.{FollowsRoot, IsBelow, IsRootFor, SettlesRoot, settled};
+ghost use Rattle.macho_args.specs.SearchPaths.{IsMoved, standard_frameworks};
 ghost use Rattle.macho_args.specs.Store.{KeepsOutside};
 
 use crate::fields::MachOArgs;

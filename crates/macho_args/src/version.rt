@@ -2,7 +2,8 @@
 
 ghost use Rattle.std.specs.Prelude.{◌≡◌, ◌∷◌, [], MatchResult, MatchOption, Some, None};
 ghost use Rattle.std.specs.Option.{option_copied};
-ghost use Rattle.macho_args.specs.Version.{version_number, version_of, packed, dotted_parts};
+ghost use Rattle.macho_args.specs.Version.{version_number, version_of, packed};
+ghost use Rattle.macho_args.specs.steps.Version.{dotted_parts};
 
 use crate::numbers::number_up_to;
 

@@ -15,12 +15,16 @@ use Rattle.macho_layout.proofs.Distinct.{distinct_push}
 use Rattle.macho_layout.proofs.Named.{any_agree, any_distinct, any_map}
 use Rattle.macho_linkedit.specs.Libraries.{same_text}
 use Rattle.macho_model.specs.Links.{Link, Input}
-use Rattle.macho_model.specs.Needs.{distinct, import_library, imports_of, is_needed, libraries_needed, library_file}
+use Rattle.macho_model.specs.Needs.{distinct, import_library, imports_of, libraries_needed, library_file}
 use Rattle.macho_model.specs.Resolution.{Definition, library_name, library_of_input}
 use Rattle.macho_symbols.specs.declared.solved.Import.{Import}
 use Rattle.macho_symbols.specs.Told.{ImportsAre, IsImportOf}
 use Rattle.macho_stub_lines.specs.Lists.{texts}
 use Rattle.macho_inputs.specs.steps.Libraries.{asked_of, is_kept}
+
+-- some import is bound to the library
+abbrev is_needed : Link → List ℕ → Bool
+is_needed l library = list_any (λ name. bytes_eq (import_library l name) library) (imports_of l)
 
 -- the names of a set that a name was put into
 texts_put : (names : List (Bor (List ℕ))) (x : Bor (List ℕ)) → texts (insert_key same_text names x) ≡ insert_key bytes_eq (texts names) x.now

@@ -1,4 +1,4 @@
--- What settings link is determined by the files that are held.
+-- The job of settings is determined by the files that are held.
 --
 -- The first path that holds a file is one, by induction along the paths: a path in front of it holds none. A path holds one text.
 -- Bytes are read as one input: their head tells its kind, and a stub's text says what its one reading says. So each file of the
@@ -10,7 +10,7 @@ use Rattle.std.specs.FinMap.{get}
 use Rattle.macho_args.specs.Settings as args
 use Rattle.macho_args.specs.Settings.{Settings}
 use Rattle.macho_args.specs.Store.{Store}
-use Rattle.macho_model.specs.Links.{Link, StubReading, Input, Object, Dylib, Stub}
+use Rattle.macho_model.specs.Links.{StubReading, Input, Stub}
 use Rattle.macho_stub.specs.Answer.{IsStub}
 use Rattle.macho_stub.specs.Library.{LibraryFields}
 use Rattle.macho_stub.proofs.Answered.{answer_only}
@@ -19,8 +19,7 @@ use Rattle.macho_job.specs.declared.heads.Head.{Head}
 use Rattle.macho_job.specs.declared.heads.Head.TheVariants as head
 use Rattle.macho_job.specs.Heads.{head_of}
 use Rattle.macho_job.specs.Search.{candidates_of, FileIs, IsFirstHeld}
-use Rattle.macho_job.specs.Job.{SourceFile, IsReadAs, IsTaken, AreFiles, IsListed, Links}
-use Rattle.macho_job.specs.steps.Gathering.{linking}
+use Rattle.macho_job.specs.Job.{Job, IsJob, SourceFile, IsReadAs, IsTaken, AreFiles, IsListed}
 
 -- a path holds one text
 pub one-text : (files : Store) (path a b : List ℕ) → get files path ≡ Some a → get files path ≡ Some b → a ≡ b
@@ -39,30 +38,13 @@ one-saying : (text : List ℕ) (a b : StubReading) → IsStubInput text a → Is
 one-saying text a b one other =
     one.is ∙ (ap reading_of (one-library text one.library other.library one.in_grammar other.in_grammar) ∙ sym other.is)
 
--- two heads of the same bytes are the same
-one-head : (bytes : List ℕ) (a b : Head) → head_of bytes ≡ a → head_of bytes ≡ b → a ≡ b
-one-head bytes a b one other = sym one ∙ other
-
 -- bytes are read as one input
-pub one-input : (bytes : List ℕ) (i j : Input) → IsReadAs bytes i → IsReadAs bytes j → i ≡ j
-one-input bytes (Object a) (Object b) one other = ap Object (one.same ∙ sym other.same)
-one-input bytes (Dylib a) (Dylib b) one other = ap Dylib (one.same ∙ sym other.same)
-one-input bytes (Stub a x) (Stub b y) one other =
-    let text : a ≡ b = one.same ∙ sym other.same in
-    let sound = subst (λ (t : List ℕ). IsStubInput t x) text one.sound in
-    ap (λ (t : List ℕ). Stub t x) text ∙ ap (Stub b) (one-saying b x y sound other.sound)
-one-input bytes (Object a) (Dylib b) one other = absurd
-    (let h : head.Object ≡ head.Dylib = one-head bytes _ _ one.head other.head in let no : ⊥ = cc in no)
-one-input bytes (Object a) (Stub b y) one other = absurd
-    (let h : head.Object ≡ head.Stub = one-head bytes _ _ one.head other.head in let no : ⊥ = cc in no)
-one-input bytes (Dylib a) (Object b) one other = absurd
-    (let h : head.Dylib ≡ head.Object = one-head bytes _ _ one.head other.head in let no : ⊥ = cc in no)
-one-input bytes (Dylib a) (Stub b y) one other = absurd
-    (let h : head.Dylib ≡ head.Stub = one-head bytes _ _ one.head other.head in let no : ⊥ = cc in no)
-one-input bytes (Stub a x) (Object b) one other = absurd
-    (let h : head.Stub ≡ head.Object = one-head bytes _ _ one.head other.head in let no : ⊥ = cc in no)
-one-input bytes (Stub a x) (Dylib b) one other = absurd
-    (let h : head.Stub ≡ head.Dylib = one-head bytes _ _ one.head other.head in let no : ⊥ = cc in no)
+pub one-input : (h : Head) (bytes : List ℕ) (i j : Input) → IsReadAs h bytes i → IsReadAs h bytes j → i ≡ j
+one-input head.Object bytes i j one other = one.0 ∙ sym other.0
+one-input head.Dylib bytes i j one other = one.0 ∙ sym other.0
+one-input head.Stub bytes i j one other =
+    one.1 ∙ (ap (Stub bytes) (one-saying bytes one.0 other.0 one.2 other.2) ∙ sym other.1)
+one-input (head.Unknown kind) bytes i j one other = absurd one
 
 -- Two paths of a list, each the first that holds a file.
 pub record SameFound (p q b c : List ℕ) : Type 0 where
@@ -97,9 +79,9 @@ one-held files paths p q b c one other =
 pub one-file : (files : Store) (s : Settings) (asked : args.Input) (f g : SourceFile) → IsTaken (Some files) s asked f
     → IsTaken (Some files) s asked g → f ≡ g
 one-file files s asked f g one other =
-    let same = one-held files (candidates_of s asked) f.path g.path one.bytes other.bytes one.found other.found in
-    let input : f.input ≡ g.input = one-input other.bytes f.input g.input (subst (λ (b : List ℕ). IsReadAs b f.input) same.bytes one.is)
-    other.is in
+    let same = one-held files (candidates_of s asked.kind asked.name) f.path g.path one.bytes other.bytes one.found other.found in
+    let read = subst (λ (b : List ℕ). IsReadAs (head_of b) b f.input) same.bytes one.is in
+    let input : f.input ≡ g.input = one-input (head_of other.bytes) other.bytes f.input g.input read other.is in
     let make : List ℕ → Input → SourceFile = λ p i. record { path = p; input = i } in
     ap (λ (p : List ℕ). make p f.input) same.path ∙ ap (make g.path) input
 
@@ -132,10 +114,9 @@ lists-once files (list ∷ asked) (x ∷ xs) (y ∷ ys) one other =
     ap (λ (t : List ℕ). t ∷ xs) (one-text files list.1 x y one.0 other.0)
     ∙ ap (λ (ts : List (List ℕ)). y ∷ ts) (lists-once files asked xs ys one.1 other.1)
 
--- THE link of settings is one.
-pub linked-once : (files : Store) (s : Settings) (ps qs : List (List ℕ)) (l m : Link) → Links (Some files) s ps l
-    → Links (Some files) s qs m → l ≡ m
-linked-once files s ps qs l m one other =
-    one.linked
-    ∙ (ap (λ (fs : List SourceFile). linking s fs one.lists) (files-once files s s.generate one.files other.files one.are other.are)
-    ∙ (ap (linking s other.files) (lists-once files s.export_list_paths one.lists other.lists one.listed other.listed) ∙ sym other.linked))
+-- THE job of settings is one.
+pub job-once : (files : Store) (s : Settings) (job other : Job) → IsJob (Some files) s job → IsJob (Some files) s other → job ≡ other
+job-once files s job other one two =
+    let make : List SourceFile → List (List ℕ) → Job = λ fs ts. record { files = fs; lists = ts } in
+    ap (λ (fs : List SourceFile). make fs job.lists) (files-once files s s.generate job.files other.files one.files two.files)
+    ∙ ap (make other.files) (lists-once files s.export_list_paths job.lists other.lists one.lists two.lists)

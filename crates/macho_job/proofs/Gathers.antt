@@ -13,7 +13,7 @@ use Rattle.std.proofs.lemmas.List.{take-append-drop, take_all, map-append, map_m
 use Rattle.std.proofs.lemmas.Slice.Zip.{all_zipped_more}
 use Rattle.std.specs.List.{AllZip, last_or}
 use Rattle.std.specs.String.{string_bytes}
-use Rattle.macho_args.specs.Settings.{Settings, Input, input_of, word_of}
+use Rattle.macho_args.specs.Settings.{Settings, Input, input_of}
 use Rattle.macho_args.specs.Store.{Store}
 use Rattle.macho_args.specs.declared.fields.InputSpec.{InputSpec}
 use Rattle.macho_model.specs.Links.{Link}
@@ -83,7 +83,7 @@ on-ok (Err e) f p = tt
 
 -- an input is found and taken
 pub takes-file : (told : Option Store) (s : Settings) (asked : Input) (old paths : List (List ℕ)) (l m : Link) (path bytes : List ℕ)
-    → IsFirstHeld told (candidates_of s asked) path bytes → paths ≡ old ++ path ∷ [] → TakesBytesOf bytes l m
+    → IsFirstHeld told (candidates_of s asked.kind asked.name) path bytes → paths ≡ old ++ path ∷ [] → TakesBytesOf bytes l m
     → TakesFile told s asked old paths l m
 takes-file told s asked old paths l m path bytes found named takes = record {
   file = record { path = path; input = takes.input };
@@ -160,7 +160,7 @@ input-fails told now s specs i spec seen paths l old mid new f same asks within 
     asked : Input
     asked = input_of spec
 
-    this : (word : ℕ) → word ≡ word_of asked → IsAsked told s word asked
+    this : (word : ℕ) → word ≡ asked.word → IsAsked told s word asked
     this word is = record {
       before = map input_of (take i specs);
       behind = map input_of (drop (suc i) specs);
@@ -241,8 +241,12 @@ list-fails {A} told now s lists i list seen paths l old mid new f same asks with
 -- what is gathered is what the settings link
 pub links-of : (told : Option Store) (s : Settings) (paths : List (List ℕ)) (l : Link) → HaveLists told s s.export_list_paths paths l
     → Links told s paths l
-links-of told s paths l have = record
-    { files = have.files; are = have.are; lists = have.texts; listed = have.listed; named = have.named; linked = have.linked }
+links-of told s paths l have = record {
+  job = record { files = have.files; lists = have.texts };
+  is = record { files = have.are; lists = have.listed };
+  named = have.named;
+  links = have.linked;
+}
 
 -- what is gathered, from a store that tells the same
 pub lists-since : (told now : Option Store) (s : Settings) (lists : List (ℕ × List ℕ)) (paths : List (List ℕ)) (l : Link) → now ≡ told

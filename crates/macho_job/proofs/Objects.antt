@@ -8,8 +8,8 @@ use Rattle.std.proofs.lemmas.Bool.Decides.{nat_tests}
 use Rattle.std.proofs.lemmas.List.{length-append}
 use Rattle.macho_bytes.specs.Layouts.{spelling}
 use Rattle.macho_bytes.specs.Numbers.{le_bytes, row_bytes}
-use Rattle.macho_job.specs.Generator.{words, object_with, generated_object, function_name, pointer_name}
-use Rattle.macho_job.specs.steps.Objects.{joined_all, OBJECT_HEAD, CALLING_SECTIONS, LAST_SECTIONS, calling_parts, last_parts}
+use Rattle.macho_job.specs.Generator.{object_with, generated_object, function_name, pointer_name}
+use Rattle.macho_job.specs.steps.Objects.{words, joined_all, OBJECT_HEAD, CALLING_SECTIONS, LAST_SECTIONS, calling_parts, last_parts}
 use Rattle.macho_job.specs.steps.Objects.{calling_object, last_object}
 
 -- an object by its strings behind their NUL, and their size

@@ -33,7 +33,7 @@ kept_dylib bytes error.OutOfMemory why other = absurd (other refl)
 kept_dylib bytes refusal why other = absurd why
 
 pub kept_text : (bytes : List ℕ) (e : LinkError) → TextRefused bytes e → (e ≡ error.OutOfMemory → ⊥) → BytesRefused head.Stub bytes e
-kept_text bytes (error.BadInput (broken.Stub line rule)) (inl why) other = inl why
+kept_text bytes (error.BadInput (broken.Stub line rule)) (inl why) other = inl (why.0, why.1)
 kept_text bytes (error.BadInput (broken.Stub line rule)) (inr why) other = inr why
 kept_text bytes error.OutOfMemory why other = absurd (other refl)
 kept_text bytes refusal (inl why) other = absurd why

@@ -4,16 +4,19 @@
 -- job: an input that was asked for is found, its bytes begin as an input and are one; a made object keeps the rules; a list is
 -- held; no refusal of the link stands; and no count rose. Only want of memory is left.
 use Rattle.std.proofs.Common.{◌≡◌, ℕ, suc, ◌<◌, arith, refl, ap, sym, subst, ◌∙◌, inl, inr, ◌⊎◌, true, false, Bool}
-use Rattle.std.proofs.Common.{List, [], ◌∷◌, ◌++◌, Option, Some, None, Contains, All}
+use Rattle.std.proofs.Common.{List, [], ◌∷◌, ◌++◌, Option, Some, None, Ok, Contains, All}
 use Rattle.std.proofs.lemmas.List.Elements.{All-contains}
 use Rattle.std.specs.List.{AllZip}
 use Rattle.macho_args.specs.Settings as args
 use Rattle.macho_args.specs.Settings.{Settings}
 use Rattle.macho_args.specs.Store.{Store}
-use Rattle.macho_model.specs.Links.{Link, StubReading, Input, Object, Dylib, Stub}
+use Rattle.macho_model.specs.Links.{StubReading, Input}
 use Rattle.macho_model.specs.Faults.{bad_name}
 use Rattle.macho_model.specs.Grammar.{IsObject, IsDylib}
 use Rattle.macho_promise.specs.Inputs.{IsStubInput}
+use Rattle.macho_stub.specs.Library.{LibraryFields}
+use Rattle.macho_stub.proofs.Answered.{answer_only, told}
+use Rattle.macho_stub_lines.proofs.Bind.{no_ok}
 use Rattle.macho_faults.specs.declared.fault.LinkError.{LinkError}
 use Rattle.macho_faults.specs.declared.fault.LinkError.TheVariants as error
 use Rattle.macho_faults.specs.declared.fault.InputFault.TheVariants as broken
@@ -28,10 +31,10 @@ use Rattle.macho_job.specs.declared.heads.Head.TheVariants as head
 use Rattle.macho_job.specs.Heads.{head_of}
 use Rattle.macho_job.specs.Search.{candidates_of, FileIs, IsFirstHeld}
 use Rattle.macho_job.specs.Generator.{generated_object}
-use Rattle.macho_job.specs.Job.{SourceFile, IsReadAs, IsTaken, IsListed, AreFiles, Links, head_of_kind}
+use Rattle.macho_job.specs.Job.{Job, IsJob, SourceFile, IsReadAs, IsTaken, IsListed, AreFiles, linked, paths_of}
 use Rattle.macho_job.specs.Causes.{Failures, NoneFailed, IsAsked, BytesRefused, MadeRefused, IsClear}
 use Rattle.macho_job.specs.Causes.{LinkRefused, JobFails}
-use Rattle.macho_job.proofs.Determined.{one-held, not-missing, linked-once}
+use Rattle.macho_job.proofs.Determined.{one-held, not-missing, job-once}
 
 -- an element of a list has its partner
 partner : {X Y : Type 0} (R : X → Y → Type 0) (before behind : List X) (x : X) (ys : List Y) → AllZip R (before ++ x ∷ behind) ys
@@ -75,39 +78,35 @@ dylib-refused bytes refusal dylib why = why
 
 stub-refused : (bytes : List ℕ) (says : StubReading) (refusal : LinkError) → IsStubInput bytes says → BytesRefused head.Stub bytes refusal
     → ⊥
-stub-refused bytes says (error.BadInput (broken.Stub line rule)) stub (inl why) = why.2 says stub
+stub-refused bytes says (error.BadInput (broken.Stub line rule)) stub (inl why) =
+    no_ok line rule stub.library
+    (told (λ (l : LibraryFields). l) bytes (Ok stub.library) line rule (answer_only bytes stub.library stub.in_grammar) why.1)
 stub-refused bytes says (error.BadInput (broken.Stub line rule)) stub (inr why) = why.0 stub.utf8
 stub-refused bytes says refusal stub why = why
 
 -- bytes that are read as an input aren't refused
-read-refused : (bytes : List ℕ) (input : Input) (refusal : LinkError) → IsReadAs bytes input
-    → BytesRefused (head_of_kind input) bytes refusal → ⊥
-read-refused bytes (Object b) refusal read why = object-refused bytes refusal (subst IsObject read.same read.sound) why
-read-refused bytes (Dylib b) refusal read why = dylib-refused bytes refusal (subst IsDylib read.same read.sound) why
-read-refused bytes (Stub t says) refusal read why =
-    stub-refused bytes says refusal (subst (λ (b : List ℕ). IsStubInput b says) read.same read.sound) why
-
--- they begin as an input
-no-unknown : (input : Input) (kind : InputKind) → head_of_kind input ≡ head.Unknown kind → ⊥
-no-unknown (Object b) kind is = cc
-no-unknown (Dylib b) kind is = cc
-no-unknown (Stub t x) kind is = cc
+read-refused : (h : Head) (bytes : List ℕ) (input : Input) (refusal : LinkError) → IsReadAs h bytes input → BytesRefused h bytes refusal → ⊥
+read-refused head.Object bytes input refusal read why = object-refused bytes refusal read.1 why
+read-refused head.Dylib bytes input refusal read why = dylib-refused bytes refusal read.1 why
+read-refused head.Stub bytes input refusal read why = stub-refused bytes read.0 refusal read.2 why
+read-refused (head.Unknown kind) bytes input refusal read why = absurd read
 
 -- an input that is taken begins as one
 begins-unknown : (files : Store) (s : Settings) (asked : args.Input) (f : SourceFile) (kind : InputKind) (path bytes : List ℕ)
-    → IsTaken (Some files) s asked f → IsFirstHeld (Some files) (candidates_of s asked) path bytes → head_of bytes ≡ head.Unknown kind → ⊥
+    → IsTaken (Some files) s asked f → IsFirstHeld (Some files) (candidates_of s asked.kind asked.name) path bytes
+    → head_of bytes ≡ head.Unknown kind → ⊥
 begins-unknown files s asked f kind path bytes taken found is =
-    let same = one-held files (candidates_of s asked) f.path path taken.bytes bytes taken.found found in
-    no-unknown f.input kind (sym taken.is.head ∙ (ap head_of same.bytes ∙ is))
+    let same = one-held files (candidates_of s asked.kind asked.name) f.path path taken.bytes bytes taken.found found in
+    subst (λ (h : Head). IsReadAs h taken.bytes f.input) (ap head_of same.bytes ∙ is) taken.is
 
 -- an input that is taken isn't refused
 taken-refused : (files : Store) (s : Settings) (asked : args.Input) (f : SourceFile) (refusal : LinkError) (path bytes : List ℕ)
-    → IsTaken (Some files) s asked f → IsFirstHeld (Some files) (candidates_of s asked) path bytes
+    → IsTaken (Some files) s asked f → IsFirstHeld (Some files) (candidates_of s asked.kind asked.name) path bytes
     → BytesRefused (head_of bytes) bytes refusal → ⊥
 taken-refused files s asked f refusal path bytes taken found refused =
-    let same = one-held files (candidates_of s asked) f.path path taken.bytes bytes taken.found found in
-    let read : IsReadAs bytes f.input = subst (λ (b : List ℕ). IsReadAs b f.input) same.bytes taken.is in
-    read-refused bytes f.input refusal read (subst (λ (h : Head). BytesRefused h bytes refusal) read.head refused)
+    let same = one-held files (candidates_of s asked.kind asked.name) f.path path taken.bytes bytes taken.found found in
+    let read = subst (λ (b : List ℕ). IsReadAs (head_of b) b f.input) same.bytes taken.is in
+    read-refused (head_of bytes) bytes f.input refusal read refused
 
 -- a made object isn't refused
 made-refused : (files : Store) (s : Settings) (paths : List (List ℕ)) (i : ℕ) (refusal : LinkError) (fs : List SourceFile)
@@ -128,21 +127,23 @@ other-refusal refusal other same = let h : true ≡ false = sym (ap is-memory sa
 -- What is known of a job that has nothing against it, by its settings.
 record Known (files : Store) (s : Settings) (paths : List (List ℕ)) : Type 0 where
   named : bad_name (link_of s) ≡ false
-  never : (e : LinkError) → is-memory e ≡ false → (m : Link) × Links (Some files) s paths m × RefusalStands m e → ⊥
+  never : (e : LinkError) → is-memory e ≡ false
+      → (other : Job) × IsJob (Some files) s other × (paths ≡ paths_of other) × RefusalStands (linked s other) e → ⊥
 
-known : (files : Store) (s : Settings) (paths qs : List (List ℕ)) (l : Link) → Links (Some files) s qs l → IsClear l → Known files s paths
-known files s paths qs l links clear = record {
-  named = sym (ap bad_name links.linked) ∙ clear.named;
+known : (files : Store) (s : Settings) (paths : List (List ℕ)) (job : Job) → IsJob (Some files) s job → IsClear (linked s job)
+    → Known files s paths
+known files s paths job is clear = record {
+  named = clear.named;
   never = λ e other has.
       other-refusal e other (clear.nothing_stands e
-      (subst (λ (n : Link). RefusalStands n e) (linked-once files s paths qs has.0 l has.1 links) has.2));
+      (subst (λ (j : Job). RefusalStands (linked s j) e) (job-once files s has.0 job has.1 is) has.3));
 }
 
 link-refused : (files : Store) (s : Settings) (paths : List (List ℕ)) (refusal : LinkError) → Known files s paths
     → LinkRefused (Some files) s paths refusal → ⊥
 unfolding is-memory
 link-refused files s paths error.BadName safe why = let no : true ≡ false = sym why ∙ safe.named in cc
-link-refused files s paths (error.BadInput f) safe why = why.2
+link-refused files s paths (error.BadInput f) safe why = why.3
 link-refused files s paths error.OutOfMemory safe why = why
 link-refused files s paths (error.DuplicateSymbol name m n) safe why = safe.never (error.DuplicateSymbol name m n) refl why
 link-refused files s paths (error.UndefinedSymbol name n) safe why = safe.never (error.UndefinedSymbol name n) refl why
@@ -160,31 +161,31 @@ link-refused files s paths (error.RebaseTarget at p) safe why = safe.never (erro
 link-refused files s paths (error.RelocationRange at p) safe why = safe.never (error.RelocationRange at p) refl why
 
 -- THE fault of a job that has nothing against it, where no device failed: want of memory
-pub sure-fault : (files : Store) (s : Settings) (paths qs : List (List ℕ)) (l : Link) (old new : Failures) (f : Fault)
-    → Links (Some files) s qs l → IsClear l
+pub sure-fault : (files : Store) (s : Settings) (paths : List (List ℕ)) (job : Job) (old new : Failures) (f : Fault)
+    → IsJob (Some files) s job → IsClear (linked s job)
     → NoneFailed old new → JobFails (Some files) s paths old new f → f ≡ fault.OutOfMemory
-sure-fault files s paths qs l old new (fault.MissingFile word) links clear calm (inl (asked, asks, missing)) =
-    let f = asked-file files s word asked s.generate links.files refl links.are asks in
-    absurd (held-among files (candidates_of s asked) f.0.path f.1.bytes f.1.found missing)
-sure-fault files s paths qs l old new (fault.MissingFile word) links clear calm (inr (list, asks, missing)) =
-    let text = partner (IsListed (Some files)) asks.before asks.behind (word, list) links.lists
-    (subst (λ (xs : List (ℕ × List ℕ)). AllZip (IsListed (Some files)) xs links.lists) asks.split links.listed) in
+sure-fault files s paths job old new (fault.MissingFile word) is clear calm (inl (asked, asks, missing)) =
+    let f = asked-file files s word asked s.generate job.files refl is.files asks in
+    absurd (held-among files (candidates_of s asked.kind asked.name) f.0.path f.1.bytes f.1.found missing)
+sure-fault files s paths job old new (fault.MissingFile word) is clear calm (inr (list, asks, missing)) =
+    let text = partner (IsListed (Some files)) asks.before asks.behind (word, list) job.lists
+    (subst (λ (xs : List (ℕ × List ℕ)). AllZip (IsListed (Some files)) xs job.lists) asks.split is.lists) in
     absurd (not-missing files list text.0 missing text.1)
-sure-fault files s paths qs l old new (fault.UnknownKind word kind) links clear calm (path, bytes, has, is) =
-    let f = asked-file files s word has.input s.generate links.files refl links.are has.asked in
-    absurd (begins-unknown files s has.input f.0 kind path bytes f.1 has.found is)
-sure-fault files s paths qs l old new (fault.Input word refusal) links clear calm (inl (path, bytes, has, last, refused)) =
-    let f = asked-file files s word has.input s.generate links.files refl links.are has.asked in
+sure-fault files s paths job old new (fault.UnknownKind word kind) is clear calm (path, bytes, has, begins) =
+    let f = asked-file files s word has.input s.generate job.files refl is.files has.asked in
+    absurd (begins-unknown files s has.input f.0 kind path bytes f.1 has.found begins)
+sure-fault files s paths job old new (fault.Input word refusal) is clear calm (inl (path, bytes, has, last, refused)) =
+    let f = asked-file files s word has.input s.generate job.files refl is.files has.asked in
     absurd (taken-refused files s has.input f.0 refusal path bytes f.1 has.found refused)
-sure-fault files s paths qs l old new (fault.Input word refusal) links clear calm (inr made) =
-    absurd (made-refused files s paths word refusal links.files links.are made)
-sure-fault files s paths qs l old new (fault.Link refusal) links clear calm why =
-    absurd (link-refused files s paths refusal (known files s paths qs l links clear) why)
-sure-fault files s paths qs l old new (fault.Words refusal) links clear calm why = absurd why
-sure-fault files s paths qs l old new (fault.Read word) links clear calm (asks, rose) =
+sure-fault files s paths job old new (fault.Input word refusal) is clear calm (inr made) =
+    absurd (made-refused files s paths word refusal job.files is.files made)
+sure-fault files s paths job old new (fault.Link refusal) is clear calm why =
+    absurd (link-refused files s paths refusal (known files s paths job is clear) why)
+sure-fault files s paths job old new (fault.Words refusal) is clear calm why = absurd why
+sure-fault files s paths job old new (fault.Read word) is clear calm (asks, rose) =
     absurd (never-rose old.reads new.reads last_count (ap (λ (n : Failures). n.reads) calm.none) calm.reads rose)
-sure-fault files s paths qs l old new fault.Write links clear calm rose =
+sure-fault files s paths job old new fault.Write is clear calm rose =
     absurd (never-rose old.writes new.writes last_count (ap (λ (n : Failures). n.writes) calm.none) calm.writes rose)
-sure-fault files s paths qs l old new fault.Print links clear calm rose =
+sure-fault files s paths job old new fault.Print is clear calm rose =
     absurd (never-rose old.prints new.prints last_count (ap (λ (n : Failures). n.prints) calm.none) calm.prints rose)
-sure-fault files s paths qs l old new fault.OutOfMemory links clear calm why = refl
+sure-fault files s paths job old new fault.OutOfMemory is clear calm why = refl

@@ -2,13 +2,12 @@
 use Rattle.std.specs.Prelude.{◌≡◌, ℕ, ◌<◌, ◌⊎◌, true, false, List, ◌∷◌, ◌++◌, Option, None, Some, All, IsUtf8}
 use Rattle.std.specs.List.{AllZip, last_or}
 use Rattle.macho_args.specs.Settings as args
-use Rattle.macho_args.specs.Settings.{Settings, word_of}
+use Rattle.macho_args.specs.Settings.{Settings}
 use Rattle.macho_args.specs.Store.{Store}
 use Rattle.macho_args.specs.SearchPaths.{IsRefused}
-use Rattle.macho_model.specs.Links.{Link, StubReading}
+use Rattle.macho_model.specs.Links.{Link}
 use Rattle.macho_model.specs.Faults.{bad_name}
 use Rattle.macho_model.specs.Grammar.{IsObject, ObjectBreaks, DylibBreaks}
-use Rattle.macho_promise.specs.Inputs.{IsStubInput}
 use Rattle.macho_stub.specs.Answer.{IsToldOfText}
 use Rattle.macho_stub_lines.specs.declared.fault.StubFault.TheVariants.{Rule}
 use Rattle.macho_faults.specs.declared.fault.LinkError.{LinkError}
@@ -25,7 +24,7 @@ use Rattle.macho_job.specs.declared.heads.Head.TheVariants as head
 use Rattle.macho_job.specs.Heads.{head_of}
 use Rattle.macho_job.specs.Search.{candidates_of, FileIs, IsFirstHeld}
 use Rattle.macho_job.specs.Generator.{generated_object, generated_path}
-use Rattle.macho_job.specs.Job.{SourceFile, IsTaken, AreFiles, IsListed, Links}
+use Rattle.macho_job.specs.Job.{Job, SourceFile, IsJob, IsTaken, AreFiles, IsListed, linked, paths_of}
 
 -- the status that a run ends with: 1 where an input or the link is refused
 abbrev pub status_of : Option Fault → ℕ
@@ -57,14 +56,13 @@ pub record NoneFailed (old new : Failures) : Type 0 where
 abbrev pub reading : ℕ → Failures
 reading reads = failures reads 0 0
 
--- Bytes are refused, by their head: they break the rule that is told, at the place that is told, and so are no such input. Of the text of
--- a stub both are said; bytes that begin as a stub and aren't UTF-8 break the first rule of stubs at line 1, and no other.
+-- Bytes are refused, by their head: they break the rule that is told, at the place that is told, and so are no such input. Bytes that
+-- begin as a stub and aren't UTF-8 break the first rule of stubs at line 1, and no other.
 abbrev pub BytesRefused : Head → List ℕ → LinkError → Type 0
 BytesRefused head.Object bytes (error.BadInput (input.Object fault)) = ObjectBreaks bytes fault.rule fault.place
 BytesRefused head.Dylib bytes (error.BadInput (input.Object fault)) = DylibBreaks bytes fault.rule fault.place
 BytesRefused head.Stub bytes (error.BadInput (input.Stub line rule)) =
-    (IsUtf8 bytes × IsToldOfText bytes (Rule line rule) × ((says : StubReading) → IsStubInput bytes says → ⊥))
-    ⊎ ((IsUtf8 bytes → ⊥) × (line ≡ 1) × (rule ≡ S1))
+    (IsUtf8 bytes × IsToldOfText bytes (Rule line rule)) ⊎ ((IsUtf8 bytes → ⊥) × (line ≡ 1) × (rule ≡ S1))
 BytesRefused begins bytes refusal = ⊥
 
 -- a made object is refused, told by its number; those before it are objects
@@ -80,7 +78,7 @@ pub record MadeRefused (s : Settings) (paths : List (List ℕ)) (i : ℕ) (refus
 abbrev pub LinkRefused : Option Store → Settings → List (List ℕ) → LinkError → Type 0
 LinkRefused told s paths error.BadName = bad_name (link_of s) ≡ true
 LinkRefused told s paths error.OutOfMemory = ⊥
-LinkRefused told s paths refusal = (l : Link) × Links told s paths l × RefusalStands l refusal
+LinkRefused told s paths refusal = (job : Job) × IsJob told s job × (paths ≡ paths_of job) × RefusalStands (linked s job) refusal
 
 -- An input that was asked for, by the index of its word; each one before it was taken. None is where objects are made.
 pub record IsAsked (told : Option Store) (s : Settings) (word : ℕ) (asked : args.Input) : Type 0 where
@@ -89,7 +87,7 @@ pub record IsAsked (told : Option Store) (s : Settings) (word : ℕ) (asked : ar
   pub split : s.inputs ≡ before ++ asked ∷ behind
   pub files : List SourceFile
   pub taken : AllZip (IsTaken told s) before files
-  pub stands_in : word ≡ word_of asked
+  pub stands_in : word ≡ asked.word
   pub alone : s.generate ≡ None
 
 -- An export list that was asked for, by the index of its word: all inputs were taken, or the objects made, and each list before
@@ -107,13 +105,13 @@ pub record IsListAsked (told : Option Store) (s : Settings) (word : ℕ) (path :
 pub record HasBytes (told : Option Store) (s : Settings) (word : ℕ) (path bytes : List ℕ) : Type 0 where
   pub input : args.Input
   pub asked : IsAsked told s word input
-  pub found : IsFirstHeld told (candidates_of s input) path bytes
+  pub found : IsFirstHeld told (candidates_of s input.kind input.name) path bytes
 
 -- THE causes of the faults of settings, a row for each; `paths` are of files that were read, the last of them an input that is refused.
 -- Want of memory is free.
 abbrev pub JobFails : Option Store → Settings → List (List ℕ) → Failures → Failures → Fault → Type 0
 JobFails told s paths old new (MissingFile word) =
-    ((asked : args.Input) × IsAsked told s word asked × All (FileIs told None) (candidates_of s asked))
+    ((asked : args.Input) × IsAsked told s word asked × All (FileIs told None) (candidates_of s asked.kind asked.name))
     ⊎ ((list : List ℕ) × IsListAsked told s word list × FileIs told None list)
 JobFails told s paths old new (UnknownKind word kind) =
     (path : List ℕ) × (bytes : List ℕ) × HasBytes told s word path bytes × (head_of bytes ≡ head.Unknown kind)

@@ -1,6 +1,5 @@
 -- The objects of `-generate N`: N functions, each of which calls the next one, and beside each a pointer to it.
 use Rattle.std.specs.Prelude.{ℕ, ◌+◌, ◌*◌, ◌==◌, if◌then◌else◌, Bool, true, false, List, [], ◌∷◌, ◌++◌, codes, length, decimal}
-use Rattle.std.specs.List.{flat_map}
 use Rattle.macho_bytes.specs.Numbers.{le_bytes}
 use Rattle.macho_records.specs.ByteLayouts.{spelling}
 use Rattle.macho_records.specs.Layouts.{mach_header, segment_command, section_header, symtab_command, symtab_entry}
@@ -12,13 +11,6 @@ use Rattle.macho_records.specs.declared.header.SectionHeader.{SectionHeader}
 use Rattle.macho_records.specs.declared.header.SegmentCommand.{SegmentCommand}
 use Rattle.macho_records.specs.declared.symbols.SymtabCommand.{SymtabCommand}
 use Rattle.macho_records.specs.declared.constants.TheConstants.{ARM64_RELOC_BRANCH26, ARM64_RELOC_UNSIGNED, CPU_TYPE_ARM64, LC_SEGMENT_64, LC_SYMTAB, MH_MAGIC_64, MH_OBJECT, MH_SUBSECTIONS_VIA_SYMBOLS, N_EXT, N_SECT, N_UNDF, S_ATTR_PURE_INSTRUCTIONS, S_ATTR_SOME_INSTRUCTIONS}
-
--- numbers of four and of eight bytes, one behind the other
-abbrev pub words : List ℕ → List ℕ
-words numbers = flat_map (le_bytes 4) numbers
-
-abbrev pub longs : List ℕ → List ℕ
-longs numbers = flat_map (le_bytes 8) numbers
 
 -- the name of the i-th function: the first is the entry
 abbrev pub function_name : ℕ → List ℕ
@@ -76,7 +68,7 @@ object_with calls name pointer next =
     made_header ++ made_segment
     ++ made_section (codes "__text") (codes "__TEXT") (S_ATTR_PURE_INSTRUCTIONS + S_ATTR_SOME_INSTRUCTIONS) 0 2 (304 * calls) calls
     ++ made_section (codes "__data") (codes "__DATA") 0 8 3 (304 + 8 * calls) 1 ++ made_symtab calls (length strings)
-    ++ words ((if calls == 0 then 0x52800000 else 0x14000000) ∷ 0xd65f03c0 ∷ []) ++ longs (0 ∷ [])
+    ++ le_bytes 4 (if calls == 0 then 0x52800000 else 0x14000000) ++ le_bytes 4 0xd65f03c0 ++ le_bytes 8 0
     ++ if_called (made_relocation ARM64_RELOC_BRANCH26 2 true 2) ++ made_relocation ARM64_RELOC_UNSIGNED 3 false 0
     ++ made_symbol 1 (N_SECT + N_EXT) 1 0 ++ made_symbol (2 + length name) (N_SECT + N_EXT) 2 8
     ++ if_called (made_symbol (3 + length name + length pointer) (N_UNDF + N_EXT) 0 0) ++ strings

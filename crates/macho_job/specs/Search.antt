@@ -3,7 +3,7 @@ use Rattle.std.specs.Prelude.{◌≡◌, ℕ, List, [], ◌∷◌, ◌++◌, cod
 use Rattle.std.specs.List.{flat_map}
 use Rattle.std.specs.FinMap.{get}
 use Rattle.macho_args.specs.Effects.{joined}
-use Rattle.macho_args.specs.Settings.{Settings, Input, file, library, framework}
+use Rattle.macho_args.specs.Settings.{Settings, InputKind, file, library, framework}
 use Rattle.macho_args.specs.Store.{Store}
 
 -- a library NAME in a folder: `libNAME.tbd`, then `libNAME.dylib`
@@ -17,10 +17,10 @@ framework_files name folder =
     joined folder (name ++ (codes ".framework/" ++ (name ++ codes ".tbd"))) ∷ joined folder (name ++ (codes ".framework/" ++ name)) ∷ []
 
 -- The paths at which an input is sought: a file at its own; a library in each library path, a framework in each framework path.
-abbrev pub candidates_of : Settings → Input → List (List ℕ)
-candidates_of s (file word path) = path ∷ []
-candidates_of s (library word name) = flat_map (library_files name) s.lib_search_path
-candidates_of s (framework word name) = flat_map (framework_files name) s.framework_search_path
+abbrev pub candidates_of : Settings → InputKind → (name : List ℕ) → List (List ℕ)
+candidates_of s file path = path ∷ []
+candidates_of s library name = flat_map (library_files name) s.lib_search_path
+candidates_of s framework name = flat_map (framework_files name) s.framework_search_path
 
 -- What stands under a path: these bytes, or no file. Where the store isn't told, that is open.
 abbrev pub FileIs : Option Store → Option (List ℕ) → List ℕ → Type 0

@@ -1,7 +1,7 @@
 //! The inputs of a run: each is sought, read, and taken by the linker as its head says.
 
 ghost use Rattle.std.specs.Prelude.{◌≡◌, ℕ, ◌+◌, ◌-◌, ◌^◌, ◌<◌, [], List, Option, map, length, IfOk, IfErr, OnOk, Some};
-ghost use Rattle.macho_args.specs.Settings.{settings_of, input_of, word_of};
+ghost use Rattle.macho_args.specs.Settings.{settings_of, input_of};
 ghost use Rattle.macho_args.specs.Store.{Store};
 ghost use Rattle.macho_image.specs.Linkers.{link_of, TakesStub};
 ghost use Rattle.macho_devices.specs.Devices.{OnlyReads};
@@ -77,8 +77,8 @@ fn find_input<F: Files>(
     spec: &InputSpec,
     files: &mut F,
 ) -> Result<FoundFile, Fault>
-    ensures found { IfOk result (λ found. IsSearched (F.holds files.old) (candidates_of (settings_of args.now) (input_of spec.now))
-        (Some found)) }
+    ensures found { IfOk result (λ found. IsSearched (F.holds files.old)
+        (candidates_of (settings_of args.now) (input_of spec.now).kind (input_of spec.now).name) (Some found)) }
     ensures why { IfErr result (λ fault. (paths : List (List ℕ))
         → InputFails (F.holds files.old) (settings_of args.now) paths (input_of spec.now)
         (F.faults files.old) (F.faults files.new) fault) }

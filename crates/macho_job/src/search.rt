@@ -100,7 +100,8 @@ pub(crate) fn candidates_of(
     args: &MachOArgs,
     spec: &InputSpec,
 ) -> Result<Vec<String>, AllocError>
-    ensures { IfOk result (λ paths. map string_bytes paths.items ≡ candidates_of (settings_of args.now) (input_of spec.now)) }
+    ensures { IfOk result (λ paths. map string_bytes paths.items
+        ≡ candidates_of (settings_of args.now) (input_of spec.now).kind (input_of spec.now).name) }
 {
     match spec {
         InputSpec::File { path, .. } => one_file(alloc, path.as_str()),

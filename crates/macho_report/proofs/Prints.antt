@@ -46,8 +46,8 @@ around {X} f xs i d within =
 -- a line that was printed was told
 pub told-by : {A E : Type 0} (a b : Option (List ℕ)) (old new : ℕ) (line : List ℕ) (r : Result A E) → IsPrinted a b old new line r
     → IsLineTold a b old new line
-told-by a b old new line (Ok x) p = record { told = inl p.done; counted = p.counted }
-told-by a b old new line (Err e) p = record { told = inr (p.left, p.why); counted = p.counted }
+told-by a b old new line (Ok x) p = inl p.done
+told-by a b old new line (Err e) p = inr (p.left, p.why)
 
 -- counts go on
 pub counts-since : (old mid new : ℕ) → CountsOn old mid → CountsOn mid new → CountsOn old new

@@ -6,9 +6,9 @@ use Rattle.std.proofs.Common.{◌≡◌, ℕ, Bool, true, false, refl, sym, ap, 
 use Rattle.std.specs.Prelude.{◌==◌, find, if◌then◌else◌}
 use Rattle.std.specs.Option.{option_copied, option_map, option_map_or}
 use Rattle.std.specs.String.{string_bytes}
-use Rattle.macho_args.specs.Settings.{Input, input_of, word_of}
+use Rattle.macho_args.specs.Settings.{Input, input_of}
 use Rattle.macho_args.specs.declared.fields.InputSpec.{InputSpec}
-use Rattle.macho_report.specs.Lines.{name_of_input, word_name}
+use Rattle.macho_report.specs.Lines.{word_name}
 
 -- the first that passes, as it is seen
 find-map : {X Y : Type 0} (f : X → Y) (test : Y → Bool) (xs : List X) → find test (map f xs) ≡ option_map f (find (λ x. test (f x)) xs)
@@ -24,9 +24,9 @@ abbrev plain : {A : Type 0} → ℕ × String A → ℕ × List ℕ
 plain list = (list.0, string_bytes list.1)
 
 inputs-found : (inputs : List InputSpec) (word : ℕ) (o : Option (Bor InputSpec))
-    → option_copied o ≡ find (λ spec. word_of (input_of spec) == word) inputs
-    → find (λ input. word_of input == word) (map input_of inputs) ≡ option_map input_of (option_copied o)
-inputs-found inputs word o is = find-map input_of (λ input. word_of input == word) inputs ∙ ap (option_map input_of) (sym is)
+    → option_copied o ≡ find (λ spec. (input_of spec).word == word) inputs
+    → find (λ input. input.word == word) (map input_of inputs) ≡ option_map input_of (option_copied o)
+inputs-found inputs word o is = find-map input_of (λ input. input.word == word) inputs ∙ ap (option_map input_of) (sym is)
 
 lists-found : {A : Type 0} (lists : List (ℕ × String A)) (word : ℕ) (o : Option (Bor (ℕ × String A)))
     → option_copied o ≡ find (λ list. list.0 == word) lists
@@ -35,12 +35,12 @@ lists-found lists word o is = find-map plain (λ list. list.0 == word) lists ∙
 
 -- what is told of an input, else of a list
 abbrev told_of : Option Input → Option (ℕ × List ℕ) → List ℕ
-told_of input list = option_map_or name_of_input input (option_map_or (λ l. l.1) list [])
+told_of input list = option_map_or (λ i. i.name) input (option_map_or (λ l. l.1) list [])
 
 -- an input stands in the word
 pub input-told : {A : Type 0} (inputs : List InputSpec) (lists : List (ℕ × String A)) (word : ℕ) (o : Option (Bor InputSpec))
     (spec : Bor InputSpec) (name : List ℕ)
-    → option_copied o ≡ find (λ spec. word_of (input_of spec) == word) inputs → o ≡ Some spec → name ≡ name_of_input (input_of spec.now)
+    → option_copied o ≡ find (λ spec. (input_of spec).word == word) inputs → o ≡ Some spec → name ≡ (input_of spec.now).name
     → name ≡ word_name (map input_of inputs) (map (λ list. (list.0, string_bytes list.1)) lists) word
 input-told inputs lists word o spec name found some is =
     let told = inputs-found inputs word o found ∙ ap (λ (p : Option (Bor InputSpec)). option_map input_of (option_copied p)) some in
@@ -49,7 +49,7 @@ input-told inputs lists word o spec name found some is =
 -- a list does
 pub list-told : {A : Type 0} (inputs : List InputSpec) (lists : List (ℕ × String A)) (word : ℕ) (o : Option (Bor InputSpec))
     (p : Option (Bor (ℕ × String A)))
-    (list : Bor (ℕ × String A)) (name : List ℕ) → option_copied o ≡ find (λ spec. word_of (input_of spec) == word) inputs → o ≡ None
+    (list : Bor (ℕ × String A)) (name : List ℕ) → option_copied o ≡ find (λ spec. (input_of spec).word == word) inputs → o ≡ None
     → option_copied p ≡ find (λ list. list.0 == word) lists → p ≡ Some list → name ≡ string_bytes list.now.1
     → name ≡ word_name (map input_of inputs) (map (λ list. (list.0, string_bytes list.1)) lists) word
 list-told {A} inputs lists word o p list name found none listed some is =
@@ -60,7 +60,7 @@ list-told {A} inputs lists word o p list name found none listed some is =
 -- nothing does
 pub none-told : {A : Type 0} (inputs : List InputSpec) (lists : List (ℕ × String A)) (word : ℕ) (o : Option (Bor InputSpec))
     (p : Option (Bor (ℕ × String A)))
-    → option_copied o ≡ find (λ spec. word_of (input_of spec) == word) inputs → o ≡ None
+    → option_copied o ≡ find (λ spec. (input_of spec).word == word) inputs → o ≡ None
     → option_copied p ≡ find (λ list. list.0 == word) lists → p ≡ None
     → [] ≡ word_name (map input_of inputs) (map (λ list. (list.0, string_bytes list.1)) lists) word
 none-told {A} inputs lists word o p found none listed empty =

@@ -6,7 +6,7 @@ use Rattle.hex.specs.Hex.{encode_lower}
 use Rattle.sha2.specs.Sha256.{sha256}
 use Rattle.byteorder.specs.Endian.{big_bytes}
 use Rattle.macho_bytes.specs.Texts.{name_of}
-use Rattle.macho_args.specs.Settings.{Settings, Input, file, library, framework, word_of}
+use Rattle.macho_args.specs.Settings.{Settings, Input}
 use Rattle.macho_args.specs.declared.fault.ArgsFault.{ArgsFault}
 use Rattle.macho_args.specs.declared.fault.ArgsFault.TheVariants as words
 use Rattle.macho_stub_lines.specs.declared.fault.StubRule.{StubRule}
@@ -33,16 +33,10 @@ use Rattle.macho_job.specs.Names.{file_name, last_name}
 use Rattle.macho_job.specs.declared.fault.Fault.{Fault}
 use Rattle.macho_job.specs.declared.fault.Fault.TheVariants.{MissingFile, UnknownKind, Input as InputRefused, Link as LinkRefused, Words, Read, Write, Print, OutOfMemory}
 
--- what is told of an input's word: the file, or the name of a library or framework
-abbrev pub name_of_input : Input → List ℕ
-name_of_input (file word path) = path
-name_of_input (library word name) = name
-name_of_input (framework word name) = name
-
--- what is told of a word: of the input that stands in it, else the path of the list that does
+-- what is told of a word: the path or name of the input that stands in it, else the path of the list that does
 abbrev pub word_name : List Input → List (ℕ × List ℕ) → ℕ → List ℕ
 word_name inputs lists word =
-    option_map_or name_of_input (find (λ input. word_of input == word) inputs)
+    option_map_or (λ input. input.name) (find (λ input. input.word == word) inputs)
     (option_map_or (λ list. list.1) (find (λ list. list.0 == word) lists) [])
 
 -- an argument that is not accepted: its index, and why
@@ -163,10 +157,6 @@ fault_text inputs lists paths OutOfMemory = codes "out of memory" ∷ []
 -- THE line of a text: the program's name before it, and a line feed behind it
 abbrev pub line_of : List (List ℕ) → List ℕ
 line_of text = flat_map (λ piece. piece) (codes "wild_macho: " ∷ (text ++ codes "\n" ∷ []))
-
--- THE line of a fault, with the inputs and lists that were asked for and the paths of the files
-abbrev pub fault_line : List Input → List (ℕ × List ℕ) → List (List ℕ) → Fault → List ℕ
-fault_line inputs lists paths fault = line_of (fault_text inputs lists paths fault)
 
 -- a number as `0x` and its 16 digits
 abbrev pub hex_text : ℕ → List ℕ

@@ -22,6 +22,5 @@ pub record IsPrinted {A E : Type 0} (old_taken new_taken : Option (List ℕ)) (o
   pub counted : CountsOn old_faults new_faults
 
 -- A line is told: whole, or only the first of it where the sink failed; nothing is claimed of the rest.
-pub record IsLineTold (old_taken new_taken : Option (List ℕ)) (old_faults new_faults : ℕ) (line : List ℕ) : Type 0 where
-  pub told : TakesBytes old_taken new_taken line ⊎ (TakesPrefix old_taken new_taken line × CountRose old_faults new_faults)
-  pub counted : CountsOn old_faults new_faults
+abbrev pub IsLineTold : (old_taken new_taken : Option (List ℕ)) → (old_faults new_faults : ℕ) → (line : List ℕ) → Type 0
+IsLineTold old new before after line = TakesBytes old new line ⊎ (TakesPrefix old new line × CountRose before after)

@@ -5,9 +5,10 @@
 ghost use Rattle.std.specs.Prelude.{◌≡◌, ◌==◌, [], ◌∷◌, map, codes, decimal, find};
 ghost use Rattle.std.specs.Option.{option_copied};
 ghost use Rattle.std.specs.String.{string_bytes};
-ghost use Rattle.macho_args.specs.Settings.{input_of, word_of};
+ghost use Rattle.macho_args.specs.Settings.{input_of};
+ghost use Rattle.macho_devices.specs.Faults.{CountsOn};
 ghost use Rattle.macho_job.specs.Names.{names_of};
-ghost use Rattle.macho_report.specs.Lines.{line_of, fault_line, broken_word, name_of_input, word_name};
+ghost use Rattle.macho_report.specs.Lines.{line_of, fault_text, broken_word, word_name};
 ghost use Rattle.macho_report.specs.Printing.{IsPrinted, IsLineTold};
 
 use crate::refusals::print_error;
@@ -25,8 +26,10 @@ pub fn print_fault<E: Sink>(
     names: &FileNames,
     fault: &Fault,
 )
-    ensures { IsLineTold (E.taken err.old) (E.taken err.new) (E.faults err.old) (E.faults err.new)
-        (fault_line (map input_of inputs.now) (map (λ list. (list.0, string_bytes list.1)) lists.now) (names_of names.now) fault.now) }
+    ensures told { IsLineTold (E.taken err.old) (E.taken err.new) (E.faults err.old) (E.faults err.new)
+        (line_of (fault_text (map input_of inputs.now) (map (λ list. (list.0, string_bytes list.1)) lists.now)
+        (names_of names.now) fault.now)) }
+    ensures counted { CountsOn (E.faults err.old) (E.faults err.new) }
 {
     let _ = print_line(err, inputs, lists, names, fault);
 }
@@ -39,8 +42,8 @@ fn print_line<E: Sink>(
     fault: &Fault,
 ) -> Result<(), SinkFault>
     ensures { IsPrinted (E.taken err.old) (E.taken err.new) (E.faults err.old) (E.faults err.new)
-        (fault_line (map input_of inputs.now) (map (λ list. (list.0, string_bytes list.1)) lists.now)
-        (names_of names.now) fault.now) result }
+        (line_of (fault_text (map input_of inputs.now) (map (λ list. (list.0, string_bytes list.1)) lists.now)
+        (names_of names.now) fault.now)) result }
 {
     match fault {
         Fault::Words { fault } => print_bad_word(err, *fault),
@@ -71,7 +74,7 @@ fn print_line<E: Sink>(
 
 // The name of an input's word.
 fn name_of_input(spec: &InputSpec) -> &[u8]
-    ensures { result.now ≡ name_of_input (input_of spec.now) }
+    ensures { result.now ≡ (input_of spec.now).name }
 {
     match spec {
         InputSpec::File { path, .. } => path.as_bytes(),
@@ -81,7 +84,7 @@ fn name_of_input(spec: &InputSpec) -> &[u8]
 }
 
 fn input_of_word(inputs: &[InputSpec], word: u32) -> Option<&InputSpec>
-    ensures { option_copied result ≡ find (λ spec. word_of (input_of spec) == word) inputs.now }
+    ensures { option_copied result ≡ find (λ spec. (input_of spec).word == word) inputs.now }
 {
     inputs.iter().find(|spec| spec.word() == word)
 }

@@ -15,15 +15,15 @@ use Rattle.macho_report.specs.Refusals.{RefusalStands}
 use Rattle.macho_report.specs.Fault.{Fault}
 use Rattle.macho_report.specs.Fault.TheVariants as fault
 use Rattle.macho_report.specs.Causes.{NoneFailed, status_of, IsClear, JobFails, WordsFail}
-use Rattle.macho_report.specs.Job.{Outside}
+use Rattle.macho_report.specs.Job.{Outside, linked}
 use Rattle.macho_report.proofs.Sure.{sure-fault}
 use Rattle.wild_macho.specs.declared.passes.Ran.{Ran}
-use Rattle.wild_macho.specs.Runs.{Devices, ErrorSink, outside, HasCauseIn, Says, IsRun, refused, runs, SayJob, IsOwed}
+use Rattle.wild_macho.specs.Runs.{Devices, ErrorSink, outside, HasCauseIn, Says, IsRun, RefusesWords, RunsBy, SayJob, IsOwed}
 
 -- words that say settings aren't refused
 said-not-refused : (words : List (List ℕ)) (files : Outside) (s : Settings) (f : ArgsFault) → Says words files s → IsRefused words f → ⊥
 said-not-refused words files s f says breaks =
-    let h : Ok says.said ≡ Err f = sym says.read ∙ breaks.told says.root_of in cc
+    let h : Ok says.said ≡ Err f = sym says.read ∙ breaks.told says.canonical in cc
 
 words-fault : (words : List (List ℕ)) (files : Outside) (s : Settings) (f : Fault) → Says words files s → WordsFail words f
     → f ≡ fault.OutOfMemory
@@ -50,7 +50,7 @@ by-settings : (words : List (List ℕ)) (d : Option Directories) (c : Option Can
 by-settings words d c files old new before after s None same sure calm says why = tt
 by-settings words d c files old new before after s (Some f) same sure calm says why =
     let job = sure.each s says in
-    sure-fault files s why.paths job.0.paths job.0.link old.failures new.failures f job.1.links job.2 calm
+    sure-fault files s why.paths job.0 old.failures new.failures f job.1 job.2 calm
     (subst (λ (o : Outside). JobFails o.store s why.paths old.failures new.failures f) same why.why)
 
 -- THE answer of a run whose job has nothing against it
@@ -60,12 +60,19 @@ pub sure-status : (words : List (List ℕ)) (d : Option Directories) (c : Option
     → SayJob words (outside d c (Some files)) IsClear
     → NoneFailed old.failures new.failures
     → (ran.status ≡ 0) ⊎ (ran.status ≡ 5)
-sure-status words d c told files old new before after ran from tells (refused r) sure calm =
-    status-is ran.status (Some r.fault) r.status (words-fault words (outside d c (Some files)) sure.said r.fault sure.says r.why)
-sure-status words d c told files old new before after ran from tells (runs s says by) sure calm =
-    let same : old.outside ≡ outside d c (Some files) = from ∙ ap (outside d c) tells in
-    let says' = subst (λ (o : Outside). Says words o s) same says in
-    status-is ran.status ran.fault by.status (by-settings words d c files old new before after s ran.fault same sure calm says' by.fault)
+sure-status words d c told files old new before after ran from tells is sure calm = status-is ran.status ran.fault is.status (memory is.run)
+  where
+    Memory : Option Fault → Type 0
+    Memory f = IfSome f (λ g. g ≡ fault.OutOfMemory)
+
+    memory : RefusesWords words old new before after ran ⊎ ((s : Settings) × Says words old.outside s × RunsBy s old new before after ran)
+        → Memory ran.fault
+    memory (inl r) =
+        subst Memory (sym r.is) (words-fault words (outside d c (Some files)) sure.said r.fault sure.says r.why)
+    memory (inr (s, says, by)) =
+        let same : old.outside ≡ outside d c (Some files) = from ∙ ap (outside d c) tells in
+        let says' = subst (λ (o : Outside). Says words o s) same says in
+        by-settings words d c files old new before after s ran.fault same sure calm says' by.fault
 
 -- a valid link is refused for want of memory alone
 only_memory : (l : Link) (e : LinkError) → IsOwed l → RefusalStands l e → e ≡ error.OutOfMemory
@@ -94,5 +101,5 @@ sure_of words files answered = record {
   says = answered.says;
   each = λ s says.
       let job = answered.each s says in
-      (job.0, job.1, record { named = job.2.named; nothing_stands = λ refusal stands. only_memory job.0.link refusal job.2 stands });
+      (job.0, job.1, record { named = job.2.named; nothing_stands = λ refusal stands. only_memory (linked s job.0) refusal job.2 stands });
 }

@@ -24,34 +24,41 @@ use Rattle.macho_devices.specs.Devices.{WritesFile}
 use Rattle.macho_devices.specs.Faults.{last_count}
 use Rattle.macho_report.specs.Fault.{Fault}
 use Rattle.macho_report.specs.Fault.TheVariants as fault
-use Rattle.macho_report.specs.Causes.{failures, reading, status_of, JobFails, WordsFail}
-use Rattle.macho_report.specs.Job.{Outside, uuid_of}
+use Rattle.macho_report.specs.Causes.{Failures, failures, reading, status_of, JobFails, WordsFail}
+use Rattle.macho_report.specs.Job.{Outside, Job, IsJob, Links, linked, paths_of, uuid_of}
 use Rattle.macho_report.specs.Refused.{Tells}
-use Rattle.macho_report.specs.Lines.{run_lines, fault_line}
+use Rattle.macho_report.specs.Lines.{run_lines, fault_text, line_of}
 use Rattle.macho_report.specs.Printing.{IsLineTold}
 use Rattle.wild_macho.specs.declared.passes.Ran.{Ran}
 use Rattle.wild_macho.specs.declared.passes.Made.{Made}
-use Rattle.wild_macho.specs.steps.Made.{LeavesAll, IsBadName}
+use Rattle.wild_macho.specs.steps.Made.{LeavesAll, LeavesOutput, LeavesLines, IsBadName}
 use Rattle.wild_macho.specs.steps.Made.{IsMade, IsLinkFault, Ends, EndsWith, EndsBare, EndFails, PrintFails, Prints, Finishes, Answers}
-use Rattle.wild_macho.specs.Runs.{Devices, devices, outside, ErrorSink, LeavesImage, LeavesLines, LeavesNothing}
+use Rattle.wild_macho.specs.Runs.{Devices, devices, outside, ErrorSink, LeavesImage, LeavesNothing}
 use Rattle.wild_macho.specs.Runs.{HasImage, HasCauseIn, RunsBy}
+
+-- a refusal of the link is one of the job that has this link
+job-refused : (l : Link) (e : LinkError) → RefusalStands l e → (told : Option Store) (s : Settings) (paths : List (List ℕ))
+    (old new : Failures) → Links told s paths l
+    → (job : Job) × IsJob told s job × (paths ≡ paths_of job) × RefusalStands (linked s job) e
+job-refused l e stands told s paths old new links =
+    (links.job, links.is, links.named, subst (λ (k : Link). RefusalStands k e) links.links stands)
 
 -- a refusal of the link that is kept is one of the job
 link-kept : (l : Link) (e : LinkError) → RefusalStands l e → (e ≡ error.OutOfMemory → ⊥) → IsLinkFault l (fault.Link e)
-link-kept l (error.DuplicateSymbol name m n) stands other = record { fails = λ told s paths old new links. (l, links, stands) }
-link-kept l (error.UndefinedSymbol name n) stands other = record { fails = λ told s paths old new links. (l, links, stands) }
-link-kept l (error.EntryNotDefined name) stands other = record { fails = λ told s paths old new links. (l, links, stands) }
-link-kept l (error.ExportListMissing name) stands other = record { fails = λ told s paths old new links. (l, links, stands) }
-link-kept l (error.BadInitializer n k o) stands other = record { fails = λ told s paths old new links. (l, links, stands) }
-link-kept l (error.BadUnwind n k i u) stands other = record { fails = λ told s paths old new links. (l, links, stands) }
-link-kept l (error.UnsupportedRelocation n k r) stands other = record { fails = λ told s paths old new links. (l, links, stands) }
-link-kept l (error.OverlappingFields n k q r) stands other = record { fails = λ told s paths old new links. (l, links, stands) }
-link-kept l (error.BindAddend n k r a) stands other = record { fails = λ told s paths old new links. (l, links, stands) }
-link-kept l (error.FixupPlace n k r p) stands other = record { fails = λ told s paths old new links. (l, links, stands) }
-link-kept l (error.TooMany what n p) stands other = record { fails = λ told s paths old new links. (l, links, stands) }
-link-kept l (error.ImageTooLarge p) stands other = record { fails = λ told s paths old new links. (l, links, stands) }
-link-kept l (error.RebaseTarget at p) stands other = record { fails = λ told s paths old new links. (l, links, stands) }
-link-kept l (error.RelocationRange at p) stands other = record { fails = λ told s paths old new links. (l, links, stands) }
+link-kept l (error.DuplicateSymbol name m n) stands other = record { fails = job-refused l (error.DuplicateSymbol name m n) stands }
+link-kept l (error.UndefinedSymbol name n) stands other = record { fails = job-refused l (error.UndefinedSymbol name n) stands }
+link-kept l (error.EntryNotDefined name) stands other = record { fails = job-refused l (error.EntryNotDefined name) stands }
+link-kept l (error.ExportListMissing name) stands other = record { fails = job-refused l (error.ExportListMissing name) stands }
+link-kept l (error.BadInitializer n k o) stands other = record { fails = job-refused l (error.BadInitializer n k o) stands }
+link-kept l (error.BadUnwind n k i u) stands other = record { fails = job-refused l (error.BadUnwind n k i u) stands }
+link-kept l (error.UnsupportedRelocation n k r) stands other = record { fails = job-refused l (error.UnsupportedRelocation n k r) stands }
+link-kept l (error.OverlappingFields n k q r) stands other = record { fails = job-refused l (error.OverlappingFields n k q r) stands }
+link-kept l (error.BindAddend n k r a) stands other = record { fails = job-refused l (error.BindAddend n k r a) stands }
+link-kept l (error.FixupPlace n k r p) stands other = record { fails = job-refused l (error.FixupPlace n k r p) stands }
+link-kept l (error.TooMany what n p) stands other = record { fails = job-refused l (error.TooMany what n p) stands }
+link-kept l (error.ImageTooLarge p) stands other = record { fails = job-refused l (error.ImageTooLarge p) stands }
+link-kept l (error.RebaseTarget at p) stands other = record { fails = job-refused l (error.RebaseTarget at p) stands }
+link-kept l (error.RelocationRange at p) stands other = record { fails = job-refused l (error.RelocationRange at p) stands }
 link-kept l error.BadName stands other = absurd stands
 link-kept l (error.BadInput f) stands other = absurd stands
 link-kept l error.OutOfMemory stands other = absurd (other refl)
@@ -122,35 +129,56 @@ answers-refused s paths files later a b writes after prints printed f ran status
 bare-leaves : (old new : Devices) (f : Option Fault) → f ≡ Some fault.OutOfMemory → LeavesAll old new → LeavesNothing f old new
 bare-leaves old new f is same = subst (λ (g : Option Fault). LeavesNothing g old new) (sym is) same
 
+-- what is left beside an image
+both-left : (f : Option Fault) (old new : Devices) (path bytes text : List ℕ)
+    → LeavesOutput f old.outside.store new.outside.store path bytes → LeavesLines f old.printed new.printed text
+    → LeavesImage f old new path bytes text
+both-left None old new path bytes text output lines = (output, lines)
+both-left (Some fault.Write) old new path bytes text output lines = (output, lines)
+both-left (Some fault.Print) old new path bytes text output lines = (output, lines)
+both-left (Some fault.OutOfMemory) old new path bytes text output lines = output
+both-left (Some (fault.MissingFile word)) old new path bytes text output lines = output
+both-left (Some (fault.UnknownKind word kind)) old new path bytes text output lines = output
+both-left (Some (fault.Input word refusal)) old new path bytes text output lines = output
+both-left (Some (fault.Link refusal)) old new path bytes text output lines = output
+both-left (Some (fault.Words refusal)) old new path bytes text output lines = output
+both-left (Some (fault.Read word)) old new path bytes text output lines = output
+
+-- an image that is there is the one that was made, written and printed so
+abbrev LeavesMade : Settings → List (List ℕ) → Devices → Devices → Made → Option Fault → LinkedImage → Type 0
+LeavesMade s paths old new made f i =
+    (i ≡ made.image) × LeavesOutput f old.outside.store new.outside.store s.output i.bytes.items
+    × LeavesLines f old.printed new.printed (run_lines s made.linker paths i)
+
 -- the end of an image, by settings
 end-image : (s : Settings) (paths : List (List ℕ)) (old new : Devices) (made : Made) (f : Option Fault) (image : Option LinkedImage)
     → IsMade old.outside.store s paths made
-    → MatchOption image (LeavesNothing f old new)
-    (λ i. (i ≡ made.image) × LeavesImage f old.outside.store new.outside.store s.output i.bytes.items
-    × LeavesLines f old.printed new.printed (run_lines s made.linker paths i))
+    → MatchOption image (LeavesNothing f old new) (LeavesMade s paths old new made f)
     → MatchOption image (LeavesNothing f old new) (HasImage s old new f)
 end-image s paths old new made f None is end = end
-end-image s paths old new made f (Some i) is end = record {
-  job = record { link = made.linker; paths = paths; uuid = uuid_of s made.linker.inputs; output = s.output };
-  is = record { links = is.links; uuid = refl; output = refl };
-  is_image = subst (IsImageOf made.linker (uuid_of s made.linker.inputs)) (sym end.0) is.is_image;
-  left = end.1;
-  lines = end.2;
-}
+end-image s paths old new made f (Some i) is end =
+    let links = is.links in
+    let image = subst (IsImageOf made.linker (uuid_of s made.linker.inputs)) (sym end.0) is.is_image in
+    let left = both-left f old new s.output i.bytes.items (run_lines s made.linker paths i) end.1 end.2 in
+    let Lines : List (List ℕ) → Link → Type 0 = λ ps l. LeavesImage f old new s.output i.bytes.items (run_lines s l ps i) in
+    record {
+      job = links.job;
+      is = links.is;
+      is_image = subst (λ (l : Link). IsImageOf l (uuid_of s l.inputs) i) links.links image;
+      left = subst (Lines (paths_of links.job)) links.links (subst (λ (ps : List (List ℕ)). Lines ps made.linker) links.named left);
+    }
 
 -- the same as the passes tell it
 ended : (s : Settings) (paths : List (List ℕ)) (old new : Devices) (made : Made) (e : Ends) (f : Option Fault) (image : Option LinkedImage)
     → e.old_store ≡ old.outside.store → e.new_store ≡ new.outside.store → e.old_printed ≡ old.printed → e.new_printed ≡ new.printed
     → MatchOption image (EndsBare e f) (EndsWith s paths made e f)
-    → MatchOption image (LeavesNothing f old new)
-    (λ i. (i ≡ made.image) × LeavesImage f old.outside.store new.outside.store s.output i.bytes.items
-    × LeavesLines f old.printed new.printed (run_lines s made.linker paths i))
+    → MatchOption image (LeavesNothing f old new) (LeavesMade s paths old new made f)
 ended s paths old new made e f None is1 is2 is3 is4 end =
     bare-leaves old new f end.memory (sym is2 ∙ (end.same_store ∙ is1), sym is4 ∙ (end.same_printed ∙ is3))
 ended s paths old new made e f (Some i) is1 is2 is3 is4 end = (
   end.same,
-  subst (λ (o : Option Store). LeavesImage f o new.outside.store s.output i.bytes.items) is1
-      (subst (λ (n : Option Store). LeavesImage f e.old_store n s.output i.bytes.items) is2 end.left),
+  subst (λ (o : Option Store). LeavesOutput f o new.outside.store s.output i.bytes.items) is1
+      (subst (λ (n : Option Store). LeavesOutput f e.old_store n s.output i.bytes.items) is2 end.left),
   subst (λ (o : Option (List ℕ)). LeavesLines f o new.printed (run_lines s made.linker paths i)) is3
       (subst (λ (n : Option (List ℕ)). LeavesLines f e.old_printed n (run_lines s made.linker paths i)) is4 end.lines),
 )
@@ -201,7 +229,7 @@ lines-finish s paths made e prints after ran wrote p = record {
       });
 }
   where
-    written : (f : Option Fault) → PrintFails prints after f → LeavesImage f e.old_store e.new_store s.output made.image.bytes.items
+    written : (f : Option Fault) → PrintFails prints after f → LeavesOutput f e.old_store e.new_store s.output made.image.bytes.items
     written None why = wrote
     written (Some fault.Print) why = wrote
     written (Some fault.Write) why = absurd why
@@ -231,10 +259,9 @@ lines-cause writes later prints after (Some (fault.Read word)) why = absurd why
 pub told-run : (s : Settings) (paths : List (List ℕ)) (old new : Devices) (before after : ErrorSink) (ran : Ran) (f : Fault)
     → ran.fault ≡ Some f → Answers s paths old new ran
     → (bad_name (link_of s) ≡ true → IsBadName ran.fault)
-    → IsLineTold before.taken after.taken before.faults after.faults (fault_line s.inputs s.export_list_paths paths f)
+    → IsLineTold before.taken after.taken before.faults after.faults (line_of (fault_text s.inputs s.export_list_paths paths f))
     → RunsBy s old new before after ran
 told-run s paths old new before after ran f is answers named line = record {
-  status = answers.status;
   image = answers.image;
   fault =
       let Q : Option Fault → Type 0 = λ g. IfSome g (HasCauseIn s old new before after) in
@@ -248,7 +275,6 @@ pub quiet-run : (s : Settings) (paths : List (List ℕ)) (old new : Devices) (be
     → Answers s paths old new ran
     → (bad_name (link_of s) ≡ true → IsBadName ran.fault) → RunsBy s old new before after ran
 quiet-run s paths old new before after ran is answers named = record {
-  status = answers.status;
   image = answers.image;
   fault = let Q : Option Fault → Type 0 = λ g. IfSome g (HasCauseIn s old new before after) in subst Q (sym is) tt;
   named = named;
@@ -273,12 +299,12 @@ runs-from s d e c k h m r q w v p t new before after ran is1 is2 is3 is4 is5 run
 pub same-line : {A : Type 0} (a b : Option (List ℕ)) (old new : ℕ) (xs ys : List InputSpec) (us vs : List (ℕ × String A))
     (ps qs : List (List ℕ)) (f : Fault)
     → xs ≡ ys → us ≡ vs → ps ≡ qs
-    → IsLineTold a b old new (fault_line (map input_of xs) (map (λ list. (list.0, string_bytes list.1)) us) ps f)
-    → IsLineTold a b old new (fault_line (map input_of ys) (map (λ list. (list.0, string_bytes list.1)) vs) qs f)
+    → IsLineTold a b old new (line_of (fault_text (map input_of xs) (map (λ list. (list.0, string_bytes list.1)) us) ps f))
+    → IsLineTold a b old new (line_of (fault_text (map input_of ys) (map (λ list. (list.0, string_bytes list.1)) vs) qs f))
 same-line {A} a b old new xs ys us vs ps qs f is1 is2 is3 line =
     subst (λ (zs : List (List ℕ)). IsLineTold a b old new
-    (fault_line (map input_of ys) (map (λ list. (list.0, string_bytes list.1)) vs) zs f)) is3
+    (line_of (fault_text (map input_of ys) (map (λ list. (list.0, string_bytes list.1)) vs) zs f))) is3
     (subst (λ (ws : List (ℕ × String A)). IsLineTold a b old new
-    (fault_line (map input_of ys) (map (λ list. (list.0, string_bytes list.1)) ws) ps f)) is2
+    (line_of (fault_text (map input_of ys) (map (λ list. (list.0, string_bytes list.1)) ws) ps f))) is2
     (subst (λ (zs : List InputSpec). IsLineTold a b old new
-    (fault_line (map input_of zs) (map (λ list. (list.0, string_bytes list.1)) us) ps f)) is1 line))
+    (line_of (fault_text (map input_of zs) (map (λ list. (list.0, string_bytes list.1)) us) ps f))) is1 line))

@@ -9,7 +9,6 @@ ghost use Rattle.std.specs.String.{string_bytes};
 ghost use Rattle.macho_args.specs.Settings.{settings_of};
 ghost use Rattle.macho_args.specs.SearchPaths.{IsParsed};
 ghost use Rattle.macho_args.specs.Store.{Store, KeepsOutside};
-ghost use Rattle.macho_args.specs.Words.{texts_of};
 ghost use Rattle.macho_model.specs.Links.{carried_of};
 ghost use Rattle.macho_model.specs.Faults.{bad_name};
 ghost use Rattle.macho_model.specs.Placement.{id_of};
@@ -20,7 +19,7 @@ ghost use Rattle.macho_devices.specs.Devices.{OnlyReads, OnlyWrites};
 ghost use Rattle.macho_devices.specs.Faults.{CountsOn};
 ghost use Rattle.macho_report.specs.Causes.{Failures, NoneFailed, failures, status_of, reading, IsClear, JobFails, WordsFail};
 ghost use Rattle.macho_report.specs.Names.{names_of};
-ghost use Rattle.wild_macho.specs.Runs.{outside, devices, error_sink, IsRun, RunsBy, KeepsPaths, AskForNoLines, SayJob, IsOwed};
+ghost use Rattle.wild_macho.specs.Runs.{outside, devices, error_sink, IsRun, RunsBy, AskForNoLines, SayJob, IsOwed};
 ghost use Rattle.wild_macho.specs.steps.Made.{IsBadName, IsMade, IsLinkFault, ends, EndFails, Prints, Finishes, Answers};
 
 use macho_args::MachOArgs;
@@ -56,7 +55,7 @@ pub fn run<F: Files, O: Sink, E: Sink>(
     requires { length words.now < 2 ^ 32 - 1 }
 
     // The words are refused, or the run is that of the settings that they say.
-    ensures promise { IsRun (texts_of words.now)
+    ensures promise { IsRun (map string_bytes words.now)
         (devices (outside (F.directories files.old) (F.canonical_paths files.old) (F.holds files.old)) (F.faults files.old)
         (F.write_faults files.old) (O.faults out.old) (O.taken out.old))
         (devices (outside (F.directories files.new) (F.canonical_paths files.new) (F.holds files.new)) (F.faults files.new)
@@ -65,26 +64,27 @@ pub fn run<F: Files, O: Sink, E: Sink>(
 
     // Directories and canonical paths stay, no count falls. Nothing is printed without an image, where no lines are asked for, and
     // to `err` without a fault.
-    ensures paths { KeepsPaths F.directories F.canonical_paths files.old files.new }
+    ensures directories { F.directories files.new ≡ F.directories files.old }
+    ensures canonical_paths { F.canonical_paths files.new ≡ F.canonical_paths files.old }
     ensures reads { CountsOn (F.faults files.old) (F.faults files.new) }
     ensures writes { CountsOn (F.write_faults files.old) (F.write_faults files.new) }
     ensures prints { CountsOn (O.faults out.old) (O.faults out.new) }
     ensures lines { CountsOn (E.faults err.old) (E.faults err.new) }
     ensures unprinted { result.image ≡ None → out.new ≡ out.old }
-    ensures silent { AskForNoLines (texts_of words.now)
+    ensures silent { AskForNoLines (map string_bytes words.now)
         (outside (F.directories files.old) (F.canonical_paths files.old) (F.holds files.old)) → out.new ≡ out.old }
     ensures quiet { result.fault ≡ None → err.new ≡ err.old }
 
     // Where a job has nothing against it and no device fails, it is done; or memory ran out.
     ensures complete { (m : Store) → F.holds files.old ≡ Some m
-        → SayJob (texts_of words.now) (outside (F.directories files.old) (F.canonical_paths files.old) (Some m)) IsClear
+        → SayJob (map string_bytes words.now) (outside (F.directories files.old) (F.canonical_paths files.old) (Some m)) IsClear
         → NoneFailed (failures (F.faults files.old) (F.write_faults files.old) (O.faults out.old))
         (failures (F.faults files.new) (F.write_faults files.new) (O.faults out.new))
         → (result.status ≡ 0) ⊎ (result.status ≡ 5) }
 
     // The same holds of a job whose link is owed an image.
     ensures answered { (m : Store) → F.holds files.old ≡ Some m
-        → SayJob (texts_of words.now) (outside (F.directories files.old) (F.canonical_paths files.old) (Some m)) IsOwed
+        → SayJob (map string_bytes words.now) (outside (F.directories files.old) (F.canonical_paths files.old) (Some m)) IsOwed
         → NoneFailed (failures (F.faults files.old) (F.write_faults files.old) (O.faults out.old))
         (failures (F.faults files.new) (F.write_faults files.new) (O.faults out.new))
         → (result.status ≡ 0) ⊎ (result.status ≡ 5) }
@@ -101,9 +101,9 @@ pub fn run<F: Files, O: Sink, E: Sink>(
 // The arguments that the words say.
 fn read_words<F: Files>(alloc: Global, words: &[String], files: &mut F) -> Result<MachOArgs, Fault>
     requires { length words.now < 2 ^ 32 - 1 }
-    ensures said { IfOk result (λ args. IsParsed (F.directories files.old) (F.canonical_paths files.old) (texts_of words.now)
+    ensures said { IfOk result (λ args. IsParsed (F.directories files.old) (F.canonical_paths files.old) (map string_bytes words.now)
         (settings_of args)) }
-    ensures why { IfErr result (WordsFail (texts_of words.now)) }
+    ensures why { IfErr result (WordsFail (map string_bytes words.now)) }
     ensures kept { KeepsOutside F.directories F.canonical_paths F.holds F.faults F.write_faults files.old files.new }
 {
     let mut args = MachOArgs::new(alloc)?;
@@ -127,7 +127,9 @@ fn run_args<F: Files, O: Sink, E: Sink>(
         (devices (outside (F.directories files.new) (F.canonical_paths files.new) (F.holds files.new)) (F.faults files.new)
         (F.write_faults files.new) (O.faults out.new) (O.taken out.new))
         (error_sink (E.taken err.old) (E.faults err.old)) (error_sink (E.taken err.new) (E.faults err.new)) result }
-    ensures paths { KeepsPaths F.directories F.canonical_paths files.old files.new }
+    ensures status { result.status ≡ status_of result.fault }
+    ensures directories { F.directories files.new ≡ F.directories files.old }
+    ensures canonical_paths { F.canonical_paths files.new ≡ F.canonical_paths files.old }
     ensures reads { CountsOn (F.faults files.old) (F.faults files.new) }
     ensures writes { CountsOn (F.write_faults files.old) (F.write_faults files.new) }
     ensures prints { CountsOn (O.faults out.old) (O.faults out.new) }
@@ -159,7 +161,8 @@ fn link_args<F: Files, O: Sink>(
         (devices (outside (F.directories files.new) (F.canonical_paths files.new) (F.holds files.new)) (F.faults files.new)
         (F.write_faults files.new) (O.faults out.new) (O.taken out.new)) result }
     ensures named { bad_name (link_of (settings_of args.now)) ≡ true → IsBadName result.fault }
-    ensures paths { KeepsPaths F.directories F.canonical_paths files.old files.new }
+    ensures directories { F.directories files.new ≡ F.directories files.old }
+    ensures canonical_paths { F.canonical_paths files.new ≡ F.canonical_paths files.old }
     ensures reads { CountsOn (F.faults files.old) (F.faults files.new) }
     ensures writes { CountsOn (F.write_faults files.old) (F.write_faults files.new) }
     ensures prints { CountsOn (O.faults out.old) (O.faults out.new) }

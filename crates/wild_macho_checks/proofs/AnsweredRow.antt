@@ -1,23 +1,24 @@
 -- A job that is answered, written out: the path of one object whose first function calls its second, and a store that holds
 -- its bytes. Directories and canonical paths may be told or not: no word asks for them.
-use Rattle.std.proofs.Common.{◌≡◌, ℕ, List, [], ◌∷◌, codes, Option, None, Some, Ok, refl, sym, subst, ◌∙◌}
+use Rattle.std.proofs.Common.{◌≡◌, ℕ, List, [], ◌∷◌, codes, Option, None, Some, Ok, refl, ap, sym, subst, ◌∙◌}
 use Rattle.std.specs.Prelude.{unwrap_or}
+use Rattle.std.specs.List.{AllZip}
 use Rattle.std.proofs.lemmas.List.Elements.{All-nil}
 use Rattle.std.specs.FinMap as maps
 use Rattle.std.specs.Ordering.{nat_cmp}
 use Rattle.std.specs.Cmp.Lexicographic.{slice_cmp}
 use Rattle.macho_args.specs.Settings.{Settings, file, fresh}
-use Rattle.macho_args.specs.Store.{Store, Directories, CanonicalPaths}
-use Rattle.macho_args.specs.SearchPaths.{IsRootFor, FollowsRoot, standard_frameworks}
+use Rattle.macho_args.specs.Store.{Store, Directories, CanonicalPaths, IsToldCanonical}
+use Rattle.macho_args.specs.SearchPaths.{IsMoved, standard_frameworks}
 use Rattle.macho_args.specs.Options.{option_named, joined_option}
-use Rattle.macho_args.specs.Words.{args_of, read_all, read_from, read_word}
+use Rattle.macho_args.specs.Words.{args_of, read_from}
 use Rattle.macho_model.specs.Links.{Object}
 use Rattle.macho_devices.proofs.Lookups.{get_by_path}
 use Rattle.wild_macho.specs.Head.TheVariants as head
 use Rattle.wild_macho.specs.Heads.{head_of}
 use Rattle.wild_macho.specs.Search.{FileIs}
-use Rattle.wild_macho.specs.Job.{Job, IsJob, uuid_of}
-use Rattle.wild_macho_checks.proofs.RowsAnswered.{calls, calls_is_object, begins_as_file, is_object_type, calling, calling_is_owed}
+use Rattle.wild_macho.specs.Job.{Job, IsJob, linked}
+use Rattle.wild_macho_checks.proofs.RowsAnswered.{calls, calls_is_object, begins_as_file, is_object_type, calling_is_owed}
 use Rattle.wild_macho.specs.Runs.{outside, Says, SayJob, IsOwed}
 
 abbrev path : List ℕ
@@ -35,58 +36,68 @@ begins = rw (begins_as_file, is_object_type) refl
 
 -- what the word says, and the settings that follow
 abbrev word_says : Settings
-word_says = record fresh { inputs = file 0 path ∷ [] }
+word_says = record fresh { inputs = record { kind = file; word = 0; name = path } ∷ [] }
 
 abbrev asked : Settings
 asked = record word_says { framework_search_path = standard_frameworks (codes "/") }
 
-read_so : (root_of : List ℕ → List ℕ) → args_of root_of (path ∷ []) ≡ Ok word_says
-unfolding read_all read_from read_word option_named joined_option
-read_so root_of = refl
+read_so : (canonical : List ℕ → Option (List ℕ)) → args_of canonical (path ∷ []) ≡ Ok word_says
+unfolding args_of read_from option_named joined_option
+read_so canonical = refl
 
 -- canonical paths that may be told
-root_by : Option CanonicalPaths → List ℕ → List ℕ
-root_by None p = p
-root_by (Some known) p = unwrap_or (maps.get known p) p
+canonical_by : Option CanonicalPaths → List ℕ → Option (List ℕ)
+canonical_by None p = None
+canonical_by (Some known) p = maps.get known p
 
-is_root : (known : Option CanonicalPaths) (p : List ℕ) → IsRootFor known p (root_by known p)
-unfolding root_by
-is_root None p = record { canonical = None; told = tt; is = refl }
-is_root (Some known) p = record { canonical = maps.get known p; told = refl; is = refl }
+is_told : (known : Option CanonicalPaths) (p : List ℕ) → IsToldCanonical known p (canonical_by known p)
+unfolding canonical_by
+is_told None p = tt
+is_told (Some known) p = refl
 
 -- the word says this
 says_asked : (d : Option Directories) (c : Option CanonicalPaths) → Says (path ∷ []) (outside d c (Some held)) asked
-says_asked d c = record { root_of = root_by c; roots = is_root c; said = word_says; read = read_so (root_by c); follows = refl }
+says_asked d c = record {
+  canonical = canonical_by c;
+  told = is_told c;
+  said = word_says;
+  read = read_so (canonical_by c);
+  root = codes "/";
+  is_root = refl;
+  frameworks = [];
+  each = tt;
+  is = refl;
+}
+
+no_frameworks : (d : Option Directories) (root : List ℕ) (frameworks : List (List ℕ)) → AllZip (IsMoved d root) [] frameworks
+    → frameworks ≡ []
+no_frameworks d root [] each = refl
+no_frameworks d root (x ∷ xs) each = absurd each
 
 -- and nothing else
 says_one : (d : Option Directories) (c : Option CanonicalPaths) (s : Settings) → Says (path ∷ []) (outside d c (Some held)) s → s ≡ asked
 says_one d c s says =
-    let both : Ok says.said ≡ Ok word_says = sym says.read ∙ read_so says.root_of in
+    let both : Ok says.said ≡ Ok word_says = sym says.read ∙ read_so says.canonical in
     let same : says.said ≡ word_says = cc in
-    subst (λ (t : Settings). FollowsRoot d t.sysroot t s) same says.follows
+    let at : says.root ≡ codes "/" = says.is_root ∙ ap (λ (t : Settings). unwrap_or t.sysroot (codes "/")) same in
+    let moved = subst (λ (t : Settings). AllZip (IsMoved d says.root) t.framework_search_path says.frameworks) same says.each in
+    let none = no_frameworks d says.root says.frameworks moved in
+    says.is ∙ rw (same, at, none) refl
 
 abbrev job : Job
-job = record { link = calling; paths = path ∷ []; uuid = uuid_of asked calling.inputs; output = codes "a.out" }
+job = record { files = record { path = path; input = Object calls } ∷ []; lists = [] }
 
 is_job : IsJob (Some held) asked job
 is_job = record {
-  links = record {
-    files = record { path = path; input = Object calls } ∷ [];
-    are = (
-      record {
-        bytes = calls;
-        found = record { before = []; behind = []; split = refl; missing = All-nil (FileIs (Some held) None); held = is_held };
-        is = record { same = refl; head = begins; sound = calls_is_object };
-      },
-      tt,
-    );
-    lists = [];
-    listed = tt;
-    named = refl;
-    linked = refl;
-  };
-  uuid = refl;
-  output = refl;
+  files = (
+    record {
+      bytes = calls;
+      found = record { before = []; behind = []; split = refl; missing = All-nil (FileIs (Some held) None); held = is_held };
+      is = rw begins (refl, calls_is_object);
+    },
+    tt,
+  );
+  lists = tt;
 }
 
 -- THE job is answered wherever there is memory.
@@ -94,5 +105,10 @@ pub job_is_answered : (d : Option Directories) (c : Option CanonicalPaths) → S
 job_is_answered d c = record {
   said = asked;
   says = says_asked d c;
-  each = λ s says. (job, subst (λ (t : Settings). IsJob (Some held) t job) (sym (says_one d c s says)) is_job, calling_is_owed);
+  each = λ s says.
+      let same = sym (says_one d c s says) in (
+        job,
+        subst (λ (t : Settings). IsJob (Some held) t job) same is_job,
+        subst (λ (t : Settings). IsOwed (linked t job)) same calling_is_owed,
+      );
 }

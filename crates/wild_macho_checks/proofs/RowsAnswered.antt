@@ -15,7 +15,7 @@ use Rattle.macho_args.specs.Settings.{fresh}
 use Rattle.macho_model.specs.declared.placed.Counts.{Counts}
 use Rattle.macho_model.specs.Grammar.{IsObject}
 use Rattle.macho_model.specs.Commands.{header_of, commands_from, commands_of, commands_end}
-use Rattle.macho_model.specs.Objects.{segment_of, num_sections, section_place, section_at, section_bytes, symtab_of, num_symbols, symbol_place, symbol_at, strings_of, symbol_name, relocation_place, relocation_at}
+use Rattle.macho_model.specs.Objects.{num_sections, section_place, section_at, section_bytes, symtab_of, num_symbols, symbol_place, symbol_at, strings_of, symbol_name, relocation_place, relocation_at}
 use Rattle.macho_model.specs.ExportLists.{plain_entries, all_entries, entries_of}
 use Rattle.macho_model.specs.Links.{Link, Object, sections_of, carried_of, template_exponent, placed_exponent}
 use Rattle.macho_model.specs.Resolution.{SymbolId, Definition, Symbol, Library, ImageBase, DSO_HANDLE, first_or, entry_at, is_strong, is_weak, has_name, symbols_of, strong_of, weak_of, commons_of, greatest_of, libraries_with, definition_of, chosen_commons}
@@ -23,6 +23,7 @@ use Rattle.macho_model.specs.Needs.{initializer_sections, unwind_sections, uses_
 use Rattle.macho_model.specs.Targets.{target_of, target_of_relocation, slots_of, stubs_of}
 use Rattle.macho_model.specs.Fields.{fields_of}
 use Rattle.macho_model.specs.Rows.{is_supported}
+use Rattle.macho_model.specs.Signature.{uuid_written}
 use Rattle.macho_model.specs.Segments.{other_segments, segment_rank, segment_names_of, output_keys_of, output_count}
 use Rattle.macho_model.specs.WrittenSum.{content_sum, command_sum, unsigned_sum, written_sum_of}
 use Rattle.macho_model.specs.Consumed.{personality_targets, entries_of_link}
@@ -51,7 +52,7 @@ abbrev pub calling : Link
 calling = record (link_of fresh) { inputs = Object calls ∷ [] }
 
 pub calls_is_object : IsObject calls
-unfolding verdict header_of commands_from commands_of commands_end segment_of num_sections section_place section_at section_bytes symtab_of num_symbols symbol_place symbol_at strings_of symbol_name relocation_place relocation_at sections_of carried_of template_exponent placed_exponent symbols_of strong_of weak_of commons_of greatest_of libraries_with definition_of chosen_commons initializer_sections unwind_sections uses_of imports_of libraries_needed target_of target_of_relocation slots_of stubs_of fields_of is_supported plain_entries all_entries entries_of other_segments segment_rank segment_names_of output_keys_of output_count content_sum command_sum unsigned_sum written_sum_of le_at le_bytes row_bytes reading words8 words halves name16 entry text_object calls
+unfolding verdict header_of commands_from commands_of commands_end num_sections section_place section_at section_bytes symtab_of num_symbols symbol_place symbol_at strings_of symbol_name relocation_place relocation_at sections_of carried_of template_exponent placed_exponent symbols_of strong_of weak_of commons_of greatest_of libraries_with definition_of chosen_commons initializer_sections unwind_sections uses_of imports_of libraries_needed target_of target_of_relocation slots_of stubs_of fields_of is_supported plain_entries all_entries entries_of other_segments segment_rank segment_names_of output_keys_of output_count content_sum command_sum unsigned_sum written_sum_of le_at le_bytes row_bytes reading words8 words halves name16 entry text_object calls
 calls_is_object = is_object calls refl
 
 -- how its bytes begin, and what they say at 12: an object
@@ -112,11 +113,11 @@ exports_nothing l all none name _ (told.from_library reexported) = let no : fals
 
 -- the two symbols of the object
 symbols_are : symbols_of calling ≡ symbol 0 0 ∷ symbol 0 1 ∷ []
-unfolding header_of commands_from commands_of commands_end segment_of num_sections section_place section_at section_bytes symtab_of num_symbols symbol_place symbol_at strings_of symbol_name relocation_place relocation_at sections_of carried_of template_exponent placed_exponent symbols_of strong_of weak_of commons_of greatest_of libraries_with definition_of chosen_commons initializer_sections unwind_sections uses_of imports_of libraries_needed target_of target_of_relocation slots_of stubs_of fields_of is_supported plain_entries all_entries entries_of other_segments segment_rank segment_names_of output_keys_of output_count content_sum command_sum unsigned_sum written_sum_of le_at le_bytes row_bytes reading words8 words halves name16 entry text_object calls
+unfolding header_of commands_from commands_of commands_end num_sections section_place section_at section_bytes symtab_of num_symbols symbol_place symbol_at strings_of symbol_name relocation_place relocation_at sections_of carried_of template_exponent placed_exponent symbols_of strong_of weak_of commons_of greatest_of libraries_with definition_of chosen_commons initializer_sections unwind_sections uses_of imports_of libraries_needed target_of target_of_relocation slots_of stubs_of fields_of is_supported plain_entries all_entries entries_of other_segments segment_rank segment_names_of output_keys_of output_count content_sum command_sum unsigned_sum written_sum_of le_at le_bytes row_bytes reading words8 words halves name16 entry text_object calls
 symbols_are = refl
 
 hidden_are : IsHidden calling (symbol 0 0) × IsHidden calling (symbol 0 1)
-unfolding header_of commands_from commands_of commands_end segment_of num_sections section_place section_at section_bytes symtab_of num_symbols symbol_place symbol_at strings_of symbol_name relocation_place relocation_at sections_of carried_of template_exponent placed_exponent symbols_of strong_of weak_of commons_of greatest_of libraries_with definition_of chosen_commons initializer_sections unwind_sections uses_of imports_of libraries_needed target_of target_of_relocation slots_of stubs_of fields_of is_supported plain_entries all_entries entries_of other_segments segment_rank segment_names_of output_keys_of output_count content_sum command_sum unsigned_sum written_sum_of le_at le_bytes row_bytes reading words8 words halves name16 entry text_object calls
+unfolding header_of commands_from commands_of commands_end num_sections section_place section_at section_bytes symtab_of num_symbols symbol_place symbol_at strings_of symbol_name relocation_place relocation_at sections_of carried_of template_exponent placed_exponent symbols_of strong_of weak_of commons_of greatest_of libraries_with definition_of chosen_commons initializer_sections unwind_sections uses_of imports_of libraries_needed target_of target_of_relocation slots_of stubs_of fields_of is_supported plain_entries all_entries entries_of other_segments segment_rank segment_names_of output_keys_of output_count content_sum command_sum unsigned_sum written_sum_of le_at le_bytes row_bytes reading words8 words halves name16 entry text_object calls
 hidden_are = (refl, refl)
 
 all_hidden : All (IsHidden calling) (symbols_of calling)
@@ -144,7 +145,7 @@ are_sizes = record {
 
 -- each part of a valid link, by its test
 each_part : valid_verdict calling sizes ≡ verdict_but (λ q. false)
-unfolding valid_verdict header_of commands_from commands_of commands_end segment_of num_sections section_place section_at section_bytes symtab_of num_symbols symbol_place symbol_at strings_of symbol_name relocation_place relocation_at sections_of carried_of template_exponent placed_exponent symbols_of strong_of weak_of commons_of greatest_of libraries_with definition_of chosen_commons initializer_sections unwind_sections uses_of imports_of libraries_needed target_of target_of_relocation slots_of stubs_of fields_of is_supported plain_entries all_entries entries_of other_segments segment_rank segment_names_of output_keys_of output_count content_sum command_sum unsigned_sum written_sum_of personality_targets entries_of_link le_at le_bytes row_bytes reading words8 words halves name16 entry text_object counts_with commands_size initializers_of import_entries_of own_entries entries_have_addends table_symbols calls
+unfolding valid_verdict header_of commands_from commands_of commands_end num_sections section_place section_at section_bytes symtab_of num_symbols symbol_place symbol_at strings_of symbol_name relocation_place relocation_at sections_of carried_of template_exponent placed_exponent symbols_of strong_of weak_of commons_of greatest_of libraries_with definition_of chosen_commons initializer_sections unwind_sections uses_of imports_of libraries_needed target_of target_of_relocation slots_of stubs_of fields_of is_supported plain_entries all_entries entries_of other_segments segment_rank segment_names_of output_keys_of output_count content_sum command_sum unsigned_sum written_sum_of personality_targets entries_of_link le_at le_bytes row_bytes reading words8 words halves name16 entry text_object counts_with commands_size uuid_written initializers_of import_entries_of own_entries entries_have_addends table_symbols calls
 each_part = refl
 
 -- THE link is owed an image.

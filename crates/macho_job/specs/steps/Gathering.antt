@@ -2,7 +2,7 @@
 use Rattle.std.specs.Prelude.{◌≡◌, ◌⊎◌, ℕ, List, [], ◌∷◌, ◌++◌, map, Option, None, All, IsUtf8}
 use Rattle.std.specs.List.{AllZip}
 use Rattle.macho_args.specs.Settings as args
-use Rattle.macho_args.specs.Settings.{Settings, word_of}
+use Rattle.macho_args.specs.Settings.{Settings}
 use Rattle.macho_args.specs.Store.{Store}
 use Rattle.macho_model.specs.Links.{Link, Input}
 use Rattle.macho_model.specs.LinkLaws.{with_input}
@@ -32,7 +32,7 @@ pub record TakesFile (told : Option Store) (s : Settings) (asked : args.Input) (
 -- bytes are an input, which is added
 pub record TakesBytesOf (bytes : List ℕ) (old new : Link) : Type 0 where
   pub input : Input
-  pub is : IsReadAs bytes input
+  pub is : IsReadAs (head_of bytes) bytes input
   pub added : new ≡ with_input old input
 
 -- bytes that are no text break the first rule of stubs, at line 1
@@ -60,7 +60,7 @@ pub record EndsWith (paths : List (List ℕ)) (path : List ℕ) : Type 0 where
 pub record InputRefused (told : Option Store) (s : Settings) (paths : List (List ℕ)) (asked : args.Input) (refusal : LinkError) : Type 0 where
   pub path : List ℕ
   pub bytes : List ℕ
-  pub found : IsFirstHeld told (candidates_of s asked) path bytes
+  pub found : IsFirstHeld told (candidates_of s asked.kind asked.name) path bytes
   pub last : EndsWith paths path
   pub refused : BytesRefused (head_of bytes) bytes refusal
 
@@ -68,15 +68,15 @@ pub record InputRefused (told : Option Store) (s : Settings) (paths : List (List
 pub record IsUnknown (told : Option Store) (s : Settings) (asked : args.Input) (head : Head) : Type 0 where
   pub path : List ℕ
   pub bytes : List ℕ
-  pub found : IsFirstHeld told (candidates_of s asked) path bytes
+  pub found : IsFirstHeld told (candidates_of s asked.kind asked.name) path bytes
   pub is : head_of bytes ≡ head
 
 -- why an input that was asked for isn't added
 abbrev pub InputFails : Option Store → Settings → List (List ℕ) → args.Input → ℕ → ℕ → Fault → Type 0
-InputFails told s paths asked old new (MissingFile word) = (word ≡ word_of asked) × All (FileIs told None) (candidates_of s asked)
-InputFails told s paths asked old new (UnknownKind word kind) = (word ≡ word_of asked) × IsUnknown told s asked (head.Unknown kind)
-InputFails told s paths asked old new (InputFault word refusal) = (word ≡ word_of asked) × InputRefused told s paths asked refusal
-InputFails told s paths asked old new (Read word) = (word ≡ word_of asked) × CountRose old new
+InputFails told s paths asked old new (MissingFile word) = (word ≡ asked.word) × All (FileIs told None) (candidates_of s asked.kind asked.name)
+InputFails told s paths asked old new (UnknownKind word kind) = (word ≡ asked.word) × IsUnknown told s asked (head.Unknown kind)
+InputFails told s paths asked old new (InputFault word refusal) = (word ≡ asked.word) × InputRefused told s paths asked refusal
+InputFails told s paths asked old new (Read word) = (word ≡ asked.word) × CountRose old new
 InputFails told s paths asked old new OutOfMemory = Unit {0}
 InputFails told s paths asked old new fault = ⊥
 

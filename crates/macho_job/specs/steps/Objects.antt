@@ -1,7 +1,14 @@
 -- The bytes of a made object as they are written: of one whose function calls the next one, and of the last one.
 use Rattle.std.specs.Prelude.{ℕ, ◌+◌, List, [], ◌∷◌, ◌++◌, codes, length, replicate}
 use Rattle.std.specs.List.{flat_map}
-use Rattle.macho_job.specs.Generator.{words, longs}
+use Rattle.macho_bytes.specs.Numbers.{le_bytes}
+
+-- numbers of four and of eight bytes, one behind the other
+abbrev pub words : List ℕ → List ℕ
+words numbers = flat_map (le_bytes 4) numbers
+
+abbrev pub longs : List ℕ → List ℕ
+longs numbers = flat_map (le_bytes 8) numbers
 
 -- texts, one behind the other
 abbrev pub joined_all : List (List ℕ) → List ℕ

@@ -5,6 +5,7 @@ use Rattle.macho_args.specs.Store.{Store}
 use Rattle.macho_model.specs.Links.{Link}
 use Rattle.macho_linked.specs.Linked.{IsImageOf}
 use Rattle.macho_linked.specs.declared.image.LinkedImage.{LinkedImage}
+use Rattle.macho_devices.specs.Devices.{WritesFile, TornWrite, TakesBytes, TakesPrefix}
 use Rattle.macho_devices.specs.Faults.{CountRose}
 use Rattle.macho_faults.specs.declared.fault.LinkError.TheVariants.{BadName}
 use Rattle.macho_report.specs.Fault.{Fault}
@@ -14,7 +15,7 @@ use Rattle.macho_report.specs.Job.{Links, uuid_of}
 use Rattle.macho_report.specs.Lines.{run_lines}
 use Rattle.wild_macho.specs.declared.passes.Made.{Made}
 use Rattle.wild_macho.specs.declared.passes.Ran.{Ran}
-use Rattle.wild_macho.specs.Runs.{Devices, LeavesImage, LeavesLines, LeavesNothing, HasImage}
+use Rattle.wild_macho.specs.Runs.{Devices, LeavesNothing, HasImage}
 
 -- the files are as they were, and nothing is printed
 abbrev pub LeavesAll : Devices → Devices → Type 0
@@ -43,10 +44,23 @@ pub record Ends : Type 0 where
 abbrev pub ends : (old new : Option Store) (printed later : Option (List ℕ)) → Ends
 ends old new printed later = record { old_store = old; new_store = new; old_printed = printed; new_printed = later }
 
+-- what the output path holds beside an image, by the fault that came, and what is printed
+abbrev pub LeavesOutput : Option Fault → Option Store → Option Store → List ℕ → List ℕ → Type 0
+LeavesOutput None old new output bytes = WritesFile old new output bytes
+LeavesOutput (Some Write) old new output bytes = TornWrite old new output bytes
+LeavesOutput (Some Print) old new output bytes = WritesFile old new output bytes
+LeavesOutput (Some fault) old new output bytes = ⊥
+
+abbrev pub LeavesLines : Option Fault → Option (List ℕ) → Option (List ℕ) → List ℕ → Type 0
+LeavesLines None old new text = TakesBytes old new text
+LeavesLines (Some Write) old new text = new ≡ old
+LeavesLines (Some Print) old new text = TakesPrefix old new text
+LeavesLines (Some fault) old new text = ⊥
+
 -- an image that is there is this one, written and printed as the fault tells
 pub record EndsWith (s : Settings) (paths : List (List ℕ)) (made : Made) (e : Ends) (fault : Option Fault) (image : LinkedImage) : Type 0 where
   pub same : image ≡ made.image
-  pub left : LeavesImage fault e.old_store e.new_store s.output image.bytes.items
+  pub left : LeavesOutput fault e.old_store e.new_store s.output image.bytes.items
   pub lines : LeavesLines fault e.old_printed e.new_printed (run_lines s made.linker paths image)
 
 -- without an image memory ran out, and all is as it was

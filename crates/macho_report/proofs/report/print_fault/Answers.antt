@@ -2,5 +2,5 @@
 use Rattle.macho_report.proofs.Prints.{told-by}
 use Rattle.macho_report.proofs.report.print_fault.Goals as goal
 
-pub returns : goal.returns
-returns g c = told-by _ _ _ _ _ c.print_line.result c.print_line.ensures
+pub returns-clause-told : goal.returns-clause-told
+returns-clause-told g c = told-by _ _ _ _ _ c.print_line.result c.print_line.ensures
