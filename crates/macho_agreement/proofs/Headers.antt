@@ -9,7 +9,7 @@ use Rattle.std.specs.Str.{bytes_eq}
 use Rattle.std.proofs.lemmas.List.Elements.{All-map, All-append, filter_passes, All-nil, All-cons}
 use Rattle.std.proofs.lemmas.Slice.Eq.{bytes_eq-Decides}
 use Rattle.macho_bytes.specs.Texts.{name_of}
-use Rattle.macho_records.specs.Segments.{bytes_of, text_of}
+use Rattle.macho_records.specs.Segments.{text_of}
 use Rattle.macho_records.specs.declared.header.SectionHeader.{SectionHeader}
 use Rattle.macho_model.specs.declared.placed.Counts.{Counts}
 use Rattle.macho_model.specs.declared.placed.PlacedSegment.{PlacedSegment}
@@ -155,7 +155,7 @@ headers-are l counts p order follow are =
     ∙ ap (flat_map (headers_for l counts p)) (sym order.segments) in
     let whole : All (IsOfClass segment_of_header (headers_for l counts p)) names =
     All-map (IsOfClass segment_of_header (headers_for l counts p)) name_told p.segments
-    (λ k d lt. header_class l counts p (name_told (get_or p.segments k d)) (name_of-name (bytes_of (get_or p.segments k d).name))) in
+    (λ k d lt. header_class l counts p (name_told (get_or p.segments k d)) (name_of-name (get_or p.segments k d).name.0)) in
     sym (flat_map-map (λ n. filter (λ h. bytes_eq (segment_of_header h) n) p.output_sections) name_told p.segments)
     ∙ ap (λ (hs : List SectionHeader). flat_map (λ n. filter (λ h. bytes_eq (segment_of_header h) n) hs) names) all
     ∙ split_again segment_of_header (headers_for l counts p) names (all_differ l p.segments follow) whole ∙ sym all

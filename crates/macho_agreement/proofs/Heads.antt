@@ -8,8 +8,6 @@ use Rattle.std.specs.List.{flat_map}
 use Rattle.std.proofs.lemmas.List.{length-append}
 use Rattle.std.proofs.lemmas.List.Concat.{flat_map-cons}
 use Rattle.std.proofs.lemmas.List.Sums.{sum_by-append, sum_by-cons}
-use Rattle.macho_bytes.specs.Layouts.{size_of}
-use Rattle.macho_structs.specs.Layouts.{dylib_command, rpath_command}
 use Rattle.macho_records.specs.declared.header.MachHeader.{MachHeader}
 use Rattle.macho_records.specs.declared.constants.TheConstants.{LC_ID_DYLIB}
 use Rattle.macho_model.specs.declared.placed.Counts.{Counts}
@@ -20,9 +18,11 @@ use Rattle.macho_model.specs.Needs.{libraries_needed}
 use Rattle.macho_model.specs.Segments.{list_if}
 use Rattle.macho_model.specs.Placement.{Placed, head_size}
 use Rattle.macho_model.specs.HeadCommands.{HeadCommand, CommandsSay, commands_for, header_for, segment_for, entry_point_for, versions_for}
-use Rattle.macho_model.specs.Head.{headers_in, path_command_size}
-use Rattle.macho_model.specs.HeadCommands.{dylinker_for, dylib_for, needed_dylib_for, rpath_for, size_said}
-use Rattle.macho_promise.specs.Sizes.{commands_size, own_commands_size, versions_size}
+use Rattle.macho_model.specs.Head.{headers_in}
+use Rattle.macho_model.specs.HeadCommands.{path_command_size}
+use Rattle.macho_model.specs.HeadCommands.{dylinker_for, dylib_for, needed_dylib_for, rpath_for, size_said, own_commands_size, versions_size}
+use Rattle.macho_commands.proofs.LinkCommands.{length-link_commands}
+use Rattle.macho_promise.specs.Sizes.{commands_size}
 
 -- the commands of the segments
 segments_sized : (p : Placed) (segments : List PlacedSegment)
@@ -61,8 +61,9 @@ commands_sized l counts p uuid trie = simp sum_by-append (omega (
   segments_sized p p.segments,
   own_sized l p l.executable refl,
   versions_sized l.versions,
-  sized_by needed_dylib_for (path_command_size (size_of dylib_command)) (λ x. refl) (libraries_needed l),
-  sized_by rpath_for (path_command_size (size_of rpath_command)) (λ x. refl) l.rpaths,
+  sized_by needed_dylib_for (path_command_size 24) (λ x. refl) (libraries_needed l),
+  sized_by rpath_for (path_command_size 12) (λ x. refl) l.rpaths,
+  length-link_commands l [] 0,
 ))
 
 -- THE end of the commands

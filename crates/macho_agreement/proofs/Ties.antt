@@ -3,7 +3,7 @@
 -- Its readings are those of the link's commands. Segments are then the placement's; section headers the output sections,
 -- segment by segment; the
 -- commands end where the head does; tables have the room that was counted for them, but for the trie, which may be shorter.
-use Rattle.std.proofs.Common.{◌≡◌, ℕ, ◌-◌, ◌*◌, List, [], ◌∷◌, map, suc, refl, ap, ◌∙◌, arith, All}
+use Rattle.std.proofs.Common.{◌≡◌, ℕ, ◌-◌, ◌*◌, List, [], ◌∷◌, map, suc, refl, ap, ◌∙◌, arith, All, ◌+◌}
 use Rattle.macho_bytes.specs.Layouts.{size_of}
 use Rattle.macho_bytes.specs.Texts.{name_of}
 use Rattle.macho_records.specs.Layouts.{symtab_entry}
@@ -11,7 +11,7 @@ use Rattle.macho_model.specs.declared.placed.Counts.{Counts}
 use Rattle.macho_model.specs.declared.placed.Range64.{Range64}
 use Rattle.macho_model.specs.Links.{Link}
 use Rattle.macho_model.specs.Placement.{Placed, IsPlaced}
-use Rattle.macho_model.specs.Order.{HasRoom as RoomOf, HaveRoom}
+use Rattle.macho_model.specs.Order.{HaveRoom}
 use Rattle.macho_model.specs.Images.{Table}
 use Rattle.macho_model.specs.Agreement.{table_of_range, TablesAgree}
 use Rattle.macho_commands.specs.Laws.{HeadReads}
@@ -26,7 +26,7 @@ use Rattle.macho_agreement.proofs.Room.{file_parts_end, text_begins, text_holds_
 use Rattle.macho_agreement.proofs.Entry.{file_base, entry_agrees}
 
 -- a table that has so many bytes is the range with that room
-ranged : (r : Range64) (size : ℕ) → RoomOf r size → record { at = r.start; size = size } ≡ table_of_range r
+ranged : (r : Range64) (size : ℕ) → r.end ≡ r.start + size → record { at = r.start; size = size } ≡ table_of_range r
 ranged r size room =
     let long : size ≡ r.end - r.start = omega (arith, room) in
     ap (λ (n : ℕ). record { at = r.start; size = n }) long

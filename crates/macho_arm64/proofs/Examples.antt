@@ -49,7 +49,11 @@ difference_with_addend = refl
 
 -- adrp x16, 4 pages; ldr x16, [x16, 0x10]; br x16
 stub : GoesThrough 0x100004000 0x100008010 0x90000030 0xf9400a10 0xd61f0200
-stub = record { pages = (refl, refl); reaches = refl; load = (refl, refl, refl); offset = refl; leaves = refl }
+stub = record {
+  pages = record { reaches = refl; kept = refl };
+  loads = record { load = refl; reaches = refl; kept = refl };
+  leaves = refl;
+}
 
 -- ldr xzr, [x0] can't be made an ADD; a 64-bit load of an address that ends in 4 has no immediate
 zero_register : is_relaxable 0xf940001f ≡ false

@@ -6,7 +6,7 @@ use Rattle.std.proofs.Common.{◌≡◌, ℕ, ◌+◌, ◌%◌, ◌^◌, ◌<◌
 use Rattle.std.proofs.lemmas.Bool.Decides.{nat_tests}
 use Rattle.macho_bytes.specs.Numbers.{bits, page, low, PAGE}
 use Rattle.macho_model.specs.Words.{is_add, is_ldr, is_load_store, scale_of}
-use Rattle.macho_model.specs.Rows.{takes_offset}
+use Rattle.macho_model.specs.Supported.{takes_offset}
 use Rattle.macho_model.specs.Meaning.{Same, address}
 use Rattle.macho_model.specs.Values.{less, fits_signed, branch_reaches, page_reaches, offset_fits}
 use Rattle.macho_arm64.specs.declared.kinds.FieldSize.TheVariants.{Bytes, Adr, JumpCall, Low12}

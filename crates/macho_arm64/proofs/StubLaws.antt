@@ -9,4 +9,8 @@ use Rattle.macho_model.specs.Segments.{SEGMENT_PAGE}
 pub goes_through : (place slot adrp ldr br s : ℕ) → GoesThrough place slot adrp ldr br → s % SEGMENT_PAGE ≡ 0
     → GoesThrough (place + s) (slot + s) adrp ldr br
 goes_through place slot adrp ldr br s g whole =
-    record { pages = g.pages; reaches = omega (arith, g.reaches); load = g.load; offset = omega (arith, g.offset); leaves = g.leaves }
+    record {
+      pages = record { reaches = omega (arith, g.pages.reaches); kept = g.pages.kept };
+      loads = record { load = g.loads.load; reaches = omega (arith, g.loads.reaches); kept = g.loads.kept };
+      leaves = g.leaves;
+    }

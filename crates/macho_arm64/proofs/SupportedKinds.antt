@@ -19,8 +19,10 @@ use Rattle.macho_model.specs.Needs.{relocation_in}
 use Rattle.macho_model.specs.Targets.{target_of_relocation, is_defined}
 use Rattle.macho_model.specs.Fields.{content_of, has_subtrahend}
 use Rattle.macho_model.specs.Words.{is_adrp, is_branch, is_ldr}
-use Rattle.macho_model.specs.Rows.{has_form, begins_pair, is_none, difference_fits, addend_fits, pointer_fits, may_be_called}
-use Rattle.macho_model.specs.Rows.{defined_or_import, takes_offset, load_fits, is_supported}
+use Rattle.macho_model.specs.Rows.{has_form, begins_pair, is_none, difference_fits, pointer_fits}
+use Rattle.macho_model.specs.Supported.{addend_fits, may_be_called}
+use Rattle.macho_model.specs.Rows.{defined_or_import, is_supported}
+use Rattle.macho_model.specs.Supported.{takes_offset, load_fits}
 use Rattle.macho_arm64.specs.declared.kinds.RelocationKindInfo.{RelocationKindInfo}
 use Rattle.macho_arm64.specs.Kinds.{kind_among, kind_at, info_of}
 use Rattle.macho_arm64.specs.Fields.{fits_word}

@@ -41,24 +41,25 @@ groups_of (suc others) n = if nat_lt n 128 then n ∷ [] else (128 + n % 128) �
 unfoldable pub uleb_of : ℕ → List ℕ
 uleb_of n = groups_of (MOST_GROUPS - 1) n
 
--- how many groups that go on a list begins with: a byte below 128 is a last group
+-- the number whose groups stand at a place, up to the first byte below 128, and the place after them; None where no such byte stands within
+-- ten bytes and within the list, or the number passes 64 bits
+unfoldable pub uleb_at : List ℕ → ℕ → Option (ℕ × ℕ)
+uleb_at bytes at =
+    let others = position_or_len (λ b. nat_lt b 128) (drop at bytes) in
+    let text = take (others + 1) (drop at bytes) in
+    if nat_lt others MOST_GROUPS && nat_lt others (length (drop at bytes)) && nat_lt (uleb_value text) (2 ^ 64)
+    then Some (uleb_value text, at + length text) else None
+
+-- its parts, for the code that reads it and for proofs: how many groups that go on a list begins with, the groups up to the first last
+-- one, and whether this one stands within ten bytes and within the list
 abbrev pub groups_before_last : List ℕ → ℕ
 groups_before_last bytes = position_or_len (λ b. nat_lt b 128) bytes
 
--- the groups that a list begins with, up to the first last one
 abbrev pub first_groups : List ℕ → List ℕ
 first_groups bytes = take (groups_before_last bytes + 1) bytes
 
--- a last group stands within ten bytes and within the list
 abbrev pub has_last_group : List ℕ → Bool
 has_last_group bytes = nat_lt (groups_before_last bytes) MOST_GROUPS && nat_lt (groups_before_last bytes) (length bytes)
-
--- the number whose groups stand at a place, and the place after them; None where no last group stands within ten
--- bytes and within the list, or the number passes 64 bits
-unfoldable pub uleb_at : List ℕ → ℕ → Option (ℕ × ℕ)
-uleb_at bytes at =
-    let text = first_groups (drop at bytes) in
-    if has_last_group (drop at bytes) && nat_lt (uleb_value text) (2 ^ 64) then Some (uleb_value text, at + length text) else None
 
 -- The form of a number is the shortest, of one to ten bytes, and it is read wherever it stands.
 pub record UlebReadsBack (n : ℕ) : Type 0 where

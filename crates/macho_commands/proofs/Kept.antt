@@ -52,12 +52,12 @@ pub head_kept : HeadKeepsRules
 head_kept l counts uuid b p says order room = record {
   l1 = head-fits l counts uuid b p says (omega (arith, ends-said l counts uuid b p says, long));
   l2 = (le-leb (commands_end b) (length b) long, each-fits l counts uuid b p says);
-  l3 = each_tested b p first protected are (λ k d lt. protected_for p (get_or p.segments k d));
-  l4 = each_tested b p first (inside b) are (λ k d lt. and-true _ _ (le-leb _ _ (room.file k d lt))
+  l3 = each_tested b p protected are (λ k d lt. protected_for p (get_or p.segments k d));
+  l4 = each_tested b p (inside b) are (λ k d lt. and-true _ _ (le-leb _ _ (room.file k d lt))
       (le-leb _ _ (order.paged k d lt).file_size));
-  l5 = each_tested b p first paged are (λ k d lt. paged_for p (get_or p.segments k d) (order.paged k d lt));
+  l5 = each_tested b p paged are (λ k d lt. paged_for p (get_or p.segments k d) (order.paged k d lt));
   l6 = (
-    each_tested b p first ends are (λ k d lt. le-leb _ _ (room.memory k d lt)),
+    each_tested b p ends are (λ k d lt. le-leb _ _ (room.memory k d lt)),
     neighbours_follow l b p first are order.follow,
   );
   l7 = (

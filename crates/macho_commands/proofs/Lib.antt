@@ -14,3 +14,4 @@ pub mod Kept
 pub mod HeadTexts
 pub mod HeadBytes
 pub mod Rows
+pub mod LinkCommands

@@ -12,7 +12,7 @@ use Rattle.macho_structs.specs.declared.commands.DylinkerCommand.{DylinkerComman
 use Rattle.macho_structs.specs.declared.commands.DylibCommand.{DylibCommand}
 use Rattle.macho_structs.specs.declared.commands.RpathCommand.{RpathCommand}
 use Rattle.macho_records.specs.declared.constants.TheConstants.{LC_ID_DYLIB, LC_LOAD_DYLIB, LC_LOAD_DYLINKER, LC_RPATH}
-use Rattle.macho_model.specs.Head.{DYLINKER, path_command_size, path_filled}
+use Rattle.macho_model.specs.HeadCommands.{DYLINKER, path_command_size, path_filled}
 use Rattle.macho_model.specs.HeadCommands.{HeadCommand, dylinker_for, dylib_for, rpath_for}
 use Rattle.macho_commands.specs.Texts.{text_said}
 use Rattle.macho_commands.specs.Reading.{IsReadable}

@@ -1,29 +1,23 @@
 -- The loader's rules on segments, of a file whose segments are those of a placement.
 --
--- A test of a segment's command is a test of its record, and the records are those of the placed segments, by number: so
--- it is enough to test these. Neighbours follow each other, so none begins below the end of the one before it. Ranks of
--- names rise from neighbour to neighbour, so from each segment to every later one: two segments of one name would have
--- one rank, so `__TEXT` stands once where it stands.
+-- The records are those of the placed segments, by number: so it is enough to test these. Neighbours follow each other, so none
+-- begins below the end of the one before it. Ranks of names rise from neighbour to neighbour, so from each segment to every later
+-- one: two segments of one name would have one rank, so `__TEXT` stands once where it stands.
 use Rattle.std.proofs.Common.{◌≡◌, ℕ, zero, suc, ◌+◌, ◌<◌, Bool, true, false, List, [], ◌∷◌, map, length, get_or, refl, sym, ap, subst}
 use Rattle.std.proofs.Common.{◌∙◌, arith, All}
 use Rattle.std.specs.Prelude.{filter, Contains}
 use Rattle.std.proofs.lemmas.Bool.{le-leb}
 use Rattle.std.proofs.lemmas.List.{get_or-map, length-map, get_or_default}
-use Rattle.std.proofs.lemmas.List.Elements.{All-cons, All-nil, All-filter, filter_passes}
+use Rattle.std.proofs.lemmas.List.Elements.{All-cons, All-nil, All-map, All-same, All-filter, filter_passes}
 use Rattle.std.proofs.lemmas.Slice.Eq.{bytes_eq-Decides}
-use Rattle.macho_bytes.specs.Layouts.{reading}
-use Rattle.macho_records.specs.Layouts.{segment_command}
 use Rattle.macho_records.specs.Segments.{text_of}
 use Rattle.macho_records.specs.declared.header.SegmentCommand.{SegmentCommand}
-use Rattle.macho_records.specs.declared.constants.TheConstants.{LC_SEGMENT_64}
 use Rattle.macho_model.specs.declared.placed.PlacedSegment.{PlacedSegment}
-use Rattle.macho_model.specs.Commands.{Command, numbered}
-use Rattle.macho_model.specs.Grammar.{EachCommand}
 use Rattle.macho_model.specs.Links.{Link}
 use Rattle.macho_model.specs.Segments.{TEXT, segment_rank}
 use Rattle.macho_model.specs.Placement.{Placed, is_segment_named, Follows}
 use Rattle.macho_model.specs.Images.{segments_of, is_named}
-use Rattle.macho_model.specs.LoadRules.{segment_in, begins_behind}
+use Rattle.macho_model.specs.LoadRules.{begins_behind}
 use Rattle.macho_model.specs.HeadCommands.{segment_for}
 use Rattle.macho_model.specs.Lists.{EachNext}
 use Rattle.macho_commands.proofs.Told.{segment_taken}
@@ -43,53 +37,35 @@ AreOf b p = segments_of b ≡ map (record_for p) p.segments
 pub are-of : (b : List ℕ) (p : Placed) → segments_of b ≡ map segment_taken (map (segment_for p) p.segments) → AreOf b p
 are-of b p told = told ∙ records-are p p.segments
 
--- segment number k: how its command's record is that of the placed one
-record-at : (b : List ℕ) (p : Placed) (k : ℕ) (c : Command) (s : PlacedSegment) → AreOf b p
-    → k < length (numbered LC_SEGMENT_64 b) → get_or (numbered LC_SEGMENT_64 b) k c ≡ c
-    → segment_in b c ≡ record_for p (get_or p.segments k s)
-unfolding segments_of
-record-at b p k c s are lt at_k =
-    let f : Command → SegmentCommand = λ d. reading segment_command b d.at in
-    let count : length (numbered LC_SEGMENT_64 b) ≡ length p.segments =
-    sym (length-map (numbered LC_SEGMENT_64 b) f) ∙ ap length are ∙ length-map p.segments (record_for p) in
-    sym (get_or-map f (numbered LC_SEGMENT_64 b) k c (f c) lt ∙ ap f at_k)
-    ∙ ap (λ (rs : List SegmentCommand). get_or rs k (f c)) are
-    ∙ get_or-map (record_for p) p.segments k s (f c) (omega (arith, count))
-
-length-segments : (b : List ℕ) (p : Placed) → AreOf b p → length (numbered LC_SEGMENT_64 b) ≡ length p.segments
-unfolding segments_of
-length-segments b p are =
-    let f : Command → SegmentCommand = λ d. reading segment_command b d.at in
-    sym (length-map (numbered LC_SEGMENT_64 b) f) ∙ ap length are ∙ length-map p.segments (record_for p)
-
--- a test of each segment's command is one of each placed segment
-pub each_tested : (b : List ℕ) (p : Placed) (s : PlacedSegment) (test : SegmentCommand → Bool) → AreOf b p
-    → All (λ q. test (record_for p q) ≡ true) p.segments
-    → EachCommand (numbered LC_SEGMENT_64 b) (λ c. test (segment_in b c))
-each_tested b p s test are each k d lt =
-    let c : Command = get_or (numbered LC_SEGMENT_64 b) k d in
-    let at_k : get_or (numbered LC_SEGMENT_64 b) k c ≡ c = sym (get_or_default (numbered LC_SEGMENT_64 b) k d c lt) in
-    ap test (record-at b p k c s are lt at_k) ∙ each k s (omega (arith, length-segments b p are))
+-- a test of each segment is one of each placed segment
+pub each_tested : (b : List ℕ) (p : Placed) (test : SegmentCommand → Bool) → AreOf b p → All (λ q. test (record_for p q) ≡ true) p.segments
+    → All (λ s. test s ≡ true) (segments_of b)
+each_tested b p test are each =
+    All-same (λ s. test s ≡ true) (segments_of b) (map (record_for p) p.segments) are
+    (All-map (λ s. test s ≡ true) (record_for p) p.segments each)
 
 -- neighbours stand one behind the other
 pub neighbours_follow : (l : Link) (b : List ℕ) (p : Placed) (s : PlacedSegment) → AreOf b p → EachNext (Follows l) p.segments
-    → EachNext (λ c d. begins_behind b c d ≡ true) (numbered LC_SEGMENT_64 b)
-neighbours_follow l b p s are follow k c d at_k at_next =
-    let count = length-segments b p are in
-    let one : PlacedSegment = get_or p.segments k s in
-    let two : PlacedSegment = get_or p.segments (k + 1) s in
-    let first : segment_in b c ≡ record_for p one = record-at b p k c s are at_k.0 at_k.1 in
-    let second : segment_in b d ≡ record_for p two = record-at b p (k + 1) d s are at_next.0 at_next.1 in
-    let lt : k + 1 < length p.segments = omega (arith, count, at_next.0) in
-    let there : k < length p.segments = omega (arith, lt) in
-    let next = follow k one two (there, sym (get_or_default p.segments k s one there))
-    (lt, sym (get_or_default p.segments (k + 1) s two lt)) in
-    le-leb _ _ (omega (
-      arith,
-      ap (λ (r : SegmentCommand). r.vmaddr + r.vmsize) first,
-      ap (λ (r : SegmentCommand). r.vmaddr) second,
-      next.address,
-    ))
+    → EachNext (λ x y. begins_behind x y ≡ true) (segments_of b)
+neighbours_follow l b p s are follow = subst (EachNext (λ x y. begins_behind x y ≡ true)) (sym are) of_records
+  where
+    of_records : EachNext (λ x y. begins_behind x y ≡ true) (map (record_for p) p.segments)
+    of_records k x y at_k at_next =
+        let long = length-map p.segments (record_for p) in
+        let one : PlacedSegment = get_or p.segments k s in
+        let two : PlacedSegment = get_or p.segments (k + 1) s in
+        let lt : k + 1 < length p.segments = omega (arith, long, at_next.0) in
+        let there : k < length p.segments = omega (arith, lt) in
+        let first : record_for p one ≡ x = sym (get_or-map (record_for p) p.segments k s x there) ∙ at_k.1 in
+        let second : record_for p two ≡ y = sym (get_or-map (record_for p) p.segments (k + 1) s y lt) ∙ at_next.1 in
+        let next = follow k one two (there, sym (get_or_default p.segments k s one there))
+        (lt, sym (get_or_default p.segments (k + 1) s two lt)) in
+        le-leb _ _ (omega (
+          arith,
+          ap (λ (r : SegmentCommand). r.vmaddr + r.vmsize) first,
+          ap (λ (r : SegmentCommand). r.vmaddr) second,
+          next.address,
+        ))
 
 -- ranks rise from each segment to every later one
 abbrev rank : Link → PlacedSegment → ℕ

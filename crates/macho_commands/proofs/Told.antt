@@ -30,7 +30,8 @@ use Rattle.macho_model.specs.Images.{strings_range, symbol_tables_of, string_tab
 use Rattle.macho_model.specs.Signature.{uuid_written}
 use Rattle.macho_model.specs.Head.{headers_in}
 use Rattle.macho_model.specs.HeadCommands.{HeadCommand, Segment, EntryPoint, Uuid, Dylib, LinkeditData, Symtab, segment_for}
-use Rattle.macho_model.specs.Head.{path_filled, range_size}
+use Rattle.macho_model.specs.Head.{range_size}
+use Rattle.macho_model.specs.HeadCommands.{path_filled}
 use Rattle.macho_model.specs.HeadCommands.{entry_point_for, uuid_for, needed_dylib_for, linkedit_for, symtab_for, commands_for}
 use Rattle.macho_model.specs.HeadCommands.{commands_in, behind}
 use Rattle.macho_commands.proofs.Numbered.{in_segment, in_entry_point, in_uuid, in_dylib, in_symtab, in_linkedit}

@@ -1,13 +1,12 @@
 -- What each load command of the linker says, and of a list of them: count, size and bytes are folds over one list.
 use Rattle.std.specs.Prelude.{ℕ, ◌+◌, ◌*◌, ◌<◌, ◌^◌, List, [], ◌∷◌, length, sum_by}
 use Rattle.std.specs.List.{flat_map}
-use Rattle.macho_records.specs.Segments.{bytes_of}
 use Rattle.macho_records.specs.declared.constants.TheConstants.{LC_BUILD_VERSION, LC_CODE_SIGNATURE, LC_DYLD_CHAINED_FIXUPS, LC_DYLD_EXPORTS_TRIE, LC_ID_DYLIB, LC_MAIN, LC_SEGMENT_64, LC_SYMTAB, LC_UUID}
 use Rattle.macho_records.specs.declared.header.SectionHeader.{SectionHeader}
 use Rattle.macho_records.specs.declared.header.SegmentCommand.{SegmentCommand}
 use Rattle.macho_model.specs.declared.placed.PlacedSegment.{PlacedSegment}
 use Rattle.macho_model.specs.HeadCommands as records
-use Rattle.macho_model.specs.Head.{PLATFORM_MACOS, THIS_TOOL, THIS_VERSION}
+use Rattle.macho_model.specs.HeadCommands.{PLATFORM_MACOS, THIS_TOOL, THIS_VERSION}
 use Rattle.macho_model.specs.HeadCommands.{HeadCommand, dylinker_for, dylib_for, needed_dylib_for, rpath_for, linkedit_for, size_said}
 use Rattle.macho_commands.specs.declared.command.SymbolTable.{SymbolTable}
 use Rattle.macho_commands.specs.declared.command.Command.{Command}
@@ -19,7 +18,7 @@ abbrev pub segment_record : PlacedSegment → ℕ → ℕ → ℕ → SegmentCom
 segment_record s protection segment_flags count = record {
   cmd = LC_SEGMENT_64;
   cmdsize = 72 + 80 * count;
-  segname = bytes_of s.name;
+  segname = s.name.0;
   vmaddr = s.address;
   vmsize = s.size;
   fileoff = s.file_offset;

@@ -5,9 +5,8 @@ use Rattle.std.specs.List.{flat_map}
 use Rattle.macho_bytes.specs.Layouts.{size_of}
 use Rattle.macho_bytes.specs.Texts.{name_of}
 use Rattle.macho_records.specs.Layouts.{symtab_entry}
-use Rattle.macho_records.specs.declared.constants.TheConstants.{LC_SEGMENT_64}
 use Rattle.macho_model.specs.declared.placed.Counts.{Counts}
-use Rattle.macho_model.specs.Commands.{commands_of, commands_end, command_fits, numbered}
+use Rattle.macho_model.specs.Commands.{commands_of, commands_end, command_fits}
 use Rattle.macho_model.specs.ObjectRules.{commands_inside}
 use Rattle.macho_model.specs.Grammar.{EachCommand}
 use Rattle.macho_model.specs.Links.{Link}
@@ -16,7 +15,7 @@ use Rattle.macho_model.specs.Targets.{target_of_name}
 use Rattle.macho_model.specs.Segments.{TEXT, list_if}
 use Rattle.macho_model.specs.Placement.{Placed, IsInOrder, is_segment_named}
 use Rattle.macho_model.specs.Addresses.{address_of}
-use Rattle.macho_model.specs.Images.{segments_named, tables_of, tries_of, signatures_of, symbol_tables_of, string_tables_of, entries_of_file, libraries_of}
+use Rattle.macho_model.specs.Images.{segments_of, segments_named, tables_of, tries_of, signatures_of, symbol_tables_of, string_tables_of, entries_of_file, libraries_of}
 use Rattle.macho_model.specs.LoadRules.{image_head_fits, needed_in_image, protections_fit, file_part_inside, segment_is_paged, segment_ends, begins_behind, text_holds_commands}
 use Rattle.macho_model.specs.Agreement.{SegmentsAgree, section_headers_of, table_of_range}
 use Rattle.macho_model.specs.Signature.{UuidSays}
@@ -62,10 +61,10 @@ pub record HasRoom (b : List ℕ) (p : Placed) : Type 0 where
 pub record HeadIsAccepted (b : List ℕ) : Type 0 where
   pub l1 : image_head_fits b ≡ true
   pub l2 : (commands_inside b ≡ true) × EachCommand (commands_of b) (command_fits (needed_in_image b) b)
-  pub l3 : EachCommand (numbered LC_SEGMENT_64 b) (protections_fit b)
-  pub l4 : EachCommand (numbered LC_SEGMENT_64 b) (file_part_inside b)
-  pub l5 : EachCommand (numbered LC_SEGMENT_64 b) (segment_is_paged b)
-  pub l6 : EachCommand (numbered LC_SEGMENT_64 b) (segment_ends b) × EachNext (λ c d. begins_behind b c d ≡ true) (numbered LC_SEGMENT_64 b)
+  pub l3 : All (λ s. protections_fit s ≡ true) (segments_of b)
+  pub l4 : All (λ s. file_part_inside b s ≡ true) (segments_of b)
+  pub l5 : All (λ s. segment_is_paged s ≡ true) (segments_of b)
+  pub l6 : All (λ s. segment_ends s ≡ true) (segments_of b) × EachNext (λ s t. begins_behind s t ≡ true) (segments_of b)
   pub l7 : (length (segments_named TEXT b) ≡ 1) × All (λ s. text_holds_commands b s ≡ true) (segments_named TEXT b)
 
 -- a file with the header and the load commands of a link whose segments are placed keeps them

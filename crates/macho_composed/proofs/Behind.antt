@@ -1,5 +1,5 @@
 -- The file when the other texts are written behind its contents: each stands in a range of its own.
-use Rattle.std.proofs.Common.{◌≡◌, ℕ, ◌+◌, ◌-◌, ◌<◌, ◌≤◌, inl, inr, nat_le, nat_lt, List, [], ◌∷◌, ◌++◌, map, length, filter, refl, sym, ap}
+use Rattle.std.proofs.Common.{◌≡◌, ℕ, ◌+◌, ◌-◌, ◌<◌, ◌≤◌, inl, inr, nat_le, nat_lt, List, [], ◌∷◌, ◌++◌, map, length, filter, refl, sym, ap, ◌&&◌}
 use Rattle.std.proofs.Common.{subst, ◌∙◌, arith, append_assoc, All, Contains}
 use Rattle.std.proofs.lemmas.Bool.{ltb-true}
 use Rattle.macho_bytes.specs.Texts.{Part, end_of}
@@ -9,7 +9,7 @@ use Rattle.macho_model.specs.declared.placed.Range64.{Range64}
 use Rattle.macho_model.specs.Links.{Link}
 use Rattle.macho_model.specs.Placement.{Placed, Span, AreApart, range_span, linkedit_ranges}
 use Rattle.macho_model.specs.Lists.{of_first}
-use Rattle.macho_model.specs.Addresses.{offset_in_file, has_in_file}
+use Rattle.macho_model.specs.Addresses.{offset_in_file}
 use Rattle.macho_model.specs.Zeros.{in_file}
 use Rattle.macho_fixups.specs.declared.run.Fixup.{Fixup}
 use Rattle.macho_model.proofs.EachBelow.{and_right}
@@ -29,16 +29,17 @@ use Rattle.macho_composed.proofs.Contents.{words_made, all_ranges}
 -- no address is told to be past the end of the file
 offset_low : (l : Link) (counts : Counts) (p : Placed) (n a : ℕ) → Grounds l counts p n → offset_in_file p a ≤ n
 unfolding offset_in_file
-offset_low l counts p n a g = by (filter (has_in_file a) p.segments) refl
+offset_low l counts p n a g = by (filter (λ (t : PlacedSegment). nat_le t.address a && nat_lt a (t.address + t.file_size)) p.segments) refl
   where
     ends : All (λ (s : PlacedSegment). s.file_offset + s.file_size ≤ p.linkedit.signature.end) p.segments
     ends = file_parts_end l counts p g.placed.in_order.follow g.laid_out
 
-    by : (found : List PlacedSegment) → filter (has_in_file a) p.segments ≡ found
+    by : (found : List PlacedSegment)
+        → filter (λ (t : PlacedSegment). nat_le t.address a && nat_lt a (t.address + t.file_size)) p.segments ≡ found
         → of_first 0 (λ s. s.file_offset + (a - s.address)) found ≤ n
     by [] e = omega arith
     by (s ∷ found) e =
-        let there = filter_contains (has_in_file a) p.segments s
+        let there = filter_contains (λ (t : PlacedSegment). nat_le t.address a && nat_lt a (t.address + t.file_size)) p.segments s
         (subst (λ (xs : List PlacedSegment). Contains xs s) (sym e) (contains_first s found)) in
         let below : a < s.address + s.file_size = ltb-true a (s.address + s.file_size)
         (and_right (nat_le s.address a) (nat_lt a (s.address + s.file_size)) there.1) in

@@ -14,7 +14,7 @@ use Rattle.macho_model.specs.declared.rules.UnwindRule.TheVariants.{U2, U7}
 use Rattle.macho_model.specs.Links.{Link, header_at}
 use Rattle.macho_model.specs.Needs.{relocation_in, unwind_sections, PERSONALITY_PLACE}
 use Rattle.macho_model.specs.Targets.{target_of, target_of_relocation, slot_number, slots_of, same_target, is_defined, is_import}
-use Rattle.macho_model.specs.Consumed.{EntryId, entry_count, entries_of_link, relocations_in_entry, unwind_entry, unwind_relocation_fits}
+use Rattle.macho_model.specs.Consumed.{EntryId, entry_count, entries_of_link, relocations_in_entry, unwind_entry}
 use Rattle.macho_model.specs.Consumed.{LSDA_PLACE}
 use Rattle.macho_symbols.specs.Kept.{symbol_id}
 use Rattle.macho_unwind_pages.specs.declared.entries.UnwindInput.{UnwindInput}
@@ -22,6 +22,7 @@ use Rattle.macho_unwind_pages.specs.Bounds.{unwind_bound_of}
 use Rattle.macho_unwind_pages.specs.Entries.{ids_of, named_ids}
 use Rattle.macho_unwind_pages.specs.Orders.{in_order}
 use Rattle.macho_promise.specs.Sizes.{unwind_input, text_span, unwind_size}
+use Rattle.macho_consumed.specs.steps.Entries.{unwind_relocation_fits}
 use Rattle.macho_consumed.specs.declared.rows.PersonalityUse.{PersonalityUse}
 use Rattle.macho_consumed.specs.declared.rows.UnwindEntry.{UnwindEntry}
 use Rattle.macho_consumed.specs.Rows.{entry_row, entry_rows}

@@ -16,8 +16,8 @@ use Rattle.macho_model.specs.Objects.{section_at, relocation_at}
 use Rattle.macho_model.specs.Links.{Link, SectionId, object_of}
 use Rattle.macho_model.specs.Needs.{relocation_in, unwind_sections, PERSONALITY_PLACE}
 use Rattle.macho_model.specs.Targets.{target_of_relocation}
-use Rattle.macho_model.specs.Consumed.{EntryId, entry_count, same_section, same_start, start_alone, entries_of_link, keeps, whole_entries}
-use Rattle.macho_model.specs.Consumed.{personality_fits, relocations_in_entry, START_PLACE, LSDA_PLACE}
+use Rattle.macho_model.specs.Consumed.{EntryId, entry_count, same_section, same_start, entries_of_link, keeps, whole_entries}
+use Rattle.macho_model.specs.Consumed.{relocations_in_entry, START_PLACE, LSDA_PLACE}
 use Rattle.macho_symbols.specs.Kept.{ResolvedRows, IsResolved}
 use Rattle.macho_consumed.specs.declared.listing.Kind.TheVariants.{Entries}
 use Rattle.macho_consumed.specs.declared.listing.SectionRef.{SectionRef}
@@ -110,7 +110,7 @@ again_of l files r rows fault views keep are again =
     ∙ sym (ap (λ (x : UnwindEntry). x.section) (again.is ∙ this))))
     (sym (ap (λ (x : UnwindEntry). x.entry) other ∙ row_entry l d ∙ eqb-true _ _ (right_of (same_section d.of_section e.of_section) _ alike)
     ∙ sym (row_entry l e) ∙ sym (ap (λ (x : UnwindEntry). x.entry) (again.is ∙ this))))) in
-    let fails : start_alone l e.of_section e.entry ≡ false =
+    let fails : keeps l e.of_section e.entry U6 ≡ false =
     one_fails (λ x. not (same_start l x e) || (same_section x.of_section e.of_section && (x.entry == e.entry))) (entries_of_link l) d
     (entry_there l rows again.later all again.there)
     (alone_test l d e same differ) in
@@ -139,7 +139,7 @@ again_stands l files r rows OutOfMemory views keep are again = tt
 alone_kept : (l : Link) (files : List (Option FileBytes)) (r : ResolvedRows) (rows : List UnwindEntry) (e : EntryId) → files ≡ views_of l
     → All (KeepsAt r files) (all_of Entries files)
     → rows ≡ map (entry_row l) (entries_of_link l) → AllPairs (λ d e. start_key d ≢ start_key e) rows → Contains (entries_of_link l) e
-    → start_alone l e.of_section e.entry ≡ true
+    → keeps l e.of_section e.entry U6 ≡ true
 alone_kept l files r rows e views keep are apart there =
     all_pass (λ d. not (same_start l d e) || (same_section d.of_section e.of_section && (d.entry == e.entry))) (entries_of_link l)
     (λ d c. by d c (same_start l d e) refl)
@@ -187,7 +187,7 @@ one_of_few xs a b few (i, lt, is) (j, below, at) =
     sym is ∙ get_or_default xs i a b lt ∙ ap (λ (n : ℕ). get_or xs n b) same ∙ at
 
 few_people : (b : List ℕ) (k e : ℕ) → EntryFits b k e → length (at_place b k e PERSONALITY_PLACE) ≤ 1
-few_people b k e fits = at_most _ (right_of (nat_le (length (at_place b k e START_PLACE)) 1) _ (left_of _ _ fits.single))
+few_people b k e fits = at_most _ (left_of _ _ (right_of (nat_le (length (at_place b k e START_PLACE)) 1) _ fits.single))
   where
     at_most : (n : ℕ) → nat_le n 1 ≡ true → n ≤ 1
     at_most n few = grind (arith, nat_tests, few)
@@ -204,7 +204,7 @@ person_leads l noted file b k e q is fits (someone r some c) leads d =
 
 links_kept : (l : Link) (noted : List (List ℕ)) (file : ℕ) (b : List ℕ) (k e : ℕ) → object_of l file ≡ b → EntryFits b k e
     → leads_somewhere l noted file (row_in b file k e).personality ≡ true
-    → personality_fits l (record { file = file; section = k }) e ≡ true
+    → keeps l (record { file = file; section = k }) e U7 ≡ true
 links_kept l noted file b k e is fits leads =
     let s : SectionId = record { file = file; section = k } in
     let people : list_all (λ q. (relocation_in l s q).r_extern && is_somewhere (target_of_relocation l s q))

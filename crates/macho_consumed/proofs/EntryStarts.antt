@@ -36,7 +36,8 @@ low a s n z inside = grind (arith, nat_tests, inside)
 one_start : (b : List ℕ) (k e : ℕ) (xs : List ℕ) → at_place b k e START_PLACE ≡ xs → EntryFits b k e → (r : ℕ) × HasStart b k e r
 one_start b k e [] is fits = let clash : false ≡ true = sym (rw is refl) ∙ fits.start in cc
 one_start b k e (r ∷ q ∷ rs) is fits =
-    let few : nat_le (length (at_place b k e START_PLACE)) 1 ≡ true = left_of _ _ (left_of _ _ fits.single) in
+    let few : nat_le (length (at_place b k e START_PLACE)) 1 ≡ true =
+    left_of (nat_le (length (at_place b k e START_PLACE)) 1) _ fits.single in
     let lt : length (at_place b k e START_PLACE) ≤ 1 = grind (arith, nat_tests, few) in
     absurd (omega (arith, lt, ap length is))
 one_start b k e (r ∷ []) is fits =

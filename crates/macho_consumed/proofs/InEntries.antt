@@ -3,20 +3,20 @@
 -- The table tells the relocations of each of an entry's four places. At each of the three addresses stands a plain pointer or none,
 -- else a rule is broken. What the code found of the one, the tests of the rules say of the list of one: so each rule holds, or is the
 -- one that is told. No relocation stands at 8 nor between places, so each stands at one of the three addresses.
-use Rattle.std.proofs.Common.{◌≡◌, ◌≢◌, ℕ, ◌+◌, ◌*◌, ◌/◌, ◌%◌, ◌<◌, ◌≤◌, inl, inr, eqb, eq-eqb, Bool, true, false, nat_lt, ◌==◌}
+use Rattle.std.proofs.Common.{◌≡◌, ◌≢◌, ℕ, ◌+◌, ◌*◌, ◌/◌, ◌%◌, ◌<◌, ◌≤◌, inl, inr, eqb, eq-eqb, Bool, true, false, not, nat_lt, ◌==◌}
 use Rattle.std.proofs.Common.{if◌then◌else◌, ◌&&◌, ◌||◌, List, [], length, filter, get_or, Option, Some, None, option_map}
 use Rattle.std.proofs.Common.{option_to_list, is_some, nat_le, refl, sym, ap, ◌∙◌, subst, arith}
 use Rattle.std.proofs.lemmas.Bool.Decides.{nat_tests}
 use Rattle.std.proofs.lemmas.Bool.{eqb-true}
-use Rattle.std.specs.List.{range_with_len, list_all, Contains}
+use Rattle.std.specs.List.{range_with_len, list_all, list_any, Contains}
 use Rattle.macho_bytes.specs.Numbers.{bits}
 use Rattle.macho_structs.specs.declared.relocations.RelocationInfo.{RelocationInfo}
 use Rattle.macho_structs.specs.declared.unwind.UnwindInfoEntry.{UnwindInfoEntry}
 use Rattle.macho_model.specs.declared.rules.UnwindRule.{UnwindRule}
+use Rattle.macho_model.specs.declared.rules.UnwindRule.TheVariants.{U2, U3, U4, U5, U8}
 use Rattle.macho_model.specs.ObjectLaws.{KeepsObjectRules}
 use Rattle.macho_model.specs.Objects.{num_sections, section_at, relocation_at}
-use Rattle.macho_model.specs.Consumed.{is_plain_pointer, each_relocation_in, unwind_relocation_fits, single_relocations, start_fits}
-use Rattle.macho_model.specs.Consumed.{function_inside, entry_is_clear, absent_is_zero, START_PLACE, LSDA_PLACE}
+use Rattle.macho_model.specs.Consumed.{is_plain_pointer, START_PLACE, LSDA_PLACE, ADDRESS_PLACES, keeps}
 use Rattle.macho_model.specs.Needs.{PERSONALITY_PLACE}
 use Rattle.macho_promise.specs.UnwindSays.{relocation_of}
 use Rattle.macho_consumed.specs.declared.rows.SectionPlace.{SectionPlace}
@@ -27,7 +27,7 @@ use Rattle.macho_symbols.specs.Kept.{ResolvedRows}
 use Rattle.macho_consumed.specs.declared.places.Cell.{Cell}
 use Rattle.macho_consumed.specs.declared.places.Cell.TheVariants.{Empty, One}
 use Rattle.macho_consumed.specs.steps.Places.{found, CellTells, IsTable, NoneBelow}
-use Rattle.macho_consumed.specs.steps.Entries.{NamesSection, StartFound, StartBreaks, DataFound, DataBreaks, PersonalityFound}
+use Rattle.macho_consumed.specs.steps.Entries.{unwind_relocation_fits, NamesSection, StartFound, StartBreaks, DataFound, DataBreaks, PersonalityFound}
 use Rattle.macho_consumed.specs.steps.Entries.{PersonalityBreaks, PointersBreak, EntryBreaks, is_clear, at_place, read_entry, data_fits}
 use Rattle.macho_consumed.specs.steps.Entries.{EntryFits}
 use Rattle.macho_consumed.specs.steps.Entries.{HasPointers, IsPointer, IsAddress, row_in}
@@ -72,8 +72,12 @@ pub cell_inside : (b : List ℕ) (k e at r : ℕ) (cells : List Cell) → IsTabl
 cell_inside b k e at r cells table lt small is = in_cell b k (section_at b k).nreloc (8 * (4 * e + at)) r (get_or cells (4 * e + at) Empty)
     (table.cell (4 * e + at) (omega arith)) is
 
+pub and_false : (t u : Bool) → u ≡ false → (t && u) ≡ false
+and_false true u e = e
+and_false false u e = refl
+
 -- a relocation at 8 of an entry
-pub between_of : (b : List ℕ) (k e r : ℕ) → Contains (at_place b k e 8) r → each_relocation_in (alone b) (own k) e ≡ false
+pub between_of : (b : List ℕ) (k e r : ℕ) → Contains (at_place b k e 8) r → keeps (alone b) (own k) e U2 ≡ false
 between_of b k e r at =
     let hit = in_filter (λ q. eqb (relocation_at b k q).r_address (32 * e + 8)) (range_with_len 0 (section_at b k).nreloc) r at in
     let address : (relocation_at b k r).r_address ≡ 32 * e + 8 = grind (arith, nat_tests, hit.0) in
@@ -82,7 +86,7 @@ between_of b k e r at =
     one_fails (unwind_relocation_fits (alone b) (own k)) (filter (λ q. eqb ((relocation_at b k q).r_address / 32) e) (range_with_len 0
     (section_at b k).nreloc)) r
     (to_filter (λ q. eqb ((relocation_at b k q).r_address / 32) e) (range_with_len 0 (section_at b k).nreloc) r hit.1 mine)
-    (grind (arith, nat_tests, place))
+    (and_false (is_plain_pointer (relocation_at b k r)) _ (ap (λ (n : ℕ). list_any (λ p. n == p) ADDRESS_PLACES) place))
 
 -- a pointer of an address is plain
 plain_at : (b : List ℕ) (k r : ℕ) (xs : List ℕ) (c : Option ℕ) → xs ≡ option_to_list c → IsPointer b k c → Contains xs r
@@ -99,7 +103,7 @@ no_relocation xs r is (i, lt, at) = absurd (omega (arith, lt, ap length is))
 
 -- each relocation of the entry is at one of the addresses
 pub all_placed : (b : List ℕ) (k e : ℕ) (c0 c2 c3 : Option ℕ) → HasPointers b k e c0 c2 c3
-    → NoneBelow b k (section_at b k).nreloc (32 * e + 32) → each_relocation_in (alone b) (own k) e ≡ true
+    → NoneBelow b k (section_at b k).nreloc (32 * e + 32) → keeps (alone b) (own k) e U2 ≡ true
 all_placed b k e c0 c2 c3 has aligned =
     all_pass (unwind_relocation_fits (alone b) (own k)) (filter (λ q. eqb ((relocation_at b k q).r_address / 32) e) (range_with_len 0
     (section_at b k).nreloc))
@@ -141,14 +145,18 @@ few : (c : Option ℕ) → nat_le (length (option_to_list c)) 1 ≡ true
 few None = refl
 few (Some r) = refl
 
-pub all_single : (b : List ℕ) (k e : ℕ) (c0 c2 c3 : Option ℕ) → HasPointers b k e c0 c2 c3 → single_relocations (alone b) (own k) e ≡ true
+pub all_single : (b : List ℕ) (k e : ℕ) (c0 c2 c3 : Option ℕ) → HasPointers b k e c0 c2 c3 → keeps (alone b) (own k) e U3 ≡ true
 all_single b k e c0 c2 c3 has =
-    rw (has.start_at.list, has.personality_at.list, has.lsda_at.list) (both _ _ (both _ _ (few c0) (few c2)) (few c3))
+    rw (has.start_at.list, has.personality_at.list, has.lsda_at.list) (both _ _ (few c0) (both _ _ (few c2) (both _ _ (few c3) refl)))
+
+-- an address without a relocation is 0
+abbrev pub absent_is_zero : List ℕ → ℕ → Bool
+absent_is_zero relocations word = not (length relocations == 0) || (word == 0)
 
 -- the start of a function
 pub record StartKept (b : List ℕ) (k e : ℕ) (place : SectionPlace) : Type 0 where
-  pub fits : start_fits (alone b) (own k) e ≡ true
-  pub inside : function_inside (alone b) (own k) e ≡ true
+  pub fits : keeps (alone b) (own k) e U4 ≡ true
+  pub inside : keeps (alone b) (own k) e U5 ≡ true
   pub is : start_place (alone b) (record { of_section = own k; entry = e }) (relocation_of (alone b)
       (record { of_section = own k; entry = e }) START_PLACE) ≡ place
   pub there : absent_is_zero (at_place b k e START_PLACE) (read_entry b k e).start ≡ true
@@ -200,12 +208,14 @@ data_kept b k e (Some r) told is found = record {
 -- the words without relocations
 pub clear_is : (b : List ℕ) (k e : ℕ) (place : SectionPlace) (p : Option PersonalityUse) (d : Option SectionPlace)
     → StartKept b k e place → PersonalityKept b k e p
-    → DataKept b k e d → entry_is_clear (alone b) (own k) e ≡ is_clear (read_entry b k e) (is_some p) (is_some d)
+    → DataKept b k e d → keeps (alone b) (own k) e U8 ≡ is_clear (read_entry b k e) (is_some p) (is_some d)
 clear_is b k e place p d start personality lsda = rw (start.there, personality.there, lsda.there) (regroup (bits 28 2
     (read_entry b k e).encoding == 0) _ _)
   where
-    regroup : (t u v : Bool) → (((t && true) && u) && v) ≡ ((t && u) && v)
-    regroup true u v = refl
+    regroup : (t u v : Bool) → (t && (true && (u && (v && true)))) ≡ ((t && u) && v)
+    regroup true true true = refl
+    regroup true true false = refl
+    regroup true false v = refl
     regroup false u v = refl
 
 -- the whole entry
@@ -245,10 +255,6 @@ start_breaks r b file k e (Some q) rule is (inr breaks) = subst (EntryBreaks r b
 
 pub and_left_false : (t u : Bool) → t ≡ false → (t && u) ≡ false
 and_left_false t u e = rw e refl
-
-pub and_false : (t u : Bool) → u ≡ false → (t && u) ≡ false
-and_false true u e = e
-and_false false u e = refl
 
 pub personality_breaks : (r : ResolvedRows) (b : List ℕ) (file k e : ℕ) (c : Option ℕ) (rule : UnwindRule)
     → at_place b k e PERSONALITY_PLACE ≡ option_to_list c → IsPointer b k c

@@ -4,14 +4,15 @@
 -- A plain pointer that is extern leads where its symbol does.
 use Rattle.std.proofs.Common.{◌≡◌, ℕ, Bool, true, false, ◌&&◌, ◌||◌, ◌==◌, if◌then◌else◌, List, Option, Some, None, refl, ap, ◌∙◌, arith}
 use Rattle.std.proofs.lemmas.Bool.Decides.{nat_tests}
+use Rattle.std.specs.List.{position_or_len}
+use Rattle.std.specs.Str.{bytes_eq}
 use Rattle.macho_structs.specs.declared.relocations.RelocationInfo.{RelocationInfo}
+use Rattle.macho_records.specs.Symbols.{is_global}
 use Rattle.macho_model.specs.declared.targets.Target.{Target}
 use Rattle.macho_model.specs.declared.targets.Target.TheVariants as target
 use Rattle.macho_model.specs.Links.{Link, SectionId}
 use Rattle.macho_model.specs.Resolution.{SymbolId, Definition, Symbol, Library, ImageBase, entry_at, name_at, definition_of}
-use Rattle.macho_model.specs.Resolution.{stands_in_carried}
-use Rattle.macho_model.specs.Symbols.{is_global, is_local, is_absolute}
-use Rattle.macho_model.specs.Needs.{relocation_in, imports_of, import_number}
+use Rattle.macho_model.specs.Needs.{relocation_in, imports_of}
 use Rattle.macho_model.specs.Targets.{target_with, target_of, target_of_relocation, own_target, definition_target}
 use Rattle.macho_model.specs.Consumed.{is_plain_pointer}
 use Rattle.macho_symbols.specs.Kept.{symbol_id}
@@ -23,18 +24,16 @@ defined_alike : (f : Target → Bool) → IsBlind f → (l : Link) (n m : List (
     → f (definition_target l n name d) ≡ f (definition_target l m name d)
 defined_alike f blind l n m name None = refl
 defined_alike f blind l n m name (Some (Symbol s)) = refl
-defined_alike f blind l n m name (Some (Library file)) = blind.imports (import_number n name) (import_number m name)
+defined_alike f blind l n m name (Some (Library file)) =
+    blind.imports (position_or_len (bytes_eq name) n) (position_or_len (bytes_eq name) m)
 defined_alike f blind l n m name (Some ImageBase) = refl
 
 pub alike : (f : Target → Bool) → IsBlind f → (l : Link) (n m : List (List ℕ)) (s : SymbolId)
     → f (target_with l n s) ≡ f (target_with l m s)
 alike f blind l n m s = by (is_global (entry_at l s))
   where
-    rest : Target
-    rest = if is_local (entry_at l s) && (stands_in_carried l s || is_absolute (entry_at l s)) then own_target l s else target.None
-
-    by : (t : Bool) → f (if t then definition_target l n (name_at l s) (definition_of l (name_at l s)) else rest)
-        ≡ f (if t then definition_target l m (name_at l s) (definition_of l (name_at l s)) else rest)
+    by : (t : Bool) → f (if t then definition_target l n (name_at l s) (definition_of l (name_at l s)) else own_target l s)
+        ≡ f (if t then definition_target l m (name_at l s) (definition_of l (name_at l s)) else own_target l s)
     by true = defined_alike f blind l n m (name_at l s) (definition_of l (name_at l s))
     by false = refl
 

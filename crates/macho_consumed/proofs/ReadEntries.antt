@@ -15,8 +15,8 @@ use Rattle.macho_model.specs.Links.{Link, SectionId, object_of}
 use Rattle.macho_model.specs.Needs.{relocation_in, unwind_sections, PERSONALITY_PLACE}
 use Rattle.macho_model.specs.declared.targets.Target.{Target}
 use Rattle.macho_model.specs.Targets.{target_of_relocation, target_with, is_defined, is_import}
-use Rattle.macho_model.specs.Consumed.{EntryId, is_plain_pointer, entry_count, relocations_in_entry, entries_of_link, personality_fits}
-use Rattle.macho_model.specs.Consumed.{unwind_relocation_fits, LSDA_PLACE}
+use Rattle.macho_model.specs.Consumed.{EntryId, is_plain_pointer, entry_count, relocations_in_entry, entries_of_link, keeps}
+use Rattle.macho_model.specs.Consumed.{LSDA_PLACE}
 use Rattle.macho_model.specs.Faults.{IsBadEntry}
 use Rattle.macho_symbols.specs.Kept.{ResolvedRows, IsResolved, symbol_id}
 use Rattle.macho_consumed.specs.declared.listing.Kind.TheVariants.{Entries}
@@ -28,7 +28,7 @@ use Rattle.macho_parts.specs.Views.{views_of}
 use Rattle.macho_consumed.specs.Rows.{entry_row, entry_rows}
 use Rattle.macho_consumed.specs.Told.{IsStanding}
 use Rattle.macho_consumed.specs.steps.Alone.{alone, own}
-use Rattle.macho_consumed.specs.steps.Entries.{at_place, links_fit, data_fits, read_entry, EntryFits, SectionBreaksRule, EntryIsLost}
+use Rattle.macho_consumed.specs.steps.Entries.{unwind_relocation_fits, at_place, links_fit, data_fits, read_entry, EntryFits, SectionBreaksRule, EntryIsLost}
 use Rattle.macho_consumed.specs.steps.Entries.{rows_in, row_in}
 use Rattle.macho_consumed.specs.steps.Listed.{id_of_ref, bytes_in}
 use Rattle.macho_consumed.specs.steps.Gathered.{all_of, entries_at, IsBadRuleAt}
@@ -78,10 +78,10 @@ rows_read l files views =
 
 -- a rule that an entry breaks by its bytes it breaks in the link
 links_break : (l : Link) (file : ℕ) (b : List ℕ) (k e : ℕ) → object_of l file ≡ b → links_fit b k e ≡ false
-    → personality_fits l (record { file = file; section = k }) e ≡ false
+    → keeps l (record { file = file; section = k }) e U7 ≡ false
 links_break l file b k e is bad =
     let s : SectionId = record { file = file; section = k } in
-    not_true (personality_fits l s e) (λ good.
+    not_true (keeps l s e U7) (λ good.
     let people = left_of _ _ good in
     let extern : list_all (λ r. (relocation_in l s r).r_extern) (relocations_in_entry l s e PERSONALITY_PLACE) ≡ true =
     all_pass (λ r. (relocation_in l s r).r_extern) (relocations_in_entry l s e PERSONALITY_PLACE) (λ r c.
@@ -151,7 +151,7 @@ pub person_told : (l : Link) (noted : List (List ℕ)) (file : ℕ) (b : List �
 person_told l noted file b k r e p = pointer_told l noted file b k r e p.plain p.extern
 
 lost_breaks : (l : Link) (noted : List (List ℕ)) (r : ResolvedRows) (file : ℕ) (b : List ℕ) (k e : ℕ) → object_of l file ≡ b
-    → IsResolved l noted r → EntryIsLost r b file k e → personality_fits l (record { file = file; section = k }) e ≡ false
+    → IsResolved l noted r → EntryIsLost r b file k e → keeps l (record { file = file; section = k }) e U7 ≡ false
 lost_breaks l noted r file b k e is resolved it =
     let s : SectionId = record { file = file; section = k } in
     let wrong : is_somewhere (target_of_relocation l s it.number) ≡ false =

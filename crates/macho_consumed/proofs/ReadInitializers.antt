@@ -15,8 +15,9 @@ use Rattle.macho_model.specs.Links.{Link, SectionId, object_of, header_at}
 use Rattle.macho_model.specs.Needs.{relocations_at, relocation_in, initializer_sections}
 use Rattle.macho_model.specs.Targets.{target_of_relocation, target_with}
 use Rattle.macho_model.specs.Consumed.{is_plain_pointer, bytes_of_section, is_section_target, initializer_section_fits}
-use Rattle.macho_model.specs.Consumed.{initializer_slot_fits, initializer_relocation_fits}
+use Rattle.macho_model.specs.Consumed.{initializer_slot_fits}
 use Rattle.macho_model.specs.Faults.{IsBadInitializer}
+use Rattle.macho_model.proofs.Words.{initializer_relocation_fits}
 use Rattle.macho_names.specs.Kept.{FileRows, rows_of_object, row_of_symbol}
 use Rattle.macho_symbols.specs.Kept.{ResolvedRows, IsResolved, HasSymbol, symbol_id}
 use Rattle.macho_consumed.specs.declared.listing.Kind.TheVariants.{Initializers}

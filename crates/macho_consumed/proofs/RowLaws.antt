@@ -77,7 +77,7 @@ one_use l s e (r ∷ q ∷ rs) is few = absurd (omega arith)
 few_there : (l : Link) (s : SectionId) (e : ℕ) → EntriesKeepRules l → Contains (unwind_sections l) s → e < entry_count l s
     → length (relocations_in_entry l s e PERSONALITY_PLACE) ≤ 1
 few_there l s e keeps there lt =
-    at_most _ (right_of (nat_le (length (relocations_in_entry l s e START_PLACE)) 1) _ (left_of _ _ (keeps.unwind s e U3 there lt)))
+    at_most _ (left_of _ _ (right_of (nat_le (length (relocations_in_entry l s e START_PLACE)) 1) _ (keeps.unwind s e U3 there lt)))
   where
     at_most : (n : ℕ) → nat_le n 1 ≡ true → n ≤ 1
     at_most n few = grind (arith, nat_tests, few)

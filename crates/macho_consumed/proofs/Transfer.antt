@@ -6,10 +6,10 @@ use Rattle.std.proofs.Common.{◌≡◌, ℕ, ◌/◌, ◌<◌, List, length, ge
 use Rattle.std.proofs.lemmas.List.{get_or-map, length-map}
 use Rattle.macho_object.specs.Views.{FileBytes}
 use Rattle.macho_model.specs.Objects.{section_at}
+use Rattle.macho_model.specs.declared.rules.UnwindRule.TheVariants.{U2, U3, U4, U5, U8}
 use Rattle.macho_model.specs.Links.{Input, Object, Dylib, Stub, Link, object_bytes, object_of, no_input}
 use Rattle.macho_model.specs.Needs.{relocations_at}
-use Rattle.macho_model.specs.Consumed.{initializer_section_fits, whole_entries, each_relocation_in, single_relocations, start_fits}
-use Rattle.macho_model.specs.Consumed.{function_inside, entry_is_clear}
+use Rattle.macho_model.specs.Consumed.{initializer_section_fits, whole_entries, keeps}
 use Rattle.macho_parts.specs.Views.{object_view, views_of}
 use Rattle.macho_consumed.specs.Rows.{initializer_rows_in, entry_row}
 use Rattle.macho_consumed.specs.steps.Alone.{alone, own}
@@ -58,17 +58,17 @@ entry_row_is l file b k e is =
     subst (λ (c : List ℕ). entry_row l (record { of_section = record { file = file; section = k }; entry = e }) ≡ row_in c file k e) is refl
 
 pub entry_test : (l : Link) (file : ℕ) (b : List ℕ) (k e : ℕ) → object_of l file ≡ b
-    → (each_relocation_in l (record { file = file; section = k }) e ≡ each_relocation_in (alone b) (own k) e)
-    × (single_relocations l (record { file = file; section = k }) e ≡ single_relocations (alone b) (own k) e)
-    × (start_fits l (record { file = file; section = k }) e ≡ start_fits (alone b) (own k) e)
-    × (function_inside l (record { file = file; section = k }) e ≡ function_inside (alone b) (own k) e)
-    × (entry_is_clear l (record { file = file; section = k }) e ≡ entry_is_clear (alone b) (own k) e)
+    → (keeps l (record { file = file; section = k }) e U2 ≡ keeps (alone b) (own k) e U2)
+    × (keeps l (record { file = file; section = k }) e U3 ≡ keeps (alone b) (own k) e U3)
+    × (keeps l (record { file = file; section = k }) e U4 ≡ keeps (alone b) (own k) e U4)
+    × (keeps l (record { file = file; section = k }) e U5 ≡ keeps (alone b) (own k) e U5)
+    × (keeps l (record { file = file; section = k }) e U8 ≡ keeps (alone b) (own k) e U8)
     × (whole_entries l (record { file = file; section = k }) ≡ whole_entries (alone b) (own k))
 entry_test l file b k e is = (
-  subst (λ (c : List ℕ). each_relocation_in l (record { file = file; section = k }) e ≡ each_relocation_in (alone c) (own k) e) is refl,
-  subst (λ (c : List ℕ). single_relocations l (record { file = file; section = k }) e ≡ single_relocations (alone c) (own k) e) is refl,
-  subst (λ (c : List ℕ). start_fits l (record { file = file; section = k }) e ≡ start_fits (alone c) (own k) e) is refl,
-  subst (λ (c : List ℕ). function_inside l (record { file = file; section = k }) e ≡ function_inside (alone c) (own k) e) is refl,
-  subst (λ (c : List ℕ). entry_is_clear l (record { file = file; section = k }) e ≡ entry_is_clear (alone c) (own k) e) is refl,
+  subst (λ (c : List ℕ). keeps l (record { file = file; section = k }) e U2 ≡ keeps (alone c) (own k) e U2) is refl,
+  subst (λ (c : List ℕ). keeps l (record { file = file; section = k }) e U3 ≡ keeps (alone c) (own k) e U3) is refl,
+  subst (λ (c : List ℕ). keeps l (record { file = file; section = k }) e U4 ≡ keeps (alone c) (own k) e U4) is refl,
+  subst (λ (c : List ℕ). keeps l (record { file = file; section = k }) e U5 ≡ keeps (alone c) (own k) e U5) is refl,
+  subst (λ (c : List ℕ). keeps l (record { file = file; section = k }) e U8 ≡ keeps (alone c) (own k) e U8) is refl,
   subst (λ (c : List ℕ). whole_entries l (record { file = file; section = k }) ≡ whole_entries (alone c) (own k)) is refl,
 )

@@ -11,9 +11,9 @@ use Rattle.std.proofs.lemmas.List.{get_or_default}
 use Rattle.std.specs.List.{slice_split, position_or_len}
 use Rattle.std.specs.declared.vec.Vec.{Vec}
 use Rattle.memchr.specs.Find.{Nowhere, NoneBefore, Passes, is_byte}
-use Rattle.macho_model.specs.ExportLists.{NEWLINE, is_pattern, entry_of, entries_of, all_entries, plain_entries}
+use Rattle.macho_model.specs.ExportLists.{entries_of, all_entries, plain_entries}
 use Rattle.macho_exports.specs.Entries.{ListEntries, IsListOf, texts_of}
-use Rattle.macho_exports.specs.steps.Lines.{is_newline, is_entry, entry_in}
+use Rattle.macho_exports.specs.steps.Lines.{is_newline, is_entry, entry_in, NEWLINE, entry_of, is_pattern}
 use Rattle.macho_exports.specs.steps.Lists.{Adds, IsLonger, IsReading, no_entries}
 
 passing : (p : List ℕ → Bool) (x : List ℕ) → p x ≡ true → filter p (x ∷ []) ≡ x ∷ []

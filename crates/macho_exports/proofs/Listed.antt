@@ -7,7 +7,8 @@ use Rattle.std.proofs.lemmas.Cmp.{nat_list_eq_equiv}
 use Rattle.std.proofs.lemmas.List.Folds.{list_any_at}
 use Rattle.std.specs.List.{list_any}
 use Rattle.std.specs.Str.{bytes_eq}
-use Rattle.macho_model.specs.ExportLists.{STAR, is_pattern, matches, listed, all_entries, plain_entries}
+use Rattle.macho_exports.specs.steps.Lines.{is_pattern}
+use Rattle.macho_model.specs.ExportLists.{STAR, matches, listed, all_entries, plain_entries}
 use Rattle.macho_exports.specs.Entries.{ListEntries, IsListOf}
 use Rattle.macho_exports.proofs.Matching.{IsPlain, plain_entry}
 

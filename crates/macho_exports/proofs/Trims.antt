@@ -13,8 +13,8 @@ use Rattle.std.proofs.lemmas.List.Folds.{list_any_at, list_any_none}
 use Rattle.std.specs.Prelude.{reverse}
 use Rattle.std.specs.List.{before_first, list_any, prefix_len}
 use Rattle.memchr.specs.Find.{Nowhere, NoneBefore, Passes, is_byte}
-use Rattle.macho_model.specs.ExportLists.{is_blank, without_front}
-use Rattle.macho_exports.specs.steps.Lines.{without_back}
+use Rattle.macho_model.specs.ExportLists.{without_front}
+use Rattle.macho_exports.specs.steps.Lines.{without_back, is_blank}
 
 -- the text behind its first n bytes, which are blank
 pub front_is : (text : List ℕ) (n : ℕ) → n ≤ length text → ((k : ℕ) → k < n → is_blank (get_or text k 0) ≡ true)

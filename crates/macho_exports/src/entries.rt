@@ -1,8 +1,8 @@
 //! The entry of a line: what stands in front of a `#`, without the blanks at both ends.
 ghost use Rattle.std.specs.Prelude.{◌≡◌};
 ghost use Rattle.std.specs.List.{before_first};
-ghost use Rattle.macho_model.specs.ExportLists.{is_blank, without_front, entry_of, is_pattern, HASH};
-ghost use Rattle.macho_exports.specs.steps.Lines.{without_back, is_hash};
+ghost use Rattle.macho_model.specs.ExportLists.{without_front};
+ghost use Rattle.macho_exports.specs.steps.Lines.{without_back, is_hash, HASH, is_blank, entry_of, is_pattern};
 
 use memchr::memchr;
 

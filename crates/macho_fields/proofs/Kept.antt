@@ -12,20 +12,22 @@ use Rattle.std.proofs.lemmas.Slice.Eq.{bytes_eq-Decides}
 use Rattle.std.proofs.lemmas.List.Sums.{fails_before_first}
 use Rattle.std.proofs.lemmas.List.Elements.{Contains-append_cases, All-contains, All-filter, All-contains_itself}
 use Rattle.std.proofs.lemmas.List.Elements.{filter_passes}
-use Rattle.macho_records.specs.Symbols.{is_common_of, is_external_of, is_stab_of, is_weak_of}
+use Rattle.macho_records.specs.Symbols.{is_common_of, is_stab_of, is_weak_of, has_type, is_global}
+use Rattle.macho_model.specs.steps.RecordTests.{symbol_section_exists, relocation_number_exists}
 use Rattle.macho_records.specs.declared.symbols.SymtabEntry.{SymtabEntry}
+use Rattle.macho_records.specs.declared.constants.TheConstants.{N_ABS, N_SECT, N_EXT}
+use Rattle.macho_records.specs.Flags.{has_any}
 use Rattle.macho_model.specs.declared.targets.Target.TheVariants as target
 use Rattle.macho_model.specs.Lists.{IsNumber}
 use Rattle.macho_model.specs.Objects.{num_sections, num_symbols}
-use Rattle.macho_model.specs.ObjectRules.{symbol_section_exists, relocation_number_exists}
 use Rattle.macho_model.specs.Grammar.{IsObject}
 use Rattle.macho_model.proofs.ObjectLaws.{object_keeps}
-use Rattle.macho_model.specs.Symbols.{is_absolute, is_in_section, is_global, is_local}
 use Rattle.macho_model.specs.Links.{Input, Object, Dylib, Stub, Link, no_input, object_bytes, object_of, SectionId, header_at, is_carried, sections_of_file, sections_of, carried_of}
 use Rattle.macho_model.specs.Resolution.{SymbolId, Definition, Symbol, Library, ImageBase, entry_at, name_at, symbols_of_file, symbols_of, section_of_symbol, stands_in_carried, is_definition, is_strong, is_weak, has_name, strong_of, weak_of, commons_of, greatest_of, libraries_with, DSO_HANDLE, first_or, definition_of, is_symbol, same_symbol, is_chosen, chosen_commons}
 use Rattle.macho_model.specs.Needs.{relocation_in, section_named, symbol_of_relocation, imports_of}
-use Rattle.macho_model.specs.Targets.{own_target, definition_target, target_of, target_of_symbol, target_of_section, target_of_relocation}
+use Rattle.macho_model.specs.Targets.{own_target, definition_target, target_of, target_of_relocation}
 use Rattle.macho_model.proofs.EachBelow.{true_or_false, and_left, and_right, or_right, equal_is}
+use Rattle.macho_model.proofs.Words.{target_of_symbol, target_of_section}
 use Rattle.macho_fields.specs.Looks.{Leads}
 use Rattle.macho_fields.specs.Laws.{ObjectsAreWhole, LeadsInside, TargetsAreKept}
 use Rattle.macho_fields.proofs.Through.{any_default}
@@ -158,7 +160,7 @@ position_below test xs x h passes = elim (cases_lt h.0 (position_or_len test xs)
 
 own_inside : (l : Link) (s : SymbolId) → ObjectsAreWhole l → IsFileOf l s.file → s.symbol < num_symbols (object_of l s.file)
     → (is_common_of (entry_at l s) ≡ true → Contains (chosen_commons l) s) → LeadsInside l (own_target l s)
-own_inside l s objects f among chosen = by (stands_in_carried l s) (is_absolute (entry_at l s)) (is_common_of (entry_at l s)) refl refl
+own_inside l s objects f among chosen = by (stands_in_carried l s) (has_type N_ABS (entry_at l s)) (is_common_of (entry_at l s)) refl refl
   where
     e : SymtabEntry
     e = entry_at l s
@@ -168,10 +170,10 @@ own_inside l s objects f among chosen = by (stands_in_carried l s) (is_absolute 
         else if b then target.Absolute e.n_value else if c then target.Common
         (position_or_len (same_symbol s) (chosen_commons l)) else target.None)
     by true b c stands common =
-        let inside = and_left (is_in_section e) (is_carried (header_at l (section_of_symbol l s))) stands in
-        let carried = and_right (is_in_section e) (is_carried (header_at l (section_of_symbol l s))) stands in
+        let inside = and_left (has_type N_SECT e) (is_carried (header_at l (section_of_symbol l s))) stands in
+        let carried = and_right (has_type N_SECT e) (is_carried (header_at l (section_of_symbol l s))) stands in
         let rule : symbol_section_exists (object_of l s.file) s.symbol ≡ true = (object_keeps (whole l s.file objects f)).o5.0 s.symbol among in
-        let exists = or_right (not (is_in_section e)) (nat_le 1 e.n_sect && nat_le e.n_sect (num_sections (object_of l s.file))) rule
+        let exists = or_right (not (has_type N_SECT e)) (nat_le 1 e.n_sect && nat_le e.n_sect (num_sections (object_of l s.file))) rule
         (ap not inside) in
         let low = leb-true 1 e.n_sect (and_left (nat_le 1 e.n_sect) _ exists) in
         let high = leb-true e.n_sect (num_sections (object_of l s.file)) (and_right (nat_le 1 e.n_sect) _ exists) in
@@ -226,7 +228,7 @@ of_strong l name s h =
     let test = passes_filter (λ t. is_strong l t && has_name l name t) (symbols_of l) s h in
     record {
       there = in_unfiltered (λ t. is_strong l t && has_name l name t) (symbols_of l) s h;
-      global = and_left (is_global (entry_at l s)) (stands_in_carried l s || is_absolute (entry_at l s))
+      global = and_left (is_global (entry_at l s)) (stands_in_carried l s || has_type N_ABS (entry_at l s))
           (and_left (is_definition l s) (not (is_weak_of (entry_at l s))) (and_left (is_strong l s) (has_name l name s) test));
       named = name_is l name s (and_right (is_strong l s) (has_name l name s) test);
     }
@@ -237,7 +239,7 @@ of_weak l name s h =
     let test = passes_filter (λ t. is_weak l t && has_name l name t) (symbols_of l) s h in
     record {
       there = in_unfiltered (λ t. is_weak l t && has_name l name t) (symbols_of l) s h;
-      global = and_left (is_global (entry_at l s)) (stands_in_carried l s || is_absolute (entry_at l s))
+      global = and_left (is_global (entry_at l s)) (stands_in_carried l s || has_type N_ABS (entry_at l s))
           (and_left (is_definition l s) (is_weak_of (entry_at l s)) (and_left (is_weak l s) (has_name l name s) test));
       named = name_is l name s (and_right (is_weak l s) (has_name l name s) test);
     }
@@ -250,7 +252,7 @@ of_common l name s h =
     let test = passes_filter (λ t. is_common_of (entry_at l t) && has_name l name t) (symbols_of l) s common in
     record {
       there = in_unfiltered (λ t. is_common_of (entry_at l t) && has_name l name t) (symbols_of l) s common;
-      global = common_global (is_stab_of (entry_at l s)) (is_external_of (entry_at l s)) _ _
+      global = common_global (is_stab_of (entry_at l s)) (has_any N_EXT (entry_at l s).n_type) _ _
           (and_left (is_common_of (entry_at l s)) (has_name l name s) test);
       named = name_is l name s (and_right (is_common_of (entry_at l s)) (has_name l name s) test);
     }
@@ -289,33 +291,27 @@ name_inside l name (Some (Symbol s)) objects is =
     let f = file_of_symbol l s d.there in
     own_inside l s objects f.0 f.1 (is_chosen_one l name s is d)
 
--- a local symbol is no common
-local_common : (stab external undefined some : Bool) → (not stab && not external) ≡ true
+-- a symbol that is not global is no common
+local_common : (stab external undefined some : Bool) → (not stab && external) ≡ false
     → (not stab && undefined && external && some) ≡ true → ⊥
-local_common true external undefined some own h = true_or_false false own refl
-local_common false true undefined some own h = true_or_false false own refl
-local_common false false true some own h = true_or_false false h refl
-local_common false false false some own h = true_or_false false h refl
+local_common true external undefined some local h = true_or_false false h refl
+local_common false true undefined some local h = true_or_false true refl local
+local_common false false true some local h = true_or_false false h refl
+local_common false false false some local h = true_or_false false h refl
 
 -- what a symbol leads to
 symbol_inside : (l : Link) (s : SymbolId) → ObjectsAreWhole l → IsFileOf l s.file → s.symbol < num_symbols (object_of l s.file)
     → LeadsInside l (target_of l s)
 unfolding target_of
-symbol_inside l s objects f among = by (is_global (entry_at l s))
-    (is_local (entry_at l s) && (stands_in_carried l s || is_absolute (entry_at l s))) refl refl
+symbol_inside l s objects f among = by (is_global (entry_at l s)) refl
   where
-    own : is_local (entry_at l s) ≡ true → is_common_of (entry_at l s) ≡ true → Contains (chosen_commons l) s
-    own is_own common = absurd (local_common (is_stab_of (entry_at l s)) (is_external_of (entry_at l s)) _ _ is_own common)
+    own : is_global (entry_at l s) ≡ false → is_common_of (entry_at l s) ≡ true → Contains (chosen_commons l) s
+    own local common = absurd (local_common (is_stab_of (entry_at l s)) (has_any N_EXT (entry_at l s).n_type) _ _ local common)
 
-    by : (a b : Bool) → is_global (entry_at l s) ≡ a → (is_local (entry_at l s) &&
-        (stands_in_carried l s || is_absolute (entry_at l s))) ≡ b
-        → LeadsInside l (if a then definition_target l (imports_of l) (name_at l s)
-        (definition_of l (name_at l s)) else if b then own_target l s else target.None)
-    by true b global local_one = name_inside l (name_at l s) (definition_of l (name_at l s)) objects refl
-    by false true global local_one =
-        own_inside l s objects f among (own (and_left (is_local (entry_at l s))
-        (stands_in_carried l s || is_absolute (entry_at l s)) local_one))
-    by false false global local_one = tt
+    by : (a : Bool) → is_global (entry_at l s) ≡ a
+        → LeadsInside l (if a then definition_target l (imports_of l) (name_at l s) (definition_of l (name_at l s)) else own_target l s)
+    by true global = name_inside l (name_at l s) (definition_of l (name_at l s)) objects refl
+    by false local = own_inside l s objects f among (own local)
 
 -- what a relocation leads to
 relocation_inside : (l : Link) (s : SectionId) (r : ℕ) → ObjectsAreWhole l → Leads l s r → LeadsInside l (target_of_relocation l s r)

@@ -5,6 +5,7 @@
 use Rattle.std.proofs.Common.{◌≡◌, ℕ, zero, suc, ◌+◌, ◌-◌, ◌^◌, ◌<◌, ◌≤◌, ◌==◌, ◌&&◌, ◌||◌, not, true, false, Bool, List, refl, sym, ap, subst, ◌∙◌, arith, inl, inr, ◌⊎◌, length}
 use Rattle.std.specs.Prelude.{nat_lt, nat_le, slice_range}
 use Rattle.std.proofs.lemmas.Bool.{ltb-true, leb-true}
+use Rattle.macho_model.specs.steps.RecordTests.{relocation_number_exists}
 use Rattle.macho_records.specs.Sections.{type_of, is_zerofill}
 use Rattle.macho_records.specs.declared.constants.TheConstants.{S_THREAD_LOCAL_VARIABLES}
 use Rattle.macho_structs.specs.declared.relocations.RelocationInfo.{RelocationInfo}
@@ -12,7 +13,6 @@ use Rattle.macho_model.specs.declared.placed.PlacedSection.{PlacedSection}
 use Rattle.macho_model.specs.declared.targets.Target.{Target}
 use Rattle.macho_model.specs.declared.targets.Target.TheVariants as target
 use Rattle.macho_model.specs.Objects.{num_sections, num_symbols, section_at, section_bytes, relocation_at}
-use Rattle.macho_model.specs.ObjectRules.{relocation_number_exists}
 use Rattle.macho_model.specs.Grammar.{IsFile}
 use Rattle.macho_model.specs.ObjectLaws.{KeepsObjectRules}
 use Rattle.macho_model.proofs.ObjectLaws.{object_keeps}
@@ -20,7 +20,8 @@ use Rattle.macho_model.specs.Links.{Link, SectionId, object_of, header_at}
 use Rattle.macho_model.specs.Needs.{relocation_in}
 use Rattle.macho_model.specs.Targets.{target_of_relocation, is_defined, is_import}
 use Rattle.macho_model.specs.Fields.{Field, field_of, content_of, has_subtrahend, is_difference, is_prefix_type}
-use Rattle.macho_model.specs.Rows.{is_none, is_supported, difference_fits, has_form, addend_fits, begins_pair}
+use Rattle.macho_model.specs.Rows.{is_none, is_supported, difference_fits, has_form, begins_pair}
+use Rattle.macho_model.specs.Supported.{addend_fits}
 use Rattle.macho_model.specs.Stands.{Kind, Pointer, Difference, Branch, Page, Offset, SlotPage, SlotOffset, SlotDistance, NoKind}
 use Rattle.macho_model.specs.Placement.{Placed, id_of}
 use Rattle.macho_model.specs.Supported.{RelocationsAreSupported}

@@ -14,12 +14,14 @@ use Rattle.macho_model.specs.declared.targets.Target.TheVariants as target
 use Rattle.macho_model.specs.Objects.{num_sections, num_symbols, section_at, section_bytes}
 use Rattle.macho_model.specs.Links.{Link, SectionId, object_of, header_at, is_carried}
 use Rattle.macho_model.specs.Needs.{relocation_in, section_named, symbol_of_relocation}
-use Rattle.macho_model.specs.Targets.{target_of_relocation, target_of_symbol, target_of_section}
+use Rattle.macho_model.specs.Targets.{target_of_relocation}
 use Rattle.macho_model.specs.Fields as model
-use Rattle.macho_model.specs.Fields.{has_subtrahend, has_addend, field_of, content_of, pointer_addend, addend_of, is_difference, is_with_addend}
+use Rattle.macho_model.proofs.Words as words
+use Rattle.macho_model.specs.Fields.{has_subtrahend, has_addend, field_of, content_of, addend_of, is_difference, is_with_addend, pointer_addend}
 use Rattle.macho_model.specs.Rows.{is_none}
 use Rattle.macho_model.specs.Placement.{Placed}
 use Rattle.macho_model.proofs.EachBelow.{true_or_false}
+use Rattle.macho_model.proofs.Words.{target_of_symbol, target_of_section}
 use Rattle.macho_fields.specs.declared.field.Field.{Field}
 use Rattle.macho_fields.specs.declared.field.Near.{Near}
 use Rattle.macho_fields.specs.Looks.{Look, Tells}
@@ -119,7 +121,7 @@ same_field f g a b c d e h i =
 -- a subtrahend is what the relocation in front leads to
 subtrahend_same : (l : Link) (p : Placed) (look : Look) (s : SectionId) (r : ℕ)
     → (has_subtrahend l s r ≡ true → target_in look s.file (relocation_in l s (r - 1)) ≡ target_of_relocation l s (r - 1))
-    → subtrahend_in look s.file (subtractor_in (before (object_of l s.file) s.section r) (relocation_in l s r)) ≡ model.subtrahend_of l s r
+    → subtrahend_in look s.file (subtractor_in (before (object_of l s.file) s.section r) (relocation_in l s r)) ≡ words.subtrahend_of l s r
 subtrahend_same l p look s r same = ap (subtrahend_in look s.file) (subtractor_is l s r) ∙ by (has_subtrahend l s r) same
   where
     q : RelocationInfo

@@ -9,7 +9,8 @@ use Rattle.macho_model.specs.Needs.{relocation_in}
 use Rattle.macho_model.specs.Targets.{target_of_relocation, is_defined}
 use Rattle.macho_model.specs.Fields.{content_of, is_prefix_type}
 use Rattle.macho_model.specs.Words.{is_adrp, is_branch}
-use Rattle.macho_model.specs.Rows.{has_form, begins_pair, difference_fits, addend_fits, pointer_fits, may_be_called, defined_or_import, takes_offset, load_fits, is_supported}
+use Rattle.macho_model.specs.Rows.{has_form, begins_pair, difference_fits, pointer_fits, defined_or_import, is_supported}
+use Rattle.macho_model.specs.Supported.{addend_fits, may_be_called, takes_offset, load_fits}
 use Rattle.macho_model.proofs.EachBelow.{true_or_false}
 
 -- the row of a type, with its test

@@ -16,7 +16,7 @@ use Rattle.macho_model.specs.Words.{is_ldr}
 use Rattle.macho_model.specs.Fields.{Field}
 use Rattle.macho_model.specs.Meaning.{Same, address, IsDistance}
 use Rattle.macho_model.specs.Placement.{Placed, id_of}
-use Rattle.macho_model.specs.Stands.{IsAt, Kind, Pointer, Difference, Branch, Page, Offset, SlotPage, SlotOffset, SlotDistance, NoKind, PointerSays, LoadSays, SubtrahendIsAt, Says, Seen, is_template_offset}
+use Rattle.macho_model.specs.Stands.{IsAt, Kind, Pointer, Difference, Branch, Page, Offset, SlotPage, SlotOffset, SlotDistance, NoKind, PointerSays, LoadSays, SubtrahendIsAt, Says, is_template_offset}
 use Rattle.macho_model.specs.Values.{less}
 use Rattle.macho_model.proofs.EachBelow.{true_or_false}
 use Rattle.macho_arm64.specs.declared.kinds.FieldSize.{FieldSize}
@@ -128,16 +128,12 @@ other_goes target.Base own = refl
 other_goes (target.Absolute value) own = refl
 other_goes target.None own = refl
 
--- a field seen in its section's bytes
-abbrev pub seen_as : PlacedSection → Field → List ℕ → ℕ → Seen
-seen_as q f new input = record { place = q.address + f.offset + 0; word = le_at f.width new f.offset; input = input }
-
 -- THE field says what it is asked to.
 pub says_by_kind : (l : Link) (p : Placed) (look : Look) (q : PlacedSection) (f : Field) (start input : ℕ) (old new : List ℕ) (kind : Kind)
     → TellsAddresses p look → IsPlacedOnce p → place_in q f < 2 ^ 64 → KindFits p f input kind
     → (kind ≡ Pointer → (is_import f.target ≡ false) × IsStart (is_template_offset l (id_of q) f) p.template start)
     → le_at f.width old f.offset ≡ input → IsPut (write_in look (place_in q f) start f kind) old new
-    → Says l p 0 empty (id_of q) f (seen_as q f new input) kind
+    → Says l p 0 empty (id_of q) f (q.address + f.offset + 0) (le_at f.width new f.offset) input kind
 says_by_kind l p look q f start input old new Pointer tells once below fits begins still put =
     let own = begins refl in
     let at = subst (IsAt l p 0 empty f.target) (sym (address_told p look f.target tells))

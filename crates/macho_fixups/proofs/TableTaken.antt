@@ -18,7 +18,7 @@ use Rattle.macho_model.specs.SegmentCommand.{SegmentCommand}
 use Rattle.macho_model.specs.Images.{Table, IMPORT_FORMAT, IMPORT_ADDEND_FORMAT, fixups_header, import_entry_size}
 use Rattle.macho_model.specs.Segments.{SEGMENT_PAGE}
 use Rattle.macho_model.specs.Images.{starts_place, starts_count, starts_offset, segment_starts, segments_of, base_of}
-use Rattle.macho_model.specs.LoadRules.{starts_fit, starts_all_fit, header_known, parts_inside, table_fits}
+use Rattle.macho_model.specs.LoadRules.{starts_fit, table_fits}
 use Rattle.macho_fixups.specs.declared.run.Fixup.{Fixup}
 use Rattle.macho_fixups.specs.declared.run.FixupSegment.{FixupSegment}
 use Rattle.macho_fixups.specs.declared.imports.ImportEntry.{ImportEntry}
@@ -137,8 +137,6 @@ segment_taken base at fixups segments b t k h fits header begins is_at offsets t
           | inl none ↦ absurd (omega (arith, none, some))
           | inr high ↦ high
         ] in
-        let whole : nat_le ((fixups_header b t).starts_offset + starts_offset b t k + 22) t.size ≡ true =
-        at_most _ _ (omega (arith, starts, told.offset, end, room)) in
         let listed : nat_le ((fixups_header b t).starts_offset + starts_offset b t k + 22 + 2 * (segment_starts b t k).page_count) t.size
         ≡ true =
         at_most _ _ (omega (arith, starts, told.offset, end, room, count)) in
@@ -150,7 +148,7 @@ segment_taken base at fixups segments b t k h fits header begins is_at offsets t
         == get_or (map (λ (c : SegmentCommand). c.vmaddr) (segments_of b)) k 0) ≡ true =
         same _ _ (omega (arith, offset, base_is, above, small, address)) in
         or_right (starts_offset b t k == 0) _
-        (and_both _ _ (and_both _ _ whole listed) (and_both _ _ (and_both _ _ paged formatted) placed))
+        (and_both _ _ (and_both _ _ (and_both _ _ listed paged) formatted) placed)
 
 -- THE table is taken.
 pub table_taken : (base size : ℕ) (fixups : List Fixup) (segments : List FixupSegment) (format : ℕ) (imports : List ImportEntry)
@@ -162,7 +160,8 @@ pub table_taken : (base size : ℕ) (fixups : List Fixup) (segments : List Fixup
     → names_place fixups segments format imports ≤ size → HasTable b t base segments size → table_fits b t ≡ true
 unfolding image_starts_size
 table_taken base size fixups segments format imports b t fits entries header count offsets texts long has =
-    and_both _ _ (and_both _ _ (and_both _ _ (at_most _ _ has.inside) head) parts) all_starts
+    let head = and_both _ _ (and_both _ _ (and_both _ _ (and_both _ _ (at_most _ _ has.inside) whole) version) known) plain in
+    and_both _ _ (and_both _ _ (and_both _ _ (and_both _ _ (and_both _ _ head offsets_fit) there) entries_fit) names_fit) all_starts
   where
     starts : (fixups_header b t).starts_offset ≡ 28
     starts = ap (λ (h : ChainedFixupsHeader). h.starts_offset) header
@@ -184,27 +183,29 @@ table_taken base size fixups segments format imports b t fits entries header cou
         ap (λ (h : ChainedFixupsHeader). h.imports_offset + import_entry_size h.imports_format * h.imports_count) header in
         omega (arith, is, long, has.room)
 
-    head : header_known b t ≡ true
-    head =
-        and_both _ _ (and_both _ _ (and_both _ _ (at_most _ _ (omega (arith, long, has.room)))
-        (same _ _ (ap (λ (h : ChainedFixupsHeader). h.fixups_version) header))) known)
-        (same _ _ (ap (λ (h : ChainedFixupsHeader). h.symbols_format) header))
+    whole : nat_le 28 t.size ≡ true
+    whole = at_most _ _ (omega (arith, long, has.room))
 
-    parts : parts_inside b t ≡ true
-    parts =
-        let count_fits : nat_le ((fixups_header b t).starts_offset + 4) t.size ≡ true = at_most _ _
-        (omega (arith, long, has.room, starts)) in
-        let offsets_fit : nat_le ((fixups_header b t).starts_offset + 4 + 4 * starts_count b t) t.size ≡ true =
-        at_most _ _ (omega (arith, long, has.room, starts, count)) in
-        let there : nat_le (starts_count b t) (length (segments_of b)) ≡ true = at_most _ _ (omega (arith, count, has.agree.count)) in
-        let entries_fit : nat_le ((fixups_header b t).imports_offset
-        + import_entry_size (fixups_header b t).imports_format * (fixups_header b t).imports_count) t.size ≡ true = at_most _ _
-        imports_end in
-        let names_fit : nat_le (fixups_header b t).symbols_offset t.size ≡ true =
-        at_most _ _ (omega (arith, long, has.room, ap (λ (h : ChainedFixupsHeader). h.symbols_offset) header)) in
-        and_both _ _ (and_both _ _ (and_both _ _ (and_both _ _ count_fits offsets_fit) there) entries_fit) names_fit
+    version : ((fixups_header b t).fixups_version == 0) ≡ true
+    version = same _ _ (ap (λ (h : ChainedFixupsHeader). h.fixups_version) header)
 
-    all_starts : starts_all_fit b t ≡ true
+    plain : ((fixups_header b t).symbols_format == 0) ≡ true
+    plain = same _ _ (ap (λ (h : ChainedFixupsHeader). h.symbols_format) header)
+
+    offsets_fit : nat_le ((fixups_header b t).starts_offset + 4 + 4 * starts_count b t) t.size ≡ true
+    offsets_fit = at_most _ _ (omega (arith, long, has.room, starts, count))
+
+    there : nat_le (starts_count b t) (length (segments_of b)) ≡ true
+    there = at_most _ _ (omega (arith, count, has.agree.count))
+
+    entries_fit : nat_le ((fixups_header b t).imports_offset
+        + import_entry_size (fixups_header b t).imports_format * (fixups_header b t).imports_count) t.size ≡ true
+    entries_fit = at_most _ _ imports_end
+
+    names_fit : nat_le (fixups_header b t).symbols_offset t.size ≡ true
+    names_fit = at_most _ _ (omega (arith, long, has.room, ap (λ (h : ChainedFixupsHeader). h.symbols_offset) header))
+
+    all_starts : list_all (starts_fit b t) (range_with_len 0 (starts_count b t)) ≡ true
     all_starts =
         all_below (starts_fit b t) (starts_count b t) (λ k lt. segment_taken base (t.at + 28) fixups segments b t k
         (table_header fixups segments format imports) fits header refl refl offsets texts (omega (arith, lt, count))

@@ -5,24 +5,25 @@
 use Rattle.std.proofs.Common.{◌≡◌, ℕ, ◌+◌, ◌<◌, ◌≤◌, ◌||◌, ◌&&◌, ◌==◌, not, suc, nat_le, nat_lt, Bool, true, false, List, Option, Some}
 use Rattle.std.proofs.Common.{None, refl, sym, ap, subst, ◌∙◌, arith}
 use Rattle.std.specs.Prelude.{Contains}
-use Rattle.std.proofs.lemmas.Bool.{and_parts, leb-true, true≢false}
-use Rattle.macho_records.specs.declared.constants.TheConstants.{ARM64_RELOC_ADDEND}
-use Rattle.macho_records.specs.Symbols.{is_common_of}
+use Rattle.std.proofs.lemmas.Bool.{and_parts, leb-true, true≢false, and_from}
+use Rattle.macho_records.specs.declared.constants.TheConstants.{ARM64_RELOC_ADDEND, N_ABS, N_SECT}
+use Rattle.macho_records.specs.Symbols.{is_common_of, has_type, is_global}
+use Rattle.macho_model.specs.steps.RecordTests.{relocation_number_exists, symbol_section_exists, value_in_section}
+use Rattle.macho_model.specs.ObjectRules.{has_section}
 use Rattle.macho_model.specs.declared.targets.Target.{Target}
 use Rattle.macho_model.specs.declared.targets.Target.TheVariants as target
-use Rattle.macho_model.specs.Symbols.{is_absolute, is_in_section, is_global, is_local}
-use Rattle.macho_model.specs.ObjectRules.{value_in_section, relocation_number_exists}
 use Rattle.macho_model.specs.Objects.{num_symbols, section_at, relocation_at}
 use Rattle.macho_structs.specs.declared.relocations.RelocationInfo.{RelocationInfo}
 use Rattle.macho_model.specs.Links.{Link, SectionId, section_id, object_of, header_at, sections_of, is_carried}
 use Rattle.macho_model.specs.Resolution.{SymbolId, Definition, Symbol, Library, ImageBase, symbols_of, entry_at, name_at, definition_of}
 use Rattle.macho_model.specs.Resolution.{stands_in_carried, section_of_symbol}
 use Rattle.macho_model.specs.Needs.{relocation_in, section_named, imports_of}
-use Rattle.macho_model.specs.Targets.{place_of_symbol, own_target, definition_target, target_with, target_of, target_of_section}
+use Rattle.macho_model.specs.Targets.{own_target, definition_target, target_with, target_of}
 use Rattle.macho_model.specs.Targets.{target_of_relocation}
 use Rattle.macho_targets.specs.Laws.{IsOfLink}
 use Rattle.macho_model.specs.Grammar.{ObjectsAreRead}
 use Rattle.macho_model.proofs.ObjectLaws.{object_keeps}
+use Rattle.macho_model.proofs.Words.{place_of_symbol, target_of_section}
 use Rattle.macho_targets.proofs.OfLink.{symbol_of, section_of, symbol_there, IsSectionOf}
 use Rattle.macho_targets.proofs.Named.{defined_by, name_of_link, symbol_of_link}
 use Rattle.macho_targets.proofs.Relocations.{relocation_of_link}
@@ -55,19 +56,24 @@ symbol_inside : (l : Link) (s : SymbolId) → ObjectsAreRead l → Contains (sym
     → IsInside l (place_of_symbol l s)
 symbol_inside l s read there stands =
     let of = symbol_of l s there in
-    let own = and_parts (is_in_section (entry_at l s)) (is_carried (header_at l (section_of_symbol l s))) stands in
+    let own = and_parts (has_type N_SECT (entry_at l s)) (is_carried (header_at l (section_of_symbol l s))) stands in
+    let keeps = object_keeps (read s.file of.bytes of.input) in
+    let exists : symbol_section_exists (object_of l s.file) s.symbol ≡ true =
+    subst (λ (b : List ℕ). symbol_section_exists b s.symbol ≡ true) (sym of.object) (keeps.o5.0 s.symbol of.symbol) in
     let rule : value_in_section (object_of l s.file) s.symbol ≡ true =
-    subst (λ (b : List ℕ). value_in_section b s.symbol ≡ true) (sym of.object) ((object_keeps (read s.file of.bytes of.input)).o8 s.symbol of.symbol) in
+    subst (λ (b : List ℕ). value_in_section b s.symbol ≡ true) (sym of.object) (keeps.o8 s.symbol of.symbol) in
+    let numbered = tested (has_type N_SECT (entry_at l s)) _ own.0 exists in
     let h = header_at l (section_of_symbol l s) in
     let value = and_parts (nat_le h.addr (entry_at l s).n_value) (nat_le (entry_at l s).n_value (h.addr + h.size))
-    (tested (is_in_section (entry_at l s)) _ own.0 rule) in
+    (tested (has_type N_SECT (entry_at l s) && has_section (object_of l s.file) (entry_at l s).n_sect) _
+    (and_from (has_type N_SECT (entry_at l s)) _ own.0 numbered) rule) in
     let end = leb-true (entry_at l s).n_value (h.addr + h.size) value.1 in
     omega (arith, end)
 
 own_inside : (l : Link) (s : SymbolId) → ObjectsAreRead l → Contains (symbols_of l) s → IsInside l (own_target l s)
-own_inside l s read there = by (stands_in_carried l s) (is_absolute (entry_at l s)) (is_common_of (entry_at l s)) refl refl refl
+own_inside l s read there = by (stands_in_carried l s) (has_type N_ABS (entry_at l s)) (is_common_of (entry_at l s)) refl refl refl
   where
-    by : (x y z : Bool) → stands_in_carried l s ≡ x → is_absolute (entry_at l s) ≡ y → is_common_of (entry_at l s) ≡ z
+    by : (x y z : Bool) → stands_in_carried l s ≡ x → has_type N_ABS (entry_at l s) ≡ y → is_common_of (entry_at l s) ≡ z
         → IsInside l (own_target l s)
     by true y z e f g = rw e (symbol_inside l s read there e)
     by false true z e f g = rw (e, f) tt
@@ -86,15 +92,11 @@ name_inside l noted name read = by (definition_of l name) refl
 
 target_inside : (l : Link) (noted : List (List ℕ)) (s : SymbolId) → ObjectsAreRead l → Contains (symbols_of l) s
     → IsInside l (target_with l noted s)
-target_inside l noted s read there =
-    by (is_global (entry_at l s)) (is_local (entry_at l s) && (stands_in_carried l s || is_absolute (entry_at l s))) refl refl
+target_inside l noted s read there = by (is_global (entry_at l s)) refl
   where
-    by : (x y : Bool) → is_global (entry_at l s) ≡ x
-        → (is_local (entry_at l s) && (stands_in_carried l s || is_absolute (entry_at l s))) ≡ y
-        → IsInside l (target_with l noted s)
-    by true y e f = rw e (name_inside l noted (name_at l s) read)
-    by false true e f = rw (e, f) (own_inside l s read there)
-    by false false e f = rw (e, f) tt
+    by : (x : Bool) → is_global (entry_at l s) ≡ x → IsInside l (target_with l noted s)
+    by true e = rw e (name_inside l noted (name_at l s) read)
+    by false e = rw e (own_inside l s read there)
 
 pub symbols_have : SymbolsHavePlaces
 symbols_have l noted s read there moves =

@@ -22,8 +22,7 @@ use Rattle.macho_model.specs.Objects.{num_symbols, symbol_at, symbol_name, strin
 use Rattle.macho_model.specs.Links.{Link, Input, Object, Dylib, Stub}
 use Rattle.macho_model.specs.Resolution.{SymbolId, Definition, Symbol, Library, ImageBase, strong_of, weak_of, greatest_of, library_of_input}
 use Rattle.macho_model.specs.Resolution.{is_offered_symbol, offers, libraries_with, first_or, definition_of, DSO_HANDLE}
-use Rattle.macho_model.specs.Needs.{is_library, is_imported, imports_of, name_used, uses_of, distinct, libraries_needed}
-use Rattle.macho_model.specs.Needs.{is_needed}
+use Rattle.macho_model.specs.Needs.{is_library, is_imported, imports_of, name_used, uses_of, distinct, libraries_needed, import_library}
 use Rattle.macho_agreement.proofs.Names.{name_of-name}
 use Rattle.macho_standing.proofs.Distinct.{of_distinct}
 use Rattle.macho_standing.proofs.Members.{of_filter_map}
@@ -147,9 +146,11 @@ pub libraries_whole : LibrariesAreWhole
 unfolding libraries_needed
 libraries_whole l plain =
     contains_all (λ name. name_of name ≡ name)
-    (filter (λ library. not l.dead_strip_dylibs || is_needed l library) (distinct bytes_eq (filter_map library_of_input l.inputs)))
+    (filter (λ library. not l.dead_strip_dylibs || list_any (λ name. bytes_eq (import_library l name) library) (imports_of l))
+    (distinct bytes_eq (filter_map library_of_input l.inputs)))
     (λ name has.
-    let listed = filter_contains (λ library. not l.dead_strip_dylibs || is_needed l library)
+    let listed = filter_contains
+    (λ library. not l.dead_strip_dylibs || list_any (λ name. bytes_eq (import_library l name) library) (imports_of l))
     (distinct bytes_eq (filter_map library_of_input l.inputs)) name has in
     let made = of_filter_map library_of_input l.inputs name
     (of_distinct bytes_eq (filter_map library_of_input l.inputs) name listed.0) in

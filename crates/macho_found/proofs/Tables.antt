@@ -18,10 +18,10 @@ use Rattle.macho_model.specs.declared.placed.Counts.{Counts}
 use Rattle.macho_model.specs.declared.placed.PlacedSection.{PlacedSection}
 use Rattle.macho_model.specs.declared.placed.PlacedSegment.{PlacedSegment}
 use Rattle.macho_model.specs.declared.placed.Slot.{Slot}
-use Rattle.macho_records.specs.Sections.{is_zerofill}
+use Rattle.macho_records.specs.Sections.{is_zerofill, segment_name_of}
 use Rattle.macho_model.specs.Links.{Link, header_at}
 use Rattle.macho_model.specs.Fields.{Field, fields_of}
-use Rattle.macho_model.specs.Segments.{DATA_CONST, PAGEZERO, may_hold_pointers, segment_name, segment_names_of, SEGMENT_PAGE}
+use Rattle.macho_model.specs.Segments.{DATA_CONST, PAGEZERO, may_hold_pointers, segment_names_of, SEGMENT_PAGE}
 use Rattle.macho_model.specs.Placement.{Placed, IsPlaced, id_of, is_segment_named, slot_span, LiesInNamed, SectionLies}
 use Rattle.macho_model.specs.Order.{pages_of, pointer_pages}
 use Rattle.macho_model.specs.Values.{needs_fixup}
@@ -90,7 +90,7 @@ pointer_home l counts p q f sound has field needs =
       t,
       record {
         one = one;
-        may = named_may (segment_name l (id_of q)) t lies.2 (sound.sound.places (id_of q) f carried field needs);
+        may = named_may (segment_name_of (header_at l (id_of q))) t lies.2 (sound.sound.places (id_of q) f carried field needs);
         from = omega (arith, lies.3.from);
         to = omega (arith, lies.3.to, inside, wide, memory);
       },

@@ -11,7 +11,7 @@ use Rattle.macho_bytes.specs.Numbers.{row_bytes}
 use Rattle.macho_bytes.specs.Texts.{name_of}
 use Rattle.macho_bytes.specs.Layouts.{spelling}
 use Rattle.macho_records.specs.Layouts.{section_header}
-use Rattle.macho_records.specs.Segments.{bytes_of, text_of, segment_flags_of}
+use Rattle.macho_records.specs.Segments.{text_of, segment_flags_of}
 use Rattle.macho_records.specs.declared.header.SectionHeader.{SectionHeader}
 use Rattle.macho_records.specs.declared.constants.TheConstants.{LC_CODE_SIGNATURE, LC_DYLD_CHAINED_FIXUPS, LC_DYLD_EXPORTS_TRIE}
 use Rattle.macho_records.specs.declared.constants.TheConstants.{LC_SEGMENT_64}
@@ -32,7 +32,7 @@ abbrev pub segment_with : PlacedSegment → List SectionHeader → HeadCommand
 segment_with s headers = Segment (record {
   cmd = LC_SEGMENT_64;
   cmdsize = 72 + 80 * length headers;
-  segname = bytes_of s.name;
+  segname = s.name.0;
   vmaddr = s.address;
   vmsize = s.size;
   fileoff = s.file_offset;

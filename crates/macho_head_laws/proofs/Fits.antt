@@ -15,7 +15,7 @@ use Rattle.macho_bytes.specs.Layouts.{spelling, ReadsBack}
 use Rattle.macho_bytes.proofs.Layouts.{reads_back, length-spelling}
 use Rattle.macho_bytes.proofs.Numbers.{little_is_sound}
 use Rattle.macho_records.specs.Layouts.{segment_command, section_header, symtab_command}
-use Rattle.macho_records.specs.Segments.{bytes_of, text_of, segment_flags_of}
+use Rattle.macho_records.specs.Segments.{text_of, segment_flags_of}
 use Rattle.macho_records.specs.declared.header.SegmentCommand.{SegmentCommand}
 use Rattle.macho_records.specs.declared.header.SectionHeader.{SectionHeader}
 use Rattle.macho_records.specs.declared.constants.TheConstants.{LC_BUILD_VERSION, LC_ID_DYLIB, LC_LOAD_DYLIB, LC_MAIN}
@@ -34,7 +34,7 @@ use Rattle.macho_structs.specs.Layouts.{uuid_command, build_version_command, bui
 use Rattle.macho_model.specs.declared.placed.PlacedSegment.{PlacedSegment}
 use Rattle.macho_model.specs.Segments.{PAGEZERO, TEXT, DATA_CONST, LINKEDIT, loaded_protection_of}
 use Rattle.macho_model.specs.Signature.{uuid_written}
-use Rattle.macho_model.specs.Head.{DYLINKER, THIS_TOOL, THIS_VERSION, path_command_size, path_filled}
+use Rattle.macho_model.specs.HeadCommands.{DYLINKER, THIS_TOOL, THIS_VERSION, path_command_size, path_filled}
 use Rattle.macho_model.specs.HeadCommands.{HeadCommand, EntryPoint, Symtab, BuildVersion, size_said, uuid_for, versions_for, dylinker_for}
 use Rattle.macho_model.specs.HeadCommands.{dylib_for, rpath_for, linkedit_for}
 use Rattle.macho_commands.specs.Texts.{text_said}
@@ -106,7 +106,7 @@ segment_record : PlacedSegment → ℕ → SegmentCommand
 segment_record s n = record {
   cmd = LC_SEGMENT_64;
   cmdsize = 72 + 80 * n;
-  segname = bytes_of s.name;
+  segname = s.name.0;
   vmaddr = s.address;
   vmsize = s.size;
   fileoff = s.file_offset;
@@ -117,7 +117,7 @@ segment_record s n = record {
   flags = segment_flags_of (text_of s.name);
 }
 
-segment_back : (s : PlacedSegment) (n : ℕ) → length (bytes_of s.name) ≡ 16 → 72 + 80 * n < 2 ^ 32
+segment_back : (s : PlacedSegment) (n : ℕ) → length s.name.0 ≡ 16 → 72 + 80 * n < 2 ^ 32
     → ReadsBack segment_command (segment_record (segment_cut s) n)
 unfolding segment_record
 segment_back s n named fits =
@@ -130,13 +130,13 @@ segment_back s n named fits =
       (named, ((places, refl), (((protection_fits name, (protection_fits name, (count, (flags_fit name, tt)))), refl), tt))),
     ) refl
 
-segment_long : (s : PlacedSegment) (n : ℕ) → length (bytes_of s.name) ≡ 16
+segment_long : (s : PlacedSegment) (n : ℕ) → length s.name.0 ≡ 16
     → length (spelling segment_command (segment_record (segment_cut s) n)) ≡ 72
 unfolding segment_record
 segment_long s n named =
     length-spelling segment_command (segment_record (segment_cut s) n) little_is_sound (refl, (named, (refl, (refl, tt))))
 
-pub segment_whole : (s : PlacedSegment) (hs : List SectionHeader) → length (bytes_of s.name) ≡ 16 → All IsNamed hs
+pub segment_whole : (s : PlacedSegment) (hs : List SectionHeader) → length s.name.0 ≡ 16 → All IsNamed hs
     → IsWhole (segment_with (segment_cut s) (map header_cut hs))
 unfolding text_said segment_record
 segment_whole s hs named each =

@@ -13,7 +13,7 @@ use Rattle.std.proofs.lemmas.List.Elements.{All-map, All-same, All-append, All-n
 use Rattle.macho_bytes.specs.Texts.{name_of}
 use Rattle.macho_bytes.specs.Layouts.{reading}
 use Rattle.macho_records.specs.Layouts.{segment_command, section_header}
-use Rattle.macho_records.specs.Segments.{bytes_of, text_of, name_field}
+use Rattle.macho_records.specs.Segments.{text_of, name_field}
 use Rattle.macho_records.specs.declared.header.SectionHeader.{SectionHeader}
 use Rattle.macho_records.specs.declared.constants.TheConstants.{LC_SEGMENT_64}
 use Rattle.macho_model.specs.declared.placed.Counts.{Counts}
@@ -77,15 +77,15 @@ abbrev Short : SegmentPlace → Type 0
 Short s = length s.name ≤ 16
 
 pub segments_named : (l : Link) (counts : Counts) (b : List ℕ) (p : Placed) → StandInOrder l counts p → SegmentsAgree b p
-    → All (λ s. length (bytes_of s.name) ≡ 16) p.segments
+    → All (λ s. length s.name.0 ≡ 16) p.segments
 unfolding segments_of
 segments_named l counts b p order agree = λ k d lt.
     let s : PlacedSegment = get_or p.segments k d in
-    let filled : bytes_of s.name ≡ name_field (text_of s.name) =
-    each_same (λ (t : PlacedSegment). bytes_of t.name) (λ (t : PlacedSegment). name_field (text_of t.name)) p.segments alike k d lt in
+    let filled : s.name.0 ≡ name_field (text_of s.name) =
+    each_same (λ (t : PlacedSegment). t.name.0) (λ (t : PlacedSegment). name_field (text_of t.name)) p.segments alike k d lt in
     ap length filled ∙ filled_is (text_of s.name) (omega (arith, name_short (text_of s.name), texts k d lt))
   where
-    alike : map (λ (t : PlacedSegment). bytes_of t.name) p.segments ≡ map (λ (t : PlacedSegment). name_field (text_of t.name)) p.segments
+    alike : map (λ (t : PlacedSegment). t.name.0) p.segments ≡ map (λ (t : PlacedSegment). name_field (text_of t.name)) p.segments
     alike = order.names ∙ ap (map name_field) (sym order.segments)
         ∙ map_twice name_field (λ (t : PlacedSegment). text_of t.name) p.segments
 

@@ -8,7 +8,7 @@ use Rattle.std.specs.Prelude.{if◌then◌else◌, Option, Some, None, IfSome}
 use Rattle.std.proofs.lemmas.List.Elements.{All-map, All-append, All-cons, All-nil, All-filter}
 use Rattle.std.specs.Str.{bytes_eq}
 use Rattle.macho_bytes.specs.Texts.{name_of}
-use Rattle.macho_records.specs.Segments.{bytes_of, text_of}
+use Rattle.macho_records.specs.Segments.{text_of}
 use Rattle.macho_records.specs.declared.header.SectionHeader.{SectionHeader}
 use Rattle.macho_records.specs.declared.constants.TheConstants.{LC_CODE_SIGNATURE, LC_DYLD_CHAINED_FIXUPS, LC_DYLD_EXPORTS_TRIE}
 use Rattle.macho_records.specs.declared.constants.TheConstants.{LC_ID_DYLIB, LC_LOAD_DYLIB, LC_MAIN}
@@ -28,7 +28,7 @@ use Rattle.macho_head_laws.proofs.Alike.{segment_with, headers_cut}
 use Rattle.macho_head_laws.proofs.Fits.{IsWhole, IsNamed, segment_whole, entry_point_whole, uuid_whole, versions_whole, dylinker_whole}
 use Rattle.macho_head_laws.proofs.Fits.{dylib_whole, rpath_whole, linkedit_whole, symtab_whole}
 
-segments : (l : Link) (p : Placed) → All (λ s. length (bytes_of s.name) ≡ 16) p.segments → All IsNamed p.output_sections
+segments : (l : Link) (p : Placed) → All (λ s. length s.name.0 ≡ 16) p.segments → All IsNamed p.output_sections
     → All IsWhole (map (segment_for (placed_cut l p)) (placed_cut l p).segments)
 segments l p named headers =
     All-map IsWhole (segment_for (placed_cut l p)) (placed_cut l p).segments
@@ -82,7 +82,7 @@ tables l counts p trie =
 
 -- THE commands
 pub commands_whole : (l : Link) (counts : Counts) (p : Placed) (uuid : List ℕ) (trie : ℕ)
-    → All (λ s. length (bytes_of s.name) ≡ 16) p.segments → All IsNamed p.output_sections
+    → All (λ s. length s.name.0 ≡ 16) p.segments → All IsNamed p.output_sections
     → IfSome l.versions (λ v. (v.0 < 2 ^ 32) × (v.1 < 2 ^ 32))
     → All IsWhole (commands_for l (counts_cut counts) (placed_cut l p) uuid (trie % 2 ^ 32))
 unfolding commands_for

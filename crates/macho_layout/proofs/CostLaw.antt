@@ -13,6 +13,7 @@ use Rattle.std.proofs.lemmas.List.{length-map, append-nil, length_push}
 use Rattle.std.proofs.lemmas.List.Elements.{filter_passes, recursion_from_All}
 use Rattle.std.proofs.lemmas.List.Folds.{fold-map}
 use Rattle.std.proofs.lemmas.List.Sums.{sum-map, sum_by-cons}
+use Rattle.std.specs.Prelude.{codes}
 use Rattle.macho_bytes.specs.Texts.{name_of}
 use Rattle.macho_bytes.specs.Layouts.{size_of}
 use Rattle.macho_records.specs.Layouts.{mach_header, segment_command, section_header}
@@ -20,12 +21,13 @@ use Rattle.macho_records.specs.Segments.{name_field}
 use Rattle.macho_records.specs.Sections.{is_template_type, type_of}
 use Rattle.macho_model.specs.declared.placed.Counts.{Counts}
 use Rattle.macho_model.specs.Links.{Link, SectionId, header_at, sections_of, carried_of, is_carried, is_template, template_exponent, placed_exponent, greatest}
-use Rattle.macho_model.specs.Resolution.{chosen_commons}
+use Rattle.macho_model.specs.Resolution.{chosen_commons, SymbolId, entry_at}
 use Rattle.macho_model.specs.Targets.{stubs_of}
 use Rattle.macho_model.specs.declared.targets.Target.TheVariants as target
 use Rattle.macho_model.specs.Needs.{distinct}
-use Rattle.macho_model.specs.Segments.{DATA, COMMON, SEGMENT_PAGE, segment_names_of, same_key, key_of, common_key, output_keys_of, output_count as link_outputs, list_if, one_if, OutputKey}
-use Rattle.macho_model.specs.WrittenSum.{section_cost as link_cost, common_cost, content_sum as link_content, command_sum as link_commands, unsigned_sum as link_unsigned, written_sum_of, file_segments}
+use Rattle.macho_records.specs.Symbols.{common_exponent_of, common_size_of}
+use Rattle.macho_model.specs.Segments.{DATA, SEGMENT_PAGE, segment_names_of, same_key, key_of, common_key, output_keys_of, output_count as link_outputs, list_if, one_if, OutputKey}
+use Rattle.macho_model.specs.WrittenSum.{padding_of, section_cost as link_cost, content_sum as link_content, command_sum as link_commands, unsigned_sum as link_unsigned, written_sum_of}
 use Rattle.macho_layout.specs.declared.spec.SectionSpec.{SectionSpec}
 use Rattle.macho_layout.specs.declared.spec.CommonSpec.{CommonSpec}
 use Rattle.macho_layout.specs.declared.spec.StubSpec.{StubSpec}
@@ -59,11 +61,11 @@ key-decides a b = (
 pub common_agrees : (l : Link) (s : SectionId) → same_output COMMON_NAME (output_key l s) ≡ same_key common_key (key_of (header_at l s))
 common_agrees l s =
     let h = header_at l s in
-    ap (λ (t : Bool). t && (same_segment (padded COMMON) (output_key l s).name && (1 == (output_key l s).kind)))
+    ap (λ (t : Bool). t && (same_segment (padded (codes "__common")) (output_key l s).name && (1 == (output_key l s).kind)))
     (fields_agree DATA (name_field (header_at l s).segname) ∙ ap (bytes_eq DATA) (name_in_field (header_at l s).segname))
     ∙ ap (λ (t : Bool). bytes_eq DATA (name_of (header_at l s).segname) && (t && (1 == (output_key l s).kind)))
-    (fields_agree COMMON (header_at l s).sectname)
-    ∙ and_group (bytes_eq DATA (name_of (header_at l s).segname)) (bytes_eq COMMON (name_of (header_at l s).sectname))
+    (fields_agree (codes "__common") (header_at l s).sectname)
+    ∙ and_group (bytes_eq DATA (name_of (header_at l s).segname)) (bytes_eq (codes "__common") (name_of (header_at l s).sectname))
     (1 == type_of (header_at l s))
 
 -- as many merged output sections
@@ -177,6 +179,13 @@ pub all_carried : (l : Link) (f g : SectionId → ℕ) → ((s : SectionId) → 
 unfolding carried_of
 all_carried l f g e = recursion_from_All (λ s. f s ≡ g s) (filter (λ s. is_carried (header_at l s)) (sections_of l))
     (λ k d low. e _ (filter_passes (λ s. is_carried (header_at l s)) (sections_of l) k d low))
+
+-- what a common costs, and how many segments are mapped from the file
+abbrev common_cost : Link → SymbolId → ℕ
+common_cost l s = common_size_of (entry_at l s) + padding_of (common_exponent_of (entry_at l s))
+
+abbrev file_segments : Link → ℕ
+file_segments l = length (segment_names_of l) - one_if l.executable
 
 -- sections and commons cost the same
 members_same : (l : Link) (p : Planning) → IsPlanOf l p → members_cost p ≡ sum_by (link_cost l) (carried_of l) + sum_by (common_cost l)

@@ -15,12 +15,12 @@ use Rattle.std.proofs.lemmas.List.FromFn.{length-enumerate_from}
 use Rattle.macho_bytes.specs.Texts.{name_of}
 use Rattle.macho_records.specs.declared.segments.SegmentName.{SegmentName}
 use Rattle.macho_records.specs.Segments.{name_field}
-use Rattle.macho_records.specs.Sections.{type_of}
+use Rattle.macho_records.specs.Sections.{type_of, segment_name_of}
 use Rattle.macho_model.specs.Links.{Link, SectionId, header_at, carried_of}
 use Rattle.macho_model.specs.Resolution.{chosen_commons}
 use Rattle.macho_model.specs.Targets.{slots_of}
 use Rattle.macho_model.specs.Needs.{distinct}
-use Rattle.macho_model.specs.Segments.{PAGEZERO, TEXT, DATA_CONST, DATA, LINKEDIT, segment_name, is_known_segment, other_segments, has_section_in, segment_names_of, same_key, key_of, list_if, one_if}
+use Rattle.macho_model.specs.Segments.{PAGEZERO, TEXT, DATA_CONST, DATA, LINKEDIT, is_known_segment, other_segments, has_section_in, segment_names_of, same_key, key_of, list_if, one_if}
 use Rattle.macho_layout.specs.declared.spec.SectionSpec.{SectionSpec}
 use Rattle.macho_layout.specs.declared.spec.OutputName.{OutputName}
 use Rattle.macho_layout.specs.Plans.{Planning, IsPlanOf, spec_of, common_spec_of}
@@ -40,8 +40,9 @@ output_key l s = output_key_of (spec_of l s)
 pub twice : (x : List ℕ) → name_of (name_field (name_field x)) ≡ name_of x
 twice x = name_in_field (name_field x) ∙ name_in_field x
 
-pub segments_agree : (l : Link) (a b : SectionId) → same_segment (segment_key l a) (segment_key l b) ≡ bytes_eq (segment_name l a)
-    (segment_name l b)
+pub segments_agree : (l : Link) (a b : SectionId) → same_segment (segment_key l a) (segment_key l b)
+    ≡ bytes_eq (segment_name_of (header_at l a))
+    (segment_name_of (header_at l b))
 segments_agree l a b =
     fields_agree (name_field (header_at l a).segname) (name_field (header_at l b).segname)
     ∙ ap (λ (n : List ℕ). bytes_eq n (name_of (name_field (header_at l b).segname))) (name_in_field (header_at l a).segname)
@@ -56,14 +57,15 @@ pub outputs_agree : (l : Link) (a b : SectionId) → same_output (output_key l a
 outputs_agree l a b =
     ap (λ (t : Bool). t && (same_segment (output_key l a).name (output_key l b).name && ((output_key l a).kind == (output_key l b).kind)))
     (segments_agree l a b)
-    ∙ ap (λ (t : Bool). bytes_eq (segment_name l a) (segment_name l b) && (t && ((output_key l a).kind == (output_key l b).kind)))
+    ∙ ap (λ (t : Bool). bytes_eq (segment_name_of (header_at l a)) (segment_name_of (header_at l b))
+    && (t && ((output_key l a).kind == (output_key l b).kind)))
     (fields_agree (header_at l a).sectname (header_at l b).sectname)
-    ∙ and_group (bytes_eq (segment_name l a) (segment_name l b)) (bytes_eq (name_of (header_at l a).sectname)
+    ∙ and_group (bytes_eq (segment_name_of (header_at l a)) (segment_name_of (header_at l b))) (bytes_eq (name_of (header_at l a).sectname)
     (name_of (header_at l b).sectname)) (type_of (header_at l a) == type_of (header_at l b))
 
 -- carried sections, one of each segment, and one of each output section
 abbrev pub segments_once : Link → List SectionId
-segments_once l = distinct (λ a b. bytes_eq (segment_name l a) (segment_name l b)) (carried_of l)
+segments_once l = distinct (λ a b. bytes_eq (segment_name_of (header_at l a)) (segment_name_of (header_at l b))) (carried_of l)
 
 abbrev pub outputs_once : Link → List SectionId
 outputs_once l = distinct (λ a b. same_key (key_of (header_at l a)) (key_of (header_at l b))) (carried_of l)
@@ -75,7 +77,7 @@ segments_are l p plan =
     ∙ ap (distinct same_segment) (map_map segment_key_of (spec_of l) (carried_of l))
     ∙ distinct_map same_segment (segment_key l) (carried_of l)
     ∙ ap (map (segment_key l)) (distinct_agree (λ a b. same_segment (segment_key l a) (segment_key l b))
-    (λ a b. bytes_eq (segment_name l a) (segment_name l b)) (segments_agree l) (carried_of l))
+    (λ a b. bytes_eq (segment_name_of (header_at l a)) (segment_name_of (header_at l b))) (segments_agree l) (carried_of l))
 
 pub outputs_are : (l : Link) (p : Planning) → IsPlanOf l p → section_outputs p ≡ map (output_key l) (outputs_once l)
 unfolding outputs_seen
@@ -92,14 +94,16 @@ unfolding other_segments
 others_many l p plan =
     let mine : filter is_other (section_segments p) ≡ map (segment_key l) (filter (λ s. is_other (segment_key l s)) (segments_once l))
     = ap (filter is_other) (segments_are l p plan) ∙ filter_map_is is_other (segment_key l) (segments_once l) in
-    let theirs : filter (λ name. not (is_known_segment name)) (distinct bytes_eq (map (segment_name l) (carried_of l)))
-    ≡ map (segment_name l) (filter (λ s. not (is_known_segment (segment_name l s))) (segments_once l))
-    = ap (filter (λ name. not (is_known_segment name))) (distinct_map bytes_eq (segment_name l) (carried_of l))
-    ∙ filter_map_is (λ name. not (is_known_segment name)) (segment_name l) (segments_once l) in
-    let same = filter_agree (λ s. is_other (segment_key l s)) (λ s. not (is_known_segment (segment_name l s)))
+    let theirs : filter (λ name. not (is_known_segment name))
+    (distinct bytes_eq (map (λ s. segment_name_of (header_at l s)) (carried_of l)))
+    ≡ map (λ s. segment_name_of (header_at l s)) (filter (λ s. not (is_known_segment (segment_name_of (header_at l s)))) (segments_once l))
+    = ap (filter (λ name. not (is_known_segment name))) (distinct_map bytes_eq (λ s. segment_name_of (header_at l s)) (carried_of l))
+    ∙ filter_map_is (λ name. not (is_known_segment name)) (λ s. segment_name_of (header_at l s)) (segments_once l) in
+    let same = filter_agree (λ s. is_other (segment_key l s)) (λ s. not (is_known_segment (segment_name_of (header_at l s))))
     (λ s. ap (λ (n : List ℕ). not (is_known_segment n)) (twice (header_at l s).segname)) (segments_once l) in
     ap length mine ∙ length-map (filter (λ s. is_other (segment_key l s)) (segments_once l)) (segment_key l) ∙ ap length same
-    ∙ sym (ap length theirs ∙ length-map (filter (λ s. not (is_known_segment (segment_name l s))) (segments_once l)) (segment_name l))
+    ∙ sym (ap length theirs ∙ length-map (filter (λ s. not (is_known_segment (segment_name_of (header_at l s)))) (segments_once l))
+    (λ s. segment_name_of (header_at l s)))
 
 pub bytes_turn : (a b : List ℕ) → bytes_eq a b ≡ bytes_eq b a
 bytes_turn a b =
@@ -110,15 +114,18 @@ bytes_turn a b =
 pub segment_there : (l : Link) (p : Planning) (name : List ℕ) → IsPlanOf l p → name_of name ≡ name → has_segment p (padded name)
     ≡ has_section_in l name
 segment_there l p name plan whole =
-    let agree : (s : SectionId) → same_segment (padded name) (segment_key l s) ≡ bytes_eq (segment_name l s) name
+    let agree : (s : SectionId) → same_segment (padded name) (segment_key l s) ≡ bytes_eq (segment_name_of (header_at l s)) name
     = λ s. fields_agree name (name_field (header_at l s).segname) ∙ ap
     (λ (n : List ℕ). bytes_eq n (name_of (name_field (header_at l s).segname))) whole
-    ∙ ap (bytes_eq name) (name_in_field (header_at l s).segname) ∙ bytes_turn name (segment_name l s) in
+    ∙ ap (bytes_eq name) (name_in_field (header_at l s).segname) ∙ bytes_turn name (segment_name_of (header_at l s)) in
     ap (list_any (same_segment (padded name))) (segments_are l p plan)
     ∙ any_map (same_segment (padded name)) (segment_key l) (segments_once l)
-    ∙ any_agree (λ s. same_segment (padded name) (segment_key l s)) (λ s. bytes_eq (segment_name l s) name) agree (segments_once l)
-    ∙ any_distinct (λ a b. bytes_eq (segment_name l a) (segment_name l b)) (λ s. bytes_eq (segment_name l s) name)
-    (λ a b t. ap (λ (n : List ℕ). bytes_eq n name) ((bytes_eq-Decides (segment_name l a) (segment_name l b)).0 t)) (carried_of l)
+    ∙ any_agree (λ s. same_segment (padded name) (segment_key l s)) (λ s. bytes_eq (segment_name_of (header_at l s)) name) agree
+    (segments_once l)
+    ∙ any_distinct (λ a b. bytes_eq (segment_name_of (header_at l a)) (segment_name_of (header_at l b)))
+    (λ s. bytes_eq (segment_name_of (header_at l s)) name)
+    (λ a b t. ap (λ (n : List ℕ). bytes_eq n name) ((bytes_eq-Decides (segment_name_of (header_at l a))
+    (segment_name_of (header_at l b))).0 t)) (carried_of l)
 
 pub or_turn : (a b : Bool) → (a || b) ≡ (b || a)
 or_turn true true = refl

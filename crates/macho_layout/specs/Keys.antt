@@ -1,9 +1,7 @@
 -- The names that sections are merged by, as the tables hold them.
-use Rattle.std.specs.Prelude.{ℕ, List, map, Bool, ◌&&◌, ◌==◌}
+use Rattle.std.specs.Prelude.{ℕ, List, map, Bool, ◌&&◌, ◌==◌, ◌%◌}
 use Rattle.std.specs.Str.{bytes_eq}
 use Rattle.macho_records.specs.declared.segments.SegmentName.{SegmentName}
-use Rattle.macho_records.specs.Sections.{section_type}
-use Rattle.macho_records.specs.Segments.{bytes_of}
 pub use Rattle.macho_rows.specs.Rows.{padded}
 use Rattle.macho_model.specs.Needs.{distinct}
 use Rattle.macho_layout.specs.declared.spec.SectionSpec.{SectionSpec}
@@ -11,10 +9,10 @@ use Rattle.macho_layout.specs.declared.spec.OutputName.{OutputName}
 use Rattle.macho_layout.specs.declared.spec.Planned.{Planned}
 
 abbrev pub segment_key_of : SectionSpec → SegmentName
-segment_key_of s = padded (bytes_of s.segment)
+segment_key_of s = padded s.segment.0
 
 abbrev pub output_key_of : SectionSpec → OutputName
-output_key_of s = record { segment = segment_key_of s; name = padded s.name; kind = section_type s.flags }
+output_key_of s = record { segment = segment_key_of s; name = padded s.name; kind = s.flags % 256 }
 
 abbrev pub same_segment : SegmentName → SegmentName → Bool
 same_segment a b = bytes_eq a.0 b.0

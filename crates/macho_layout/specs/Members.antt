@@ -1,8 +1,8 @@
 -- The members of output sections.
-use Rattle.std.specs.Prelude.{ℕ, ◌==◌, if◌then◌else◌, List, ◌++◌, map, filter, fold, max}
+use Rattle.std.specs.Prelude.{ℕ, ◌==◌, if◌then◌else◌, List, ◌++◌, map, filter, fold, max, ◌%◌}
 use Rattle.std.specs.List.{range_with_len, position_or_len}
 use Rattle.macho_records.specs.declared.constants.TheConstants.{S_THREAD_LOCAL_VARIABLES}
-use Rattle.macho_records.specs.Sections.{section_type, is_template_type}
+use Rattle.macho_records.specs.Sections.{is_template_type}
 use Rattle.macho_cells.specs.declared.members.Member.{Member}
 use Rattle.macho_layout.specs.declared.spec.SectionSpec.{SectionSpec}
 use Rattle.macho_layout.specs.declared.spec.CommonSpec.{CommonSpec}
@@ -11,7 +11,7 @@ use Rattle.macho_layout.specs.Keys.{same_output, output_key_of}
 use Rattle.macho_layout.specs.Names.{section_outputs, merged_count, output_at, common_output}
 
 abbrev pub type_of_spec : SectionSpec → ℕ
-type_of_spec s = section_type s.flags
+type_of_spec s = s.flags % 256
 
 -- the alignment of the template
 unfoldable pub template_align : Planning → ℕ

@@ -1,10 +1,10 @@
 -- The names of segments and output sections of a plan.
-use Rattle.std.specs.Prelude.{ℕ, ◌+◌, ◌==◌, ◌&&◌, ◌||◌, not, Bool, List, [], ◌∷◌, ◌++◌, filter, length, get_or}
+use Rattle.std.specs.Prelude.{ℕ, ◌+◌, ◌==◌, ◌&&◌, ◌||◌, not, Bool, List, [], ◌∷◌, ◌++◌, filter, length, get_or, codes}
 use Rattle.std.specs.List.{list_any, position_or_len}
 use Rattle.macho_records.specs.declared.segments.SegmentName.{SegmentName}
 use Rattle.macho_records.specs.declared.constants.TheConstants.{S_ZEROFILL}
 use Rattle.macho_records.specs.Segments.{text_of}
-use Rattle.macho_model.specs.Segments.{TEXT, DATA_CONST, DATA, COMMON, is_known_segment, list_if, one_if}
+use Rattle.macho_model.specs.Segments.{TEXT, DATA_CONST, DATA, is_known_segment, list_if, one_if}
 use Rattle.macho_layout.specs.declared.spec.OutputName.{OutputName}
 use Rattle.macho_layout.specs.Plans.{Planning}
 use Rattle.macho_layout.specs.Keys.{padded, same_segment, same_output, segments_seen, outputs_seen}
@@ -40,7 +40,7 @@ abbrev pub section_outputs : Planning → List OutputName
 section_outputs p = outputs_seen p.sections
 
 abbrev pub COMMON_NAME : OutputName
-COMMON_NAME = record { segment = padded DATA; name = padded COMMON; kind = S_ZEROFILL }
+COMMON_NAME = record { segment = padded DATA; name = padded (codes "__common"); kind = S_ZEROFILL }
 
 abbrev pub has_new_commons : Planning → Bool
 has_new_commons p = not (length p.commons == 0) && not (list_any (same_output COMMON_NAME) (section_outputs p))

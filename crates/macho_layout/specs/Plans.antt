@@ -1,9 +1,8 @@
 -- What is to be placed, in plain lists, and whose plan it is.
-use Rattle.std.specs.Prelude.{◌≡◌, ℕ, ◌==◌, ◌||◌, Bool, true, false, List, [], ◌∷◌, ◌++◌, map, All}
+use Rattle.std.specs.Prelude.{◌≡◌, ℕ, ◌==◌, ◌||◌, Bool, true, false, List, [], ◌∷◌, ◌++◌, map, All, ◌%◌}
 use Rattle.std.specs.Str.{bytes_eq}
 use Rattle.std.specs.List.{enumerate_from}
 use Rattle.macho_records.specs.Segments.{name_field, text_of}
-use Rattle.macho_records.specs.Sections.{section_type}
 use Rattle.macho_records.specs.declared.constants.TheConstants.{S_THREAD_LOCAL_REGULAR, S_THREAD_LOCAL_ZEROFILL, S_THREAD_LOCAL_VARIABLES}
 use Rattle.macho_model.specs.Segments.{PAGEZERO, LINKEDIT, DATA}
 use Rattle.macho_records.specs.Symbols.{common_exponent_of, common_size_of}
@@ -73,4 +72,4 @@ is_thread_local type = type == S_THREAD_LOCAL_REGULAR || type == S_THREAD_LOCAL_
 pub record MayStand (s : SectionSpec) : Type 0 where
   pub not_zero_page : bytes_eq (text_of s.segment) PAGEZERO ≡ false
   pub not_tables : bytes_eq (text_of s.segment) LINKEDIT ≡ false
-  pub thread_local : is_thread_local (section_type s.flags) ≡ true → bytes_eq (text_of s.segment) DATA ≡ true
+  pub thread_local : is_thread_local (s.flags % 256) ≡ true → bytes_eq (text_of s.segment) DATA ≡ true

@@ -1,6 +1,5 @@
 //! The parts of a link that get addresses, and what sections are merged by.
 ghost use Rattle.std.specs.Prelude.{◌≡◌};
-ghost use Rattle.macho_records.specs.Sections.{section_type};
 ghost use Rattle.macho_layout.specs.Keys.{output_key_of, segment_key_of};
 
 use macho_records::{SectionFlags, SegmentName};

@@ -14,9 +14,10 @@ use Rattle.macho_model.specs.Fixups.{own_entries, import_entries_of, entries_hav
 use Rattle.macho_model.specs.Images.{import_entry_size}
 use Rattle.macho_model.specs.Signature.{identifier_text}
 use Rattle.macho_model.specs.Segments.{one_if}
-use Rattle.macho_model.specs.Head.{DYLINKER, path_command_size}
+use Rattle.macho_model.specs.HeadCommands.{DYLINKER, path_command_size, own_commands_size, versions_size}
 use Rattle.macho_symbols.specs.declared.solved.Import.{Import}
-use Rattle.macho_parts.specs.Sizes.{commands_size, own_commands_size, versions_size, padding_size, text_size, counts_with}
+use Rattle.macho_commands.proofs.LinkCommands.{length-link_commands}
+use Rattle.macho_parts.specs.Sizes.{commands_size, padding_size, text_size, counts_with}
 use Rattle.macho_linkedit.specs.declared.counting.SizesAsked.{SizesAsked}
 use Rattle.macho_linkedit.specs.Imports.{texts, name_bytes}
 use Rattle.macho_linkedit.specs.Counting.{AreArguments, AreAsked}
@@ -56,7 +57,7 @@ unfolding commands_size
 commands_is l a are =
     let libraries = sum_texts (path_command_size 24) a.libraries.now ∙ ap (sum_by (path_command_size 24)) are.libraries in
     let rpaths = sum_texts (path_command_size 12) a.arguments.rpaths.now ∙ ap (sum_by (path_command_size 12)) are.arguments.rpaths in
-    omega (arith, own_is l a are.arguments, versions_is l a are.arguments, libraries, rpaths)
+    omega (arith, own_is l a are.arguments, versions_is l a are.arguments, libraries, rpaths, length-link_commands l [] 0)
 
 padding_is : (l : Link) (a : SizesAsked) → AreAsked l a → padding_asked a ≡ padding_size l
 padding_is l a are = ap (λ (b : Bool). if b then inner a.arguments.executable else 0) are.arguments.headerpad ∙ ap

@@ -5,18 +5,19 @@
 use Rattle.std.proofs.Common.{◌≡◌, ℕ, ◌-◌, ◌≤◌, Bool, true, false, if◌then◌else◌, refl, sym, ap, arith}
 use Rattle.std.specs.List.{position_or_len}
 use Rattle.std.specs.FinMap.{empty}
-use Rattle.macho_records.specs.Symbols.{is_weak_of, is_common_of}
+use Rattle.macho_records.specs.Symbols.{is_weak_of, is_common_of, has_type}
+use Rattle.macho_records.specs.declared.constants.TheConstants.{N_ABS}
 use Rattle.macho_model.specs.declared.targets.Target.{Target}
 use Rattle.macho_model.specs.declared.targets.Target.TheVariants as target
-use Rattle.macho_model.specs.Symbols.{is_absolute}
 use Rattle.macho_model.specs.Links.{Link}
 use Rattle.macho_model.specs.Resolution.{SymbolId, entry_at, same_symbol, stands_in_carried, chosen_commons}
 use Rattle.macho_model.specs.Needs.{imports_of}
-use Rattle.macho_model.specs.Targets.{place_of_symbol, own_target, definition_target, target_of_name}
+use Rattle.macho_model.specs.Targets.{own_target, definition_target, target_of_name}
 use Rattle.macho_model.specs.Placement.{Placed}
 use Rattle.macho_model.specs.Exports.{weak_flag}
 use Rattle.macho_model.specs.Values.{is_absolute_target}
 use Rattle.macho_model.specs.Stands.{IsAt}
+use Rattle.macho_model.proofs.Words.{place_of_symbol}
 use Rattle.macho_parts.specs.TrieSays.{from_object, from_library, ValueOf}
 use Rattle.macho_linkedit.specs.Tries.{said_of, value_said, is_thread_local}
 use Rattle.macho_linkedit.specs.Laws.{ValuesAreFound, ReexportsAreFound}
@@ -24,7 +25,7 @@ use Rattle.macho_linkedit.proofs.Numbering.{not_own}
 
 -- a symbol that defines itself isn't the image's base
 not_base : (l : Link) (s : SymbolId) → own_target l s ≡ target.Base → ⊥
-not_base l s is = by (stands_in_carried l s) (is_absolute (entry_at l s)) (is_common_of (entry_at l s)) is
+not_base l s is = by (stands_in_carried l s) (has_type N_ABS (entry_at l s)) (is_common_of (entry_at l s)) is
   where
     by : (a b c : Bool)
         → (if a then place_of_symbol l s

@@ -4,7 +4,7 @@
 -- symbols up to one more adds that one where it stands in the table, with the bytes of its name and a NUL. The objects are
 -- those of the link in order, so their symbols one behind the other are the link's.
 use Rattle.std.proofs.Common.{◌≡◌, ℕ, ◌+◌, ◌-◌, ◌^◌, ◌<◌, ◌≤◌, ◌==◌, ◌&&◌, ◌||◌, not, if◌then◌else◌, Bool, true, false, cond, List, [], ◌∷◌, ◌++◌, map, take, drop, length, get_or, refl, sym, ap, subst, ◌∙◌, arith, Option, Some, None}
-use Rattle.std.specs.Prelude.{All, Contains, filter, sum_by}
+use Rattle.std.specs.Prelude.{All, Contains, filter, sum_by, bit_and}
 use Rattle.std.specs.List.{flat_map, filter_map, cons_option, enumerate_from, position_or_len}
 use Rattle.std.proofs.lemmas.Bool.Decides.{nat_tests}
 use Rattle.std.proofs.lemmas.List.{append-nil, append_assoc, get_or_default, length-take, length-drop, map-append, take_more}
@@ -14,13 +14,14 @@ use Rattle.std.proofs.lemmas.List.Folds.{flat_map-map}
 use Rattle.std.proofs.lemmas.List.FromFn.{map-range_with_len_more, get_or-enumerate_from, length-enumerate_from}
 use Rattle.std.proofs.lemmas.List.Sums.{sum_by-append, sum_by-cons, prefix_len-le-length}
 use Rattle.macho_bytes.specs.Texts.{name_of}
-use Rattle.macho_records.specs.Symbols.{is_default_strippable_of, is_common_of}
+use Rattle.macho_records.specs.Symbols.{is_common_of, is_stab_of, has_type, is_global}
+use Rattle.macho_records.specs.Flags.{has_any}
 use Rattle.macho_records.specs.declared.symbols.SymtabEntry.{SymtabEntry}
-use Rattle.macho_model.specs.Symbols.{is_global, is_absolute}
-use Rattle.macho_model.specs.Objects.{num_symbols, symtab_of, symbol_at, symbol_name, strings_of}
+use Rattle.macho_records.specs.declared.constants.TheConstants.{N_ABS, N_EXT, N_SECT, N_TYPE, N_UNDF}
+use Rattle.macho_model.specs.Objects.{num_symbols, section_at, symtab_of, symbol_at, symbol_name, strings_of}
 use Rattle.macho_model.specs.Grammar.{IsFile}
 use Rattle.macho_model.proofs.ObjectLaws.{object_keeps, dylib_keeps}
-use Rattle.macho_model.specs.Links.{Input, Object, Dylib, Stub, Link, no_input, object_bytes, object_of}
+use Rattle.macho_model.specs.Links.{Input, Object, Dylib, Stub, Link, no_input, object_bytes, object_of, is_carried}
 use Rattle.macho_model.specs.Resolution.{SymbolId, name_at, defines, symbols_of_file, symbols_of}
 use Rattle.macho_model.specs.SymbolTable.{is_in_table, table_symbols}
 use Rattle.macho_parts.specs.Sizes.{text_size}
@@ -32,29 +33,29 @@ use Rattle.macho_linkedit.specs.declared.listing.LinkedObject.{LinkedObject}
 use Rattle.macho_linkedit.specs.declared.listing.TableSymbol.{TableSymbol}
 use Rattle.macho_linkedit.specs.declared.listing.TableSymbols.{TableSymbols}
 use Rattle.macho_linkedit.specs.Listing.{object_in, seen_object, AreObjects, id_of_symbol, HasLength, AreListed}
-use Rattle.macho_linkedit.specs.steps.Listing.{is_defined_symbol, name_length, symbols_in, Lists}
+use Rattle.macho_linkedit.specs.steps.Listing.{is_defined_symbol, is_label, name_length, symbols_in, Lists}
 use Rattle.macho_linkedit.proofs.Members.{in_map, from_filter_map}
 
 -- a symbol is in the table by what its object's bytes say
 in_table_is : (l : Link) (file k : ℕ) (b : List ℕ) → object_of l file ≡ b
     → is_in_table l (symbol_id file k)
     ≡ (is_defined_symbol b k && (if is_global (symbol_at b k) then defines l (symbol_id file k) else not
-    (is_default_strippable_of (symbol_at b k) (symbol_name b k))))
+    (is_label (symbol_name b k))))
 in_table_is l file k b is =
     subst (λ (x : List ℕ). is_in_table l (symbol_id file k)
     ≡ (is_defined_symbol x k && (if is_global (symbol_at x k) then defines l (symbol_id file k) else not
-    (is_default_strippable_of (symbol_at x k) (symbol_name x k))))) is
+    (is_label (symbol_name x k))))) is
     refl
 
 pub name_is : (l : Link) (file k : ℕ) (b : List ℕ) (listed : Bool) → object_of l file ≡ b → is_defined_symbol b k ≡ true
     → listed ≡ (if is_global (symbol_at b k) then defines l (symbol_id file k) else not
-    (is_default_strippable_of (symbol_at b k) (symbol_name b k)))
+    (is_label (symbol_name b k)))
     → name_length l (symbol_id file k) ≡ (if listed then Some (length (symbol_name b k)) else None)
 name_is l file k b listed is defined chosen =
     ap (λ (t : Bool). if t then Some (length (name_at l (symbol_id file k))) else None)
     (in_table_is l file k b is
     ∙ ap (λ (t : Bool). t && (if is_global (symbol_at b k) then defines l (symbol_id file k) else not
-    (is_default_strippable_of (symbol_at b k) (symbol_name b k)))) defined
+    (is_label (symbol_name b k)))) defined
     ∙ sym chosen)
     ∙ ap (λ (x : List ℕ). if listed then Some (length (symbol_name x k)) else None) is
 
@@ -64,14 +65,32 @@ pub global_is : (l : Link) (file k : ℕ) (b : List ℕ) (listed : Bool) → obj
     → name_length l (symbol_id file k) ≡ (if listed then Some (length (symbol_name b k)) else None)
 global_is l file k b listed is defined global chosen =
     name_is l file k b listed is defined (chosen ∙ ap (λ (t : Bool). if t then defines l (symbol_id file k) else not
-    (is_default_strippable_of (symbol_at b k) (symbol_name b k))) (sym global))
+    (is_label (symbol_name b k))) (sym global))
 
 pub local_is : (l : Link) (file k : ℕ) (b : List ℕ) (listed : Bool) → object_of l file ≡ b → is_defined_symbol b k ≡ true
-    → is_global (symbol_at b k) ≡ false → listed ≡ not (is_default_strippable_of (symbol_at b k) (symbol_name b k))
+    → is_global (symbol_at b k) ≡ false → listed ≡ not (is_label (symbol_name b k))
     → name_length l (symbol_id file k) ≡ (if listed then Some (length (symbol_name b k)) else None)
 local_is l file k b listed is defined global chosen =
     name_is l file k b listed is defined (chosen ∙ ap (λ (t : Bool). if t then defines l (symbol_id file k) else not
-    (is_default_strippable_of (symbol_at b k) (symbol_name b k))) (sym global))
+    (is_label (symbol_name b k))) (sym global))
+
+-- a symbol that is defined and not global is external in no way
+external_is : (unnamed stab external section carried absolute undefined empty label : Bool)
+    → (not unnamed && (((not stab && section) && carried) || (not stab && absolute)
+    || ((not stab && undefined) && external && not empty))) ≡ true
+    → (not stab && external) ≡ false → (not external && label) ≡ label
+external_is true true external section carried absolute undefined empty label h g = cc
+external_is false true external section carried absolute undefined empty label h g = cc
+external_is unnamed false true section carried absolute undefined empty label h g = cc
+external_is unnamed false false section carried absolute undefined empty label h g = refl
+
+pub label_is : (b : List ℕ) (k : ℕ) (name : List ℕ) → is_defined_symbol b k ≡ true → is_global (symbol_at b k) ≡ false
+    → (not (has_any N_EXT (symbol_at b k).n_type) && is_label name) ≡ is_label name
+label_is b k name defined local =
+    let e = symbol_at b k in
+    external_is (e.n_strx == 0) (is_stab_of e) (has_any N_EXT e.n_type) (bit_and e.n_type N_TYPE == N_SECT)
+    (is_carried (section_at b (e.n_sect - 1))) (bit_and e.n_type N_TYPE == N_ABS) (bit_and e.n_type N_TYPE == N_UNDF) (e.n_value == 0)
+    (is_label name) defined local
 
 pub none_is : (l : Link) (file k : ℕ) (b : List ℕ) → object_of l file ≡ b → is_defined_symbol b k ≡ false → name_length l
     (symbol_id file k) ≡ None
@@ -79,7 +98,7 @@ none_is l file k b is undefined =
     ap (λ (t : Bool). if t then Some (length (name_at l (symbol_id file k))) else None)
     (in_table_is l file k b is
     ∙ ap (λ (t : Bool). t && (if is_global (symbol_at b k) then defines l (symbol_id file k) else not
-    (is_default_strippable_of (symbol_at b k) (symbol_name b k)))) undefined)
+    (is_label (symbol_name b k)))) undefined)
 
 -- a name is shorter than its file
 file_small : (dyn : Bool) (b : List ℕ) → IsFile dyn b → length b < 2 ^ 32
@@ -115,7 +134,7 @@ named_is : (b : List ℕ) (k : ℕ) → is_defined_symbol b k ≡ true → name_
 unfolding symbol_name
 named_is b k defined = by ((symbol_at b k).n_strx == 0) defined
   where
-    by : (t : Bool) → (not t && (in_carried b (symbol_at b k) || is_absolute (symbol_at b k) || is_common_of (symbol_at b k))) ≡ true
+    by : (t : Bool) → (not t && (in_carried b (symbol_at b k) || has_type N_ABS (symbol_at b k) || is_common_of (symbol_at b k))) ≡ true
         → name_of (drop (symbol_at b k).n_strx (strings_of b)) ≡ (if t then [] else name_of (drop (symbol_at b k).n_strx (strings_of b)))
     by true h = cc
     by false h = refl

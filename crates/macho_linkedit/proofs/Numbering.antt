@@ -11,18 +11,19 @@ use Rattle.std.proofs.lemmas.List.{length-append, length-map}
 use Rattle.std.proofs.lemmas.List.Elements.{Contains-append_left, Contains-append_right}
 use Rattle.std.proofs.lemmas.List.FromFn.{length-range_with_len}
 use Rattle.std.proofs.lemmas.Slice.Eq.{bytes_eq-Decides}
-use Rattle.macho_records.specs.Symbols.{is_common_of}
+use Rattle.macho_records.specs.Symbols.{is_common_of, has_type, is_global}
+use Rattle.macho_records.specs.declared.constants.TheConstants.{N_ABS}
 use Rattle.macho_model.specs.declared.targets.Target.{Target}
 use Rattle.macho_model.specs.declared.targets.Target.TheVariants as target
-use Rattle.macho_model.specs.Symbols.{is_absolute, is_global, is_local}
 use Rattle.macho_model.specs.Links.{Link, SectionId, header_at, is_carried, carried_of}
 use Rattle.macho_model.specs.Resolution.{SymbolId, Definition, Symbol, Library, ImageBase, entry_at, name_at, same_symbol, chosen_commons, stands_in_carried, definition_of}
-use Rattle.macho_model.specs.Needs.{Use, ByRelocation, ByInitializer, ByPersonality, ByName, relocation_in, section_named, relocations_of, carried_uses, is_imported, is_library, uses_of, symbol_of_relocation, global_name, name_used, imports_of, import_number}
-use Rattle.macho_model.specs.Targets.{place_of_symbol, own_target, target_of_symbol, definition_target, target_of, target_of_relocation, target_of_section, slot_of_use, slots_of, goes_by_slot, is_import, same_target}
+use Rattle.macho_model.specs.Needs.{Use, ByRelocation, ByInitializer, ByPersonality, ByName, relocation_in, section_named, relocations_of, carried_uses, is_imported, is_library, uses_of, symbol_of_relocation, global_name, name_used, imports_of}
+use Rattle.macho_model.specs.Targets.{own_target, definition_target, target_of, target_of_relocation, slot_of_use, slots_of, goes_by_slot, is_import, same_target}
 use Rattle.macho_model.specs.Fixups.{EntryOfImport, same_entry, has_room, own_entry, own_entries, import_entries_of}
 use Rattle.macho_model.specs.Fields.{Field, field_of, is_prefix_type, fields_of}
 use Rattle.macho_model.specs.Values.{is_pointer}
 use Rattle.macho_model.proofs.EachBelow.{and_left, and_right, and_both, is_equal, equal_is}
+use Rattle.macho_model.proofs.Words.{place_of_symbol, target_of_symbol, target_of_section}
 use Rattle.macho_linkedit.proofs.Members.{in_map, from_map, in_filter, from_filter, in_flat_map, in_filter_map, from_filter_map, in_distinct, from_distinct, place_in}
 
 -- A name that a library defines, and its number.
@@ -30,11 +31,11 @@ pub record IsNamed (l : Link) (used : Option (List ℕ)) (id : ℕ) : Type 0 whe
   pub name : List ℕ
   pub is : used ≡ Some name
   pub imported : is_imported l name ≡ true
-  pub number : id ≡ import_number (imports_of l) name
+  pub number : id ≡ position_or_len (bytes_eq name) (imports_of l)
 
 -- a symbol that defines itself is no import
 pub not_own : (l : Link) (s : SymbolId) (id : ℕ) → own_target l s ≡ target.Import id → ⊥
-not_own l s id is = by (stands_in_carried l s) (is_absolute (entry_at l s)) (is_common_of (entry_at l s)) is
+not_own l s id is = by (stands_in_carried l s) (has_type N_ABS (entry_at l s)) (is_common_of (entry_at l s)) is
   where
     by : (a b c : Bool)
         → (if a then place_of_symbol l s
@@ -56,21 +57,17 @@ symbol_named l s id is = by (is_global (entry_at l s)) is
     defined None known is = cc
     defined (Some (Symbol t)) known is = absurd (not_own l t id is)
     defined (Some (Library file)) known is =
-        let same : import_number (imports_of l) (name_at l s) ≡ id = cc in
+        let same : position_or_len (bytes_eq (name_at l s)) (imports_of l) ≡ id = cc in
         record { name = name_at l s; is = refl; imported = ap is_library known; number = sym same }
     defined (Some ImageBase) known is = cc
 
     by : (b : Bool)
         → (if b then definition_target l (imports_of l) (name_at l s) (definition_of l (name_at l s))
-        else if is_local (entry_at l s) && (stands_in_carried l s || is_absolute (entry_at l s)) then own_target l s else target.None)
+        else own_target l s)
         ≡ target.Import id
         → IsNamed l (if b then Some (name_at l s) else None) id
     by true is = defined (definition_of l (name_at l s)) refl is
-    by false is = local (is_local (entry_at l s) && (stands_in_carried l s || is_absolute (entry_at l s))) is
-      where
-        local : (b : Bool) → (if b then own_target l s else target.None) ≡ target.Import id → IsNamed l None id
-        local true is = absurd (not_own l s id is)
-        local false is = cc
+    by false is = absurd (not_own l s id is)
 
 -- what a relocation names where it leads to an import
 pub relocation_named : (l : Link) (s : SectionId) (r id : ℕ) → target_of_relocation l s r ≡ target.Import id

@@ -3,10 +3,9 @@
 -- The entry is that of the link's symbol. Whether lists contain the name is asked only of a global symbol, and only its type depends on it.
 use Rattle.std.proofs.Common.{◌≡◌, ℕ, ◌&&◌, ◌||◌, not, Bool, true, false, List, refl, sym, ap, ◌∙◌}
 use Rattle.std.specs.Prelude.{if◌then◌else◌}
-use Rattle.macho_records.specs.Symbols.{is_hidden_of}
+use Rattle.macho_records.specs.Symbols.{is_hidden_of, is_global}
 use Rattle.macho_records.specs.declared.symbols.SymtabEntry.{SymtabEntry}
 use Rattle.macho_model.specs.declared.placed.Counts.{Counts}
-use Rattle.macho_model.specs.Symbols.{is_global}
 use Rattle.macho_model.specs.Objects.{symbol_at, symbol_name}
 use Rattle.macho_model.specs.Links.{Link}
 use Rattle.macho_model.specs.Exports.{is_listed}

@@ -1,7 +1,7 @@
 -- Which symbols of a link's objects stand in the symbol table, as they are listed before addresses are known.
 use Rattle.std.specs.Prelude.{◌≡◌, ℕ, ◌+◌, ◌<◌, ◌^◌, true, false, Bool, List, length, map, sum_by, All, Option, Some, None}
 use Rattle.std.specs.List.{enumerate_from, filter_map}
-use Rattle.macho_model.specs.Symbols.{is_global}
+use Rattle.macho_records.specs.Symbols.{is_global}
 use Rattle.macho_model.specs.Objects.{num_symbols, symbol_at, symbol_name}
 use Rattle.macho_model.specs.Links.{Input, Object, Dylib, Stub, Link, object_of}
 use Rattle.macho_model.specs.Resolution.{SymbolId, name_at}

@@ -1,7 +1,7 @@
 //! The sizes of a link that are known before addresses are.
 ghost use Rattle.std.specs.Prelude.{◌≡◌, ◌+◌, ◌<◌, ◌≤◌, ◌^◌, ◌==◌, if◌then◌else◌, sum_by, length, All};
 ghost use Rattle.macho_model.specs.Links.{Link};
-ghost use Rattle.macho_model.specs.Head.{path_command_size};
+ghost use Rattle.macho_model.specs.HeadCommands.{path_command_size};
 ghost use Rattle.macho_parts.specs.Sizes.{counts_with};
 ghost use Rattle.macho_linkedit.specs.Imports.{name_bytes};
 ghost use Rattle.macho_linkedit.specs.Counting.{IsPath, FitCounts, AreAsked};

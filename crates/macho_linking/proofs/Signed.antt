@@ -12,7 +12,8 @@ use Rattle.macho_model.specs.declared.placed.PlacedSegment.{PlacedSegment}
 use Rattle.macho_model.specs.Links.{Link}
 use Rattle.macho_model.specs.Faults.{last_part}
 use Rattle.macho_model.specs.Placement.{Placed}
-use Rattle.macho_model.specs.Signature.{Signed, directory_for, signature_text}
+use Rattle.macho_model.specs.Signature.{Signed, signature_text}
+use Rattle.macho_signature.specs.Sizes.{directory_for}
 use Rattle.macho_signature.specs.declared.signature.Signer.{Signer}
 use Rattle.macho_signature.specs.Sizes.{signature_size, signed_by}
 use Rattle.macho_signature.proofs.Texts.{length-signature}

@@ -17,7 +17,7 @@ use Rattle.macho_memory_walks.specs.declared.walk.Listed.TheVariants as list
 use Rattle.macho_memory_walks.specs.Readings.{IsNth, HasWord, listed, segment_there, table_there, starts_of}
 use Rattle.macho_memory_walks.specs.steps.Walks.{Leads, chain_segment_at}
 use Rattle.macho_model_walks.specs.steps.WordTests.{address_in, FitFrom}
-use Rattle.macho_model.proofs.Apart.{EndsBefore}
+use Rattle.macho_model.proofs.Apart.{EndsBefore, all_rise}
 use Rattle.macho_memory_walks.proofs.ChainSets.{page_has_start}
 use Rattle.macho_memory_walks.proofs.NumberedWalk.{numbered_segment, nth_number, nth_one, segment_has_word}
 use Rattle.macho_memory_walks.proofs.WordWalk.{on_some_page, starts_missing}
@@ -25,7 +25,7 @@ use Rattle.macho_memory_walks.proofs.WordWalk.{leads_no_lower, page_chain_found,
 use Rattle.macho_model_walks.proofs.RuleWalk.{import_count_found}
 use Rattle.macho_loader.specs.steps.Words.{StandApart, IsFittingWord, IsReached}
 use Rattle.macho_loader.specs.steps.Held.{IsOnWay}
-use Rattle.macho_loader.proofs.ChainWalks.{segments_rise, holds_address, leads_next, reached_more}
+use Rattle.macho_loader.proofs.ChainWalks.{holds_address, leads_next, reached_more}
 
 -- the segments of an accepted image stand apart
 pub stand_apart : (b : List ℕ) → IsAccepted b → StandApart b
@@ -40,7 +40,7 @@ not_before b i p j q a w v apart at_i at_j has_w has_v before =
     let one = nth_number b i p at_i in
     let other = nth_number b j q at_j in
     let ends : EndsBefore s t = rw (← one.1, ← other.1) (subst (λ x. EndsBefore x (get_or (segments_of b) j t))
-    (get_or_default (segments_of b) i t s one.0) (segments_rise b apart.rise i j t before other.0)) in
+    (get_or_default (segments_of b) i t s one.0) (all_rise (segments_of b) apart.rise i j t before other.0)) in
     let in_s = holds_address b i p a w apart at_i has_w in
     let in_t = holds_address b j q a v apart at_j has_v in
     omega (arith, ends, in_s.1, in_t.0)

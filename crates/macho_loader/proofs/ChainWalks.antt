@@ -4,20 +4,15 @@
 -- has a word at an address, and a word that fits has one next word. What it leads to is itself and what that next one leads
 -- to: the walk keeps that all fit where the rest fits. A step leads upwards, and a word that fits is in its page, so the
 -- walk ends.
-use Rattle.std.proofs.Common.{◌≡◌, ℕ, zero, suc, ◌+◌, ◌*◌, ◌-◌, ◌<◌, ◌≤◌, ◌^◌, nat_le, true, ◌&&◌, List, length, get_or, slice_index}
+use Rattle.std.proofs.Common.{◌≡◌, ℕ, ◌+◌, ◌*◌, ◌-◌, ◌<◌, ◌≤◌, ◌^◌, nat_le, true, ◌&&◌, List, length, slice_index}
 use Rattle.std.proofs.Common.{refl, sym, ap, subst, ◌∙◌, arith, inl, inr, ◌⊎◌}
-use Rattle.std.specs.Prelude.{AllPairs}
-use Rattle.std.proofs.lemmas.Bool.{cases_lt, leb-true, le-leb}
-use Rattle.std.proofs.lemmas.List.{get_or_default, get_or-map, length-map}
+use Rattle.std.proofs.lemmas.Bool.{leb-true, le-leb}
 use Rattle.macho_bytes.specs.Numbers.{le_at}
 use Rattle.macho_records.specs.declared.header.SegmentCommand.{SegmentCommand}
-use Rattle.macho_records.specs.declared.constants.TheConstants.{LC_SEGMENT_64}
-use Rattle.macho_model.specs.Commands.{Command, command_at, numbered}
 use Rattle.macho_model.specs.Images.{segments_of, tables_of, fixups_header, page_start}
 use Rattle.macho_model.specs.Segments.{SEGMENT_PAGE}
 use Rattle.macho_model.specs.Chain.{chain_segments, IsFileWord, next_of, STRIDE}
 use Rattle.macho_model.specs.Needs.{POINTER_SIZE}
-use Rattle.macho_model.specs.LoadRules.{segment_in, begins_behind}
 use Rattle.macho_model.specs.Loader.{WordFits, is_bind, ordinal_of, is_writable, import_count}
 use Rattle.macho_memory_walks.specs.declared.walk.Listed.TheVariants as list
 use Rattle.macho_memory_walks.specs.Readings.{IsNth, HasWord, segment_there, table_there, starts_in, starts_of}
@@ -25,47 +20,13 @@ use Rattle.macho_model_walks.specs.Tests.{page_holds}
 use Rattle.macho_memory_walks.specs.steps.Walks.{Leads}
 use Rattle.macho_memory_walks.specs.steps.Walks as walks
 use Rattle.macho_model_walks.specs.steps.WordTests.{address_in, FitFrom, UnfitFrom}
-use Rattle.macho_model.proofs.Apart.{EndsBefore, Holds_address, one_holds}
+use Rattle.macho_model.proofs.Apart.{Holds_address, all_rise, one_holds}
 use Rattle.macho_model.proofs.EachBelow.{and_left, and_right}
-use Rattle.macho_model.specs.Lists.{EachNext}
 use Rattle.macho_memory_walks.proofs.NumberedWalk.{word_in_segment, segment_has_word, nth_number}
 use Rattle.macho_memory_walks.proofs.WordWalk.{leads_more, starts_found, start_is}
 use Rattle.macho_model_walks.proofs.RuleWalk.{import_count_found}
 use Rattle.macho_model_walks.proofs.UnfitWords.{kept_at}
 use Rattle.macho_loader.specs.steps.Words.{StandApart, IsFittingWord, IsReached}
-
--- the step from neighbours to all
-commands_rise : (b : List ℕ) (cs : List Command) → EachNext (λ c d. begins_behind b c d ≡ true) cs → (i j : ℕ) (e : Command) → i < j → j < length cs
-    → EndsBefore (segment_in b (get_or cs i e)) (segment_in b (get_or cs j e))
-commands_rise b cs h i zero e before within = absurd (omega (arith, before))
-commands_rise b cs h i (suc m) e before within =
-    let step = h m (get_or cs m e) (get_or cs (m + 1) e) (
-      omega (arith, within),
-      get_or_default cs m (get_or cs m e) e
-          (omega (arith, within)),
-    )
-    (omega (arith, within), get_or_default cs (m + 1) (get_or cs (m + 1) e) e (omega (arith, within))) in
-    let same : m + 1 ≡ suc m = omega arith in
-    let next : EndsBefore (segment_in b (get_or cs m e)) (segment_in b (get_or cs (suc m) e)) =
-    subst (λ k. EndsBefore (segment_in b (get_or cs m e)) (segment_in b (get_or cs k e))) same
-    (leb-true ((segment_in b (get_or cs m e)).vmaddr + (segment_in b (get_or cs m e)).vmsize) (segment_in b (get_or cs (m + 1) e)).vmaddr
-    step) in
-    elim (cases_lt i m) [
-      | inl lt ↦ let so_far = commands_rise b cs h i m e lt (omega (arith, within)) in omega (arith, so_far, next)
-      | inr le ↦
-          let here : i ≡ m = omega (arith, before, le) in
-          subst (λ k. EndsBefore (segment_in b (get_or cs k e)) (segment_in b (get_or cs (suc m) e))) (sym here) next
-    ]
-
-pub segments_rise : (b : List ℕ) → EachNext (λ c d. begins_behind b c d ≡ true) (numbered LC_SEGMENT_64 b) → AllPairs EndsBefore (segments_of b)
-unfolding segments_of
-segments_rise b neighbours i j d before within =
-    let long : j < length (numbered LC_SEGMENT_64 b) = omega (arith, within, length-map (numbered LC_SEGMENT_64 b) (segment_in b)) in
-    let e : Command = get_or (numbered LC_SEGMENT_64 b) 0 (record { at = 0; number = 0; size = 0 }) in
-    let at_i = get_or-map (segment_in b) (numbered LC_SEGMENT_64 b) i e d (omega (arith, long, before)) in
-    let at_j = get_or-map (segment_in b) (numbered LC_SEGMENT_64 b) j e d long in
-    let rise = commands_rise b (numbered LC_SEGMENT_64 b) neighbours i j e before long in
-    rw (at_i, at_j) rise
 
 -- a segment that has a word there holds its address in memory
 pub holds_address : (b : List ℕ) (number place a word : ℕ) → StandApart b → IsNth list.Segments b number place
@@ -83,7 +44,7 @@ pub one_segment : (b : List ℕ) (i p j q a w v : ℕ) → StandApart b → IsNt
 one_segment b i p j q a w v apart at_i at_j has_w has_v =
     let one = nth_number b i p at_i in
     let other = nth_number b j q at_j in
-    one_holds (segments_of b) (segment_there b p) (segment_there b q) a (segments_rise b apart.rise) (i, one.0, one.1) (j, other.0, other.1)
+    one_holds (segments_of b) (segment_there b p) (segment_there b q) a (all_rise (segments_of b) apart.rise) (i, one.0, one.1) (j, other.0, other.1)
     (holds_address b i p a w apart at_i has_w) (holds_address b j q a v apart at_j has_v)
 
 -- and the word of the file is that one

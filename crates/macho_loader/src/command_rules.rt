@@ -3,6 +3,7 @@ ghost use Rattle.std.specs.Prelude.{◌≡◌, ℕ, Some, None, true};
 ghost use Rattle.macho_records.specs.declared.constants.TheConstants.{LC_SEGMENT_64};
 ghost use Rattle.macho_model.specs.Grammar.{EachCommand};
 ghost use Rattle.macho_model.specs.LoadRules.{begins_behind};
+ghost use Rattle.macho_model.specs.Loader.{segment_in};
 ghost use Rattle.macho_model.specs.Lists.{EachNext};
 ghost use Rattle.macho_model.specs.Commands.{command_at, numbered};
 ghost use Rattle.macho_memory_walks.specs.Readings.{listed};
@@ -41,7 +42,8 @@ pub(crate) fn first_failing(bytes: &[u8], asked: Asked) -> Option<u64>
 /// The place of the first segment that begins before the end of the one before it.
 pub(crate) fn first_overlapping(bytes: &[u8]) -> Option<u64>
     ensures found { (place : ℕ) → result ≡ Some place → BeginsBefore bytes.now place }
-    ensures only { result ≡ None → EachNext (λ c d. begins_behind bytes.now c d ≡ true) (numbered LC_SEGMENT_64 bytes.now) }
+    ensures only { result ≡ None
+        → EachNext (λ c d. begins_behind (segment_in bytes.now c) (segment_in bytes.now d) ≡ true) (numbered LC_SEGMENT_64 bytes.now) }
 {
     let mut at = first();
     let mut last = 0u64;

@@ -1,7 +1,8 @@
 //! The rule of the chained fixup table: it stands inside the file, its parts inside it, and all are known.
 ghost use Rattle.std.specs.Prelude.{◌≡◌, true};
-ghost use Rattle.macho_model.specs.LoadRules.{starts_all_fit, parts_inside, table_fits};
+ghost use Rattle.macho_model.specs.LoadRules.{table_fits};
 ghost use Rattle.macho_memory_walks.specs.Readings.{table_there};
+ghost use Rattle.macho_model_walks.specs.Tests.{starts_all_fit, parts_inside};
 
 use crate::cursor::{first, step_from};
 use macho_model_walks::{

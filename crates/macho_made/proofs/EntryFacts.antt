@@ -7,23 +7,26 @@ use Rattle.std.proofs.Common.{◌≡◌, ℕ, ◌+◌, ◌*◌, ◌/◌, ◌%◌
 use Rattle.std.proofs.Common.{[], ◌∷◌, length, filter, refl, sym, ap, subst, arith}
 use Rattle.std.specs.Prelude.{Contains}
 use Rattle.std.proofs.lemmas.Bool.{leb-true, ltb-true, eqb-true}
+use Rattle.macho_records.specs.Sections.{should_exclude_of}
 use Rattle.macho_lists.proofs.Members.{filter_contains, range_contains, contains_filter, contains_first}
 use Rattle.macho_model.proofs.EachBelow.{and_left, and_right}
 use Rattle.macho_model.specs.declared.rules.UnwindRule.TheVariants.{U2, U3, U4, U5, U7, U8}
-use Rattle.macho_model.specs.Links.{Link, SectionId, header_at, is_carried, is_consumed, is_unwind_entries, sections_of, carried_of}
+use Rattle.macho_model.specs.Links.{Link, SectionId, header_at, is_carried, is_unwind_entries, sections_of, carried_of}
 use Rattle.macho_model.specs.Needs.{relocation_in, section_named, relocations_of, unwind_sections, PERSONALITY_PLACE}
 use Rattle.macho_model.specs.Consumed.{EntryId, entries_of_link, relocations_in_entry, unwind_entry, is_plain_pointer, holds_functions}
-use Rattle.macho_model.specs.Consumed.{lies_in, unwind_relocation_fits, starts_in, START_PLACE, LSDA_PLACE}
+use Rattle.macho_model.specs.Consumed.{lies_in, starts_in, START_PLACE, LSDA_PLACE}
 use Rattle.macho_consumed.specs.Told.{EntriesKeepRules}
 use Rattle.macho_consumed.proofs.Tests.{passes}
 use Rattle.macho_consumed.proofs.BoundInputs.{IsInSection, in_section}
+use Rattle.macho_consumed.specs.steps.Entries.{unwind_relocation_fits}
 use Rattle.macho_model.specs.Grammar.{ObjectsAreRead}
 use Rattle.macho_made.proofs.Existing.{named_there}
 
 -- a section of entries is one of the link
 pub section_there : (l : Link) (s : SectionId) → Contains (unwind_sections l) s → Contains (sections_of l) s
 unfolding unwind_sections
-section_there l s has = (filter_contains (λ t. is_consumed (header_at l t) && is_unwind_entries (header_at l t)) (sections_of l) s has).0
+section_there l s has = (filter_contains (λ t. not (should_exclude_of (header_at l t)) && is_unwind_entries (header_at l t))
+    (sections_of l) s has).0
 
 -- a relocation at one of the three places of an entry is one of the section, and a plain pointer
 pub relocation_low : (l : Link) (d : EntryId) (place r : ℕ) → Contains (relocations_in_entry l d.of_section d.entry place) r
@@ -46,20 +49,20 @@ relocation_plain l d place r rules it small has =
 -- each place has one relocation at most
 pub few_at_start : (l : Link) (d : EntryId) → EntriesKeepRules l → IsInSection l d
     → length (relocations_in_entry l d.of_section d.entry START_PLACE) ≤ 1
-few_at_start l d rules it = leb-true _ _ (and_left _ _ (and_left _ _ (rules.unwind d.of_section d.entry U3 it.there it.within)))
+few_at_start l d rules it = leb-true _ _ (and_left _ _ (rules.unwind d.of_section d.entry U3 it.there it.within))
 
 pub few_at_personality : (l : Link) (d : EntryId) → EntriesKeepRules l → IsInSection l d
     → length (relocations_in_entry l d.of_section d.entry PERSONALITY_PLACE) ≤ 1
 few_at_personality l d rules it =
     let single = rules.unwind d.of_section d.entry U3 it.there it.within in
-    leb-true _ _ (and_right (nat_le (length (relocations_in_entry l d.of_section d.entry START_PLACE)) 1) _ (and_left _ _ single))
+    leb-true _ _ (and_left _ _ (and_right (nat_le (length (relocations_in_entry l d.of_section d.entry START_PLACE)) 1) _ single))
 
 pub few_at_lsda : (l : Link) (d : EntryId) → EntriesKeepRules l → IsInSection l d
     → length (relocations_in_entry l d.of_section d.entry LSDA_PLACE) ≤ 1
 few_at_lsda l d rules it =
     let single = rules.unwind d.of_section d.entry U3 it.there it.within in
-    leb-true _ _ (and_right (nat_le (length (relocations_in_entry l d.of_section d.entry START_PLACE)) 1 && nat_le
-    (length (relocations_in_entry l d.of_section d.entry PERSONALITY_PLACE)) 1) _ single)
+    let later = and_right (nat_le (length (relocations_in_entry l d.of_section d.entry START_PLACE)) 1) _ single in
+    leb-true _ _ (and_left _ _ (and_right (nat_le (length (relocations_in_entry l d.of_section d.entry PERSONALITY_PLACE)) 1) _ later))
 
 -- The start of an entry.
 pub record HasStart (l : Link) (d : EntryId) (r : ℕ) : Type 0 where
@@ -149,7 +152,7 @@ pub bits_clear : (l : Link) (d : EntryId) → EntriesKeepRules l → Contains (e
     → (unwind_entry l d.of_section d.entry).encoding / 2 ^ 28 % 4 ≡ 0
 bits_clear l d rules has =
     let it = in_section l d has in
-    eqb-true _ _ (and_left _ _ (and_left _ _ (and_left _ _ (rules.unwind d.of_section d.entry U8 it.there it.within))))
+    eqb-true _ _ (and_left _ _ (rules.unwind d.of_section d.entry U8 it.there it.within))
 
 -- what lies in a section of the input
 pub lies_from : (l : Link) (f : SectionId) (address size : ℕ) → lies_in l f address size ≡ true → (header_at l f).addr ≤ address

@@ -7,10 +7,10 @@ use Rattle.std.proofs.Common.{arith}
 use Rattle.std.specs.Prelude.{Contains}
 use Rattle.std.proofs.lemmas.Bool.{leb-true}
 use Rattle.std.proofs.lemmas.Bool.Decides.{nat_tests}
+use Rattle.macho_model.specs.steps.RecordTests.{relocation_number_exists, field_inside}
 use Rattle.macho_model.proofs.EachBelow.{and_left, and_right}
 use Rattle.macho_records.specs.declared.constants.TheConstants.{ARM64_RELOC_ADDEND}
 use Rattle.macho_structs.specs.declared.relocations.RelocationInfo.{RelocationInfo}
-use Rattle.macho_model.specs.ObjectRules.{relocation_number_exists, field_inside}
 use Rattle.macho_model.specs.Objects.{num_sections, num_symbols, section_at, relocation_at}
 use Rattle.macho_model.specs.Links.{Link, SectionId, object_of, header_at, is_carried, sections_of, carried_of}
 use Rattle.macho_model.specs.Needs.{relocation_in, section_named}

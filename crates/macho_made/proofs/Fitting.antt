@@ -2,7 +2,7 @@
 --
 -- The place of an address in the file is in a file part, or 0; file parts end in the file. A range that isn't empty lies in that of
 -- `__TEXT`.
-use Rattle.std.proofs.Common.{◌≡◌, ℕ, ◌+◌, ◌-◌, ◌<◌, ◌≤◌, ◌⊎◌, inl, inr, nat_le, nat_lt, Bool, true, false, cond, List, [], ◌∷◌}
+use Rattle.std.proofs.Common.{◌≡◌, ℕ, ◌+◌, ◌-◌, ◌<◌, ◌≤◌, ◌⊎◌, inl, inr, nat_le, nat_lt, Bool, true, false, cond, List, [], ◌∷◌, ◌&&◌}
 use Rattle.std.proofs.Common.{filter, refl, arith}
 use Rattle.std.specs.Prelude.{All}
 use Rattle.std.proofs.lemmas.Bool.{leb-true, ltb-true, cases_lt}
@@ -16,7 +16,7 @@ use Rattle.macho_model.specs.Links.{Link}
 use Rattle.macho_model.specs.Segments.{TEXT}
 use Rattle.macho_model.specs.Placement.{Placed, RangeLies, LiesInNamed, range_span}
 use Rattle.macho_model.specs.Lists.{of_first}
-use Rattle.macho_model.specs.Addresses.{has_in_file, offset_in_file}
+use Rattle.macho_model.specs.Addresses.{offset_in_file}
 use Rattle.macho_promise.specs.Promise.{IsLaidOut}
 use Rattle.macho_consumed.proofs.RowLaws.{are_many}
 use Rattle.macho_agreement.proofs.Room.{file_parts_end}
@@ -54,8 +54,10 @@ parts_end l counts p make =
 place_in_file : (l : Link) (counts : Counts) (p : Placed) (a : ℕ) → IsToMake l counts p → offset_in_file p a ≤ p.linkedit.signature.end
 unfolding offset_in_file
 place_in_file l counts p a make =
-    first_small (has_in_file a) (λ (s : PlacedSegment). s.file_offset + (a - s.address)) p.segments p.linkedit.signature.end
-    (contains_all (λ (s : PlacedSegment). has_in_file a s ≡ true → s.file_offset + (a - s.address) ≤ p.linkedit.signature.end) p.segments
+    first_small (λ (t : PlacedSegment). nat_le t.address a && nat_lt a (t.address + t.file_size))
+    (λ (s : PlacedSegment). s.file_offset + (a - s.address)) p.segments p.linkedit.signature.end
+    (contains_all (λ (s : PlacedSegment). (nat_le s.address a && nat_lt a (s.address + s.file_size)) ≡ true
+    → s.file_offset + (a - s.address) ≤ p.linkedit.signature.end) p.segments
     (λ s has inside.
     let end = all_contains (λ (t : PlacedSegment). t.file_offset + t.file_size ≤ p.linkedit.signature.end) p.segments s
     (parts_end l counts p make) has in

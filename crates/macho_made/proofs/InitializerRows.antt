@@ -2,17 +2,18 @@
 --
 -- A row is made of a relocation in a slot of a section of initializers. By the rules it is a plain pointer to a symbol that stands in a
 -- carried section. So what is looked up for the symbol is the relocation's target, which has an address at the base or above it.
-use Rattle.std.proofs.Common.{◌≡◌, ℕ, ◌+◌, ◌*◌, ◌/◌, ◌<◌, ◌≤◌, ◌==◌, ◌&&◌, true, refl, sym, ap, subst, ◌∙◌, arith}
+use Rattle.std.proofs.Common.{◌≡◌, ℕ, ◌+◌, ◌*◌, ◌/◌, ◌<◌, ◌≤◌, ◌==◌, ◌&&◌, true, refl, sym, ap, subst, ◌∙◌, arith, not}
 use Rattle.std.specs.Prelude.{Contains, map}
 use Rattle.std.specs.List.{range_with_len}
+use Rattle.macho_records.specs.Sections.{should_exclude_of}
 use Rattle.macho_lists.proofs.Members.{flat_map_contains, map_contains, filter_contains, range_contains}
 use Rattle.macho_model.proofs.EachBelow.{and_left, and_right}
 use Rattle.macho_model.specs.declared.targets.Target.{Target}
 use Rattle.macho_model.specs.declared.targets.Target.TheVariants as target
-use Rattle.macho_model.specs.Links.{Link, SectionId, header_at, is_consumed, is_initializers, sections_of}
+use Rattle.macho_model.specs.Links.{Link, SectionId, header_at, is_initializers, sections_of}
 use Rattle.macho_model.specs.Needs.{relocation_in, relocations_of, relocations_at, initializer_sections}
 use Rattle.macho_model.specs.Targets.{target_of, is_defined}
-use Rattle.macho_model.specs.Consumed.{is_section_target, initializer_relocation_fits}
+use Rattle.macho_model.specs.Consumed.{is_section_target}
 use Rattle.macho_model.specs.Placement.{Placed}
 use Rattle.macho_consumed.specs.declared.rows.Initializer.{Initializer}
 use Rattle.macho_consumed.specs.Rows.{initializer_row, initializer_rows_in, initializer_rows}
@@ -22,6 +23,7 @@ use Rattle.macho_consumed.proofs.Tests.{passes}
 use Rattle.macho_consumed.proofs.Leading.{pointer_leads}
 use Rattle.macho_targets.specs.Laws.{IsOfLink}
 use Rattle.macho_model.specs.Grammar.{ObjectsAreRead}
+use Rattle.macho_model.proofs.Words.{initializer_relocation_fits}
 use Rattle.macho_targets.proofs.Relocations.{relocation_of_link}
 use Rattle.macho_fields.specs.Looks.{Look, Tells}
 use Rattle.macho_made.specs.steps.Offsets.{target_in}
@@ -63,7 +65,8 @@ is_row l row rules has =
 -- a section of initializers is one of the link
 pub section_there : (l : Link) (s : SectionId) → Contains (initializer_sections l) s → Contains (sections_of l) s
 unfolding initializer_sections
-section_there l s has = (filter_contains (λ t. is_consumed (header_at l t) && is_initializers (header_at l t)) (sections_of l) s has).0
+section_there l s has = (filter_contains (λ t. not (should_exclude_of (header_at l t)) && is_initializers (header_at l t))
+    (sections_of l) s has).0
 
 -- its symbol leads where its relocation does
 pub row_leads : (l : Link) (p : Placed) (look : Look) (row : Initializer) → ObjectsAreRead l → Tells l p look → IsRow l row

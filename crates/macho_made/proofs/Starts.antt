@@ -10,13 +10,14 @@ use Rattle.std.specs.List.{range_with_len, enumerate_from}
 use Rattle.std.proofs.lemmas.Bool.{eqb-true}
 use Rattle.std.proofs.lemmas.List.{get_or-map, length-map}
 use Rattle.std.proofs.lemmas.List.Elements.{All-nil, All-cons}
+use Rattle.macho_records.specs.Sections.{should_exclude_of}
 use Rattle.macho_lists.proofs.Members.{map_contains}
 use Rattle.macho_model.proofs.EachBelow.{and_left, and_right}
 use Rattle.macho_model.specs.declared.placed.Counts.{Counts}
 use Rattle.macho_model.specs.declared.placed.PlacedSection.{PlacedSection}
 use Rattle.macho_model.specs.declared.rules.UnwindRule.TheVariants.{U6}
 use Rattle.macho_model.specs.Objects.{num_sections}
-use Rattle.macho_model.specs.Links.{Link, Input, Object, Dylib, Stub, SectionId, header_at, is_consumed, is_unwind_entries}
+use Rattle.macho_model.specs.Links.{Link, Input, Object, Dylib, Stub, SectionId, header_at, is_unwind_entries}
 use Rattle.macho_model.specs.Links.{sections_of_file, sections_of}
 use Rattle.macho_model.specs.Needs.{section_named, unwind_sections}
 use Rattle.macho_model.specs.Consumed.{EntryId, entries_of_link, entry_count, unwind_entry, starts_in, same_section, same_start}
@@ -65,7 +66,7 @@ file_of file (Stub text says) s has = absurd (omega (arith, has.1))
 unwind_sections_differ : (l : Link) → Pairs AreOthers (unwind_sections l)
 unfolding unwind_sections sections_of
 unwind_sections_differ l =
-    pairs_filter AreOthers (λ s. is_consumed (header_at l s) && is_unwind_entries (header_at l s))
+    pairs_filter AreOthers (λ s. not (should_exclude_of (header_at l s)) && is_unwind_entries (header_at l s))
     (flat_map (λ i. sections_of_file i.0 i.1) (enumerate_from 0 l.inputs))
     (pairs_joined (λ i j. i.0 < j.0) AreOthers (λ (i : ℕ × Input). sections_of_file i.0 i.1) (enumerate_from 0 l.inputs)
     (files_rise 0 l.inputs)

@@ -6,7 +6,7 @@
 -- their members may cost. Members of two are not the same, and all are sections of `__TEXT` with bytes in the file.
 use Rattle.std.proofs.Common.{◌≡◌, ℕ, ◌+◌, ◌≤◌, ◌==◌, ◌&&◌, not, nat_lt, Bool, true, false, List, [], ◌∷◌, ◌++◌, length, map, filter}
 use Rattle.std.proofs.Common.{get_or, refl, sym, ap, subst, ◌∙◌, arith}
-use Rattle.std.specs.Prelude.{Contains, All, sum_by}
+use Rattle.std.specs.Prelude.{Contains, All, sum_by, codes}
 use Rattle.std.specs.Str.{bytes_eq}
 use Rattle.std.proofs.lemmas.Slice.Eq.{bytes_eq-Decides}
 use Rattle.std.proofs.lemmas.List.{append-nil}
@@ -16,17 +16,16 @@ use Rattle.macho_lists.proofs.Members.{all_contains, contains_first, contains_la
 use Rattle.macho_lists.proofs.Members.{contains_flat_map}
 use Rattle.macho_lists.proofs.Orders.{EachLater, later_filter, later_pairs}
 use Rattle.macho_model.proofs.EachBelow.{and_left, and_right, and_both}
-use Rattle.macho_records.specs.Sections.{is_zerofill, has_instructions}
+use Rattle.macho_records.specs.Sections.{is_zerofill, has_instructions, segment_name_of}
 use Rattle.macho_records.specs.Segments.{text_of}
 use Rattle.macho_model.specs.declared.placed.Counts.{Counts}
 use Rattle.macho_model.specs.declared.placed.PlacedSection.{PlacedSection}
 use Rattle.macho_model.specs.declared.placed.PlacedSegment.{PlacedSegment}
 use Rattle.macho_model.specs.Lists.{EachNext}
 use Rattle.macho_model.specs.Links.{Link, SectionId, header_at, carried_of, placed_exponent}
-use Rattle.macho_model.specs.Symbols.{is_in_segment}
 use Rattle.macho_model.specs.Targets.{stubs_of}
 use Rattle.macho_model.specs.Consumed.{holds_functions}
-use Rattle.macho_model.specs.Segments.{TEXT, DATA, COMMON, OutputKey, same_key, key_of, common_key, output_keys_of, list_if}
+use Rattle.macho_model.specs.Segments.{TEXT, DATA, OutputKey, same_key, key_of, common_key, output_keys_of, list_if}
 use Rattle.macho_model.specs.Segments.{segment_names_of}
 use Rattle.macho_model.specs.WrittenSum.{section_cost}
 use Rattle.macho_model.specs.Placement.{Placed, id_of, section_span, is_segment_named}
@@ -102,7 +101,8 @@ abbrev piece_of : Link → PlacedSection → Piece
 piece_of l q = piece (placed_exponent l (id_of q)) (section_span l q)
 
 no_common : (key : OutputKey) → key.segment ≡ TEXT → same_key common_key key ≡ false
-no_common key text = ap (λ (name : List ℕ). bytes_eq DATA name && bytes_eq COMMON key.name && (common_key.type == key.type)) text
+no_common key text = ap (λ (name : List ℕ). bytes_eq DATA name && bytes_eq (codes "__common") key.name
+    && (common_key.type == key.type)) text
 
 code_pieces : (l : Link) (p : Placed) (key : OutputKey) → Contains (code_keys l) key
     → pieces_of l p (Merged key) ≡ map (piece_of l) (placed_members l p key)
@@ -163,7 +163,7 @@ later_weaker R S weaker (x ∷ xs) later = (λ k d lt. weaker x (get_or xs k d) 
 
 -- a member of one stands in `__TEXT` with bytes in the file
 abbrev in_text : Link → SectionId → Bool
-in_text l s = is_in_segment TEXT (header_at l s) && not (is_zerofill (header_at l s))
+in_text l s = bytes_eq (segment_name_of (header_at l s)) TEXT && not (is_zerofill (header_at l s))
 
 member_in_text : (l : Link) (key : OutputKey) (q : PlacedSection) → Contains (code_keys l) key
     → same_key (key_of (header_at l (id_of q))) key ≡ true

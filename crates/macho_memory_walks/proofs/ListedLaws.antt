@@ -13,8 +13,8 @@ use Rattle.macho_model.specs.Commands.{Command, command_at, commands_of, numbere
 use Rattle.macho_model.specs.Segments.{PAGEZERO, TEXT}
 use Rattle.macho_model.specs.Images.{is_named, segments_of, mapped_segments, segments_named, base_of, libraries_of, table_of_command}
 use Rattle.macho_model.specs.Images.{tables_of}
-use Rattle.macho_model.specs.LoadRules.{segment_in, segment_address}
-use Rattle.macho_model.specs.Loader.{text_commands, fixup_commands}
+use Rattle.macho_model.specs.LoadRules.{segment_address}
+use Rattle.macho_model.specs.Loader.{segment_in, text_commands, fixup_commands}
 use Rattle.macho_model.specs.Lists.{of_first}
 use Rattle.macho_memory_walks.specs.Readings.{listed, IsNth, table_there}
 

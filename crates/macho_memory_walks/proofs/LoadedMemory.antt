@@ -12,10 +12,9 @@ use Rattle.std.proofs.lemmas.List.{length-map}
 use Rattle.macho_bytes.specs.Numbers.{le_bytes}
 use Rattle.macho_memory_walks.specs.declared.walk.Listed.TheVariants as list
 use Rattle.macho_model.specs.Commands.{command_at, header_of}
-use Rattle.macho_model.specs.LoadRules.{segment_in}
 use Rattle.macho_model.specs.Images.{mapped_segments, table_of_command, tables_of}
 use Rattle.macho_model.specs.Needs.{POINTER_SIZE}
-use Rattle.macho_model.specs.Loader.{is_bind, ordinal_of}
+use Rattle.macho_model.specs.Loader.{segment_in, is_bind, ordinal_of}
 use Rattle.macho_model.specs.Memory.{Choice, IsBound, Becomes, Covers, IsFixed, IsSegmentByte, Holds}
 use Rattle.macho_memory_walks.specs.Readings.{listed, IsNth, HasWord, table_there}
 use Rattle.macho_memory_walks.specs.steps.Walks.{SegmentHas, NthLacksByte}

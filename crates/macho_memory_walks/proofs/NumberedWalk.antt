@@ -17,7 +17,7 @@ use Rattle.macho_memory_walks.specs.declared.walk.Listed.TheVariants as list
 use Rattle.macho_model.specs.Lists.{IsNumber}
 use Rattle.macho_model.specs.Commands.{Command, command_at, header_of, commands_of}
 use Rattle.macho_model.specs.Images.{segments_of}
-use Rattle.macho_model.specs.LoadRules.{segment_in}
+use Rattle.macho_model.specs.Loader.{segment_in}
 use Rattle.macho_model.specs.Chain.{ChainSegment, chain_segment, chain_segments, IsFileWord}
 use Rattle.macho_model.specs.Needs.{POINTER_SIZE}
 use Rattle.macho_memory_walks.specs.Readings.{is_listed, listed, IsNth, HasWord, segment_there}

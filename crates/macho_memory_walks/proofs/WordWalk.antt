@@ -14,7 +14,7 @@ use Rattle.macho_model.specs.Commands.{Command, command_at, header_of}
 use Rattle.macho_model.specs.Images.{Table, table_of_command, starts_count, starts_offset, segment_starts, page_start}
 use Rattle.macho_model.specs.Images.{NO_START}
 use Rattle.macho_model.specs.Segments.{SEGMENT_PAGE}
-use Rattle.macho_model.specs.LoadRules.{segment_in}
+use Rattle.macho_model.specs.Loader.{segment_in}
 use Rattle.macho_model.specs.Chain.{ChainSegment, chain_segments, starts_in_tables, IsFileWord, next_of, STRIDE}
 use Rattle.macho_model.specs.Chain.{OnChain, OnPageChain}
 use Rattle.macho_model.specs.Chain as chain

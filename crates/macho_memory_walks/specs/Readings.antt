@@ -1,14 +1,12 @@
 -- What one record of a file says, as the walks read it: a load command at its place, a segment, a fixup table, a word.
 use Rattle.std.specs.Prelude.{◌≡◌, ℕ, ◌+◌, ◌-◌, ◌*◌, ◌^◌, ◌<◌, ◌≤◌, ◌==◌, nat_lt, if◌then◌else◌, ◌&&◌, not, Bool, true, List, [], length, get_or, filter}
 use Rattle.macho_bytes.specs.Numbers.{le_at}
-use Rattle.macho_bytes.specs.Layouts.{reading}
-use Rattle.macho_records.specs.Layouts.{load_command}
 use Rattle.macho_records.specs.declared.header.SegmentCommand.{SegmentCommand}
 use Rattle.macho_records.specs.declared.constants.TheConstants.{LC_DYLD_CHAINED_FIXUPS, LC_LOAD_DYLIB, LC_SEGMENT_64}
 use Rattle.macho_model.specs.Commands.{Command, command_at, commands_of}
 use Rattle.macho_model.specs.Segments.{PAGEZERO, TEXT}
 use Rattle.macho_model.specs.Images.{is_named, Table, table_of_command, fixups_header, starts_count, page_starts, tables_of}
-use Rattle.macho_model.specs.LoadRules.{segment_in}
+use Rattle.macho_model.specs.Loader.{segment_in}
 use Rattle.macho_model.specs.Needs.{POINTER_SIZE}
 use Rattle.macho_memory_walks.specs.declared.segments.SegmentNumbers.{SegmentNumbers}
 use Rattle.macho_memory_walks.specs.declared.tables.FixupTable.{FixupTable}

@@ -6,14 +6,12 @@
 use Rattle.std.proofs.Common.{◌≡◌, ℕ, zero, suc, ◌+◌, ◌-◌, ◌<◌, ◌≤◌, nat_lt, not, if◌then◌else◌, List, length, get_or, slice_index, sym, ap, subst, ◌∙◌, arith, inl, inr, true}
 use Rattle.std.specs.Prelude.{Contains, AllPairs}
 use Rattle.std.proofs.lemmas.Bool.{cases_lt, leb-true}
-use Rattle.std.proofs.lemmas.List.{get_or_default, get_or-map, length-map}
+use Rattle.std.proofs.lemmas.List.{get_or_default}
 use Rattle.std.proofs.lemmas.List.Kept.{AllPairs-filter}
 use Rattle.macho_records.specs.declared.header.SegmentCommand.{SegmentCommand}
-use Rattle.macho_records.specs.declared.constants.TheConstants.{LC_SEGMENT_64}
-use Rattle.macho_model.specs.Commands.{Command, numbered}
 use Rattle.macho_model.specs.Segments.{PAGEZERO}
 use Rattle.macho_model.specs.Images.{segments_of, mapped_segments, is_named}
-use Rattle.macho_model.specs.LoadRules.{segment_in, begins_behind}
+use Rattle.macho_model.specs.LoadRules.{begins_behind}
 use Rattle.macho_model.specs.Loader.{IsAccepted}
 use Rattle.macho_model.specs.Memory.{IsSegmentByte}
 use Rattle.macho_model.specs.Lists.{EachNext}
@@ -22,32 +20,25 @@ use Rattle.macho_model.specs.Lists.{EachNext}
 abbrev pub EndsBefore : SegmentCommand → SegmentCommand → Type 0
 EndsBefore s t = s.vmaddr + s.vmsize ≤ t.vmaddr
 
--- the step from neighbours to all
-commands_rise : (b : List ℕ) (cs : List Command) → EachNext (λ c d. begins_behind b c d ≡ true) cs → (i j : ℕ) (e : Command) → i < j → j < length cs
-    → EndsBefore (segment_in b (get_or cs i e)) (segment_in b (get_or cs j e))
-commands_rise b cs h i zero e before within = absurd (omega (arith, before))
-commands_rise b cs h i (suc m) e before within =
-    let step = h m (get_or cs m e) (get_or cs (m + 1) e) (omega (arith, within), get_or_default cs m (get_or cs m e) e (omega (arith, within)))
-    (omega (arith, within), get_or_default cs (m + 1) (get_or cs (m + 1) e) e (omega (arith, within))) in
+-- segments of which each begins behind the end of the one before it end before each later one begins
+pub all_rise : (ss : List SegmentCommand) → EachNext (λ s t. begins_behind s t ≡ true) ss → AllPairs EndsBefore ss
+all_rise ss h i zero d before within = absurd (omega (arith, before))
+all_rise ss h i (suc m) d before within =
+    let s : SegmentCommand = get_or ss m d in
+    let t : SegmentCommand = get_or ss (m + 1) d in
+    let step = h m s t (omega (arith, within), get_or_default ss m s d (omega (arith, within)))
+    (omega (arith, within), get_or_default ss (m + 1) t d (omega (arith, within))) in
     let same : m + 1 ≡ suc m = omega arith in
-    let next : EndsBefore (segment_in b (get_or cs m e)) (segment_in b (get_or cs (suc m) e)) =
-    subst (λ k. EndsBefore (segment_in b (get_or cs m e)) (segment_in b (get_or cs k e))) same
-    (leb-true ((segment_in b (get_or cs m e)).vmaddr + (segment_in b (get_or cs m e)).vmsize) (segment_in b (get_or cs (m + 1) e)).vmaddr step) in
+    let next : EndsBefore s (get_or ss (suc m) d) =
+    subst (λ k. EndsBefore s (get_or ss k d)) same (leb-true (s.vmaddr + s.vmsize) t.vmaddr step) in
     elim (cases_lt i m) [
-      | inl lt ↦ let so_far = commands_rise b cs h i m e lt (omega (arith, within)) in omega (arith, so_far, next)
-      | inr le ↦ let here : i ≡ m = omega (arith, before) in subst (λ k. EndsBefore (segment_in b (get_or cs k e)) (segment_in b (get_or cs (suc m) e))) (sym here) next
+      | inl lt ↦ let so_far = all_rise ss h i m d lt (omega (arith, within)) in omega (arith, so_far, next)
+      | inr le ↦ let here : i ≡ m = omega (arith, before) in subst (λ k. EndsBefore (get_or ss k d) (get_or ss (suc m) d)) (sym here) next
     ]
 
 -- segments of an accepted image end before each later one begins; so do the mapped ones
 pub segments_rise : (b : List ℕ) → IsAccepted b → AllPairs EndsBefore (segments_of b)
-unfolding segments_of
-segments_rise b accepted i j d before within =
-    let long : j < length (numbered LC_SEGMENT_64 b) = omega (arith, within, length-map (numbered LC_SEGMENT_64 b) (segment_in b)) in
-    let e : Command = get_or (numbered LC_SEGMENT_64 b) 0 (record { at = 0; number = 0; size = 0 }) in
-    let at_i = get_or-map (segment_in b) (numbered LC_SEGMENT_64 b) i e d (omega (arith, long)) in
-    let at_j = get_or-map (segment_in b) (numbered LC_SEGMENT_64 b) j e d long in
-    let rise = commands_rise b (numbered LC_SEGMENT_64 b) accepted.l6.1 i j e before long in
-    rw (at_i, at_j) rise
+segments_rise b accepted = all_rise (segments_of b) accepted.l6.1
 
 pub mapped_rise : (b : List ℕ) → IsAccepted b → AllPairs EndsBefore (mapped_segments b)
 unfolding mapped_segments

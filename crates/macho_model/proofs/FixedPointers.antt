@@ -6,18 +6,18 @@ use Rattle.std.proofs.Common.{◌≡◌, ℕ, ◌==◌, ◌&&◌, ◌||◌, not,
 use Rattle.std.specs.Prelude.{Contains, All, is_some}
 use Rattle.std.proofs.lemmas.Bool.{and_parts, and_from, eqb-true, not-true, true≢false}
 use Rattle.std.proofs.lemmas.List.Elements.{All-contains}
-use Rattle.macho_records.specs.Sections.{type_of}
+use Rattle.macho_records.specs.Sections.{type_of, segment_name_of}
 use Rattle.macho_records.specs.declared.constants.TheConstants.{S_THREAD_LOCAL_VARIABLES}
 use Rattle.macho_model.specs.declared.targets.Target.{Target}
 use Rattle.macho_model.specs.declared.targets.Target.TheVariants as target
 use Rattle.macho_model.specs.Links.{Link, SectionId, header_at, carried_of}
 use Rattle.macho_model.specs.Targets.{is_import}
 use Rattle.macho_model.specs.Fields.{Field, fields_of}
-use Rattle.macho_model.specs.Segments.{segment_name, may_hold_pointers}
+use Rattle.macho_model.specs.Segments.{may_hold_pointers}
 use Rattle.macho_model.specs.Stands.{Kind, Pointer, Difference, Branch, Page, Offset, SlotPage, SlotOffset, SlotDistance, NoKind, kind_of}
 use Rattle.macho_model.specs.Stands.{is_in_template, is_template_offset}
 use Rattle.macho_model.specs.Values.{fits_signed, is_pointer, is_absolute_target, needs_fixup}
-use Rattle.macho_model.specs.Valid.{stands_at_multiple, stays_inside, fixup_fits, field_fits}
+use Rattle.macho_model.specs.Valid.{stands_at_multiple, stays_inside, field_fits}
 
 -- a pointer that the loader writes is a pointer of 8 bytes
 pub fixed_pointer : (l : Link) (s : SectionId) (f : Field) → needs_fixup l s f ≡ true
@@ -89,16 +89,19 @@ EachFieldFits l =
 
 pub pointer_keeps : (l : Link) (s : SectionId) (f : Field) → EachFieldFits l → Contains (carried_of l) s → Contains (fields_of l s) f
     → needs_fixup l s f ≡ true
-    → (may_hold_pointers (segment_name l s) ≡ true) × (stands_at_multiple l s 8 f ≡ true) × (stays_inside l f.target f.addend ≡ true)
+    → (may_hold_pointers (segment_name_of (header_at l s)) ≡ true) × (stands_at_multiple l s 8 f ≡ true)
+    × (stays_inside l f.target f.addend ≡ true)
 pointer_keeps l s f fit one field needs =
     let kind = (fixed_pointer l s f needs).1 in
     let fits = All-contains (λ (g : Field). field_fits l s g (kind_of g.type (is_some g.subtrahend)) ≡ true) (fields_of l s) f
     (fit s one) field in
-    let fixup : fixup_fits l s f ≡ true = sym (ap (field_fits l s f) kind) ∙ fits in
-    let all = left_true (needs_fixup l s f) (may_hold_pointers (segment_name l s) && stands_at_multiple l s 8 f && stays_inside l f.target
+    let fixup : field_fits l s f Pointer ≡ true = sym (ap (field_fits l s f) kind) ∙ fits in
+    let all = left_true (needs_fixup l s f)
+    (may_hold_pointers (segment_name_of (header_at l s)) && stands_at_multiple l s 8 f && stays_inside l f.target
     f.addend) needs fixup in
-    let both = and_parts (may_hold_pointers (segment_name l s) && stands_at_multiple l s 8 f) (stays_inside l f.target f.addend) all in
-    let first = and_parts (may_hold_pointers (segment_name l s)) (stands_at_multiple l s 8 f) both.0 in
+    let both = and_parts (may_hold_pointers (segment_name_of (header_at l s)) && stands_at_multiple l s 8 f)
+    (stays_inside l f.target f.addend) all in
+    let first = and_parts (may_hold_pointers (segment_name_of (header_at l s))) (stands_at_multiple l s 8 f) both.0 in
     (first.0, first.1, both.1)
 
 pub import_stays : (l : Link) (t : Target) (addend : ℕ) → is_import t ≡ true → stays_inside l t addend ≡ true → fits_signed 32 addend ≡ true

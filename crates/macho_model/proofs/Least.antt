@@ -16,16 +16,17 @@ use Rattle.std.proofs.lemmas.List.Elements.{filter-append, All-filter, filter_pa
 use Rattle.std.proofs.lemmas.Slice.Eq.{bytes_eq-Decides}
 use Rattle.macho_records.specs.Numbers.{rounded_up}
 use Rattle.macho_records.specs.Segments.{text_of}
+use Rattle.macho_records.specs.Sections.{segment_name_of}
 use Rattle.macho_model.specs.declared.placed.Counts.{Counts}
 use Rattle.macho_model.specs.declared.placed.PlacedSegment.{PlacedSegment}
 use Rattle.macho_model.specs.declared.placed.Range64.{Range64}
-use Rattle.macho_model.specs.Links.{Link, carried_of}
+use Rattle.macho_model.specs.Links.{Link, carried_of, header_at}
 use Rattle.macho_model.specs.Lists.{EachNext, of_first}
 use Rattle.macho_model.specs.Needs.{distinct}
 use Rattle.macho_model.specs.Resolution.{chosen_commons}
 use Rattle.macho_model.specs.Targets.{slots_of}
 use Rattle.macho_model.specs.Segments.{PAGEZERO, TEXT, DATA_CONST, DATA, LINKEDIT, is_known_segment, list_if, other_segments, segment_names_of}
-use Rattle.macho_model.specs.Segments.{segment_name, has_section_in}
+use Rattle.macho_model.specs.Segments.{has_section_in}
 use Rattle.macho_model.specs.Placement.{Placed, is_segment_named, linkedit_ranges}
 use Rattle.macho_model.specs.OutputSections.{Piece, end_of_piece, pieces_of, output_sections_of}
 use Rattle.macho_model.specs.Order.{BeginsLeast, StandInOrder, AreLeast, row_of, sections_in, table_pieces, least_file_size}
@@ -119,7 +120,7 @@ one_of false false false others none = behind_others others none
 
 others_differ : (l : Link) → filter is_last (other_segments l) ≡ []
 unfolding other_segments
-others_differ l = none_last (distinct bytes_eq (map (segment_name l) (carried_of l)))
+others_differ l = none_last (distinct bytes_eq (map (λ s. segment_name_of (header_at l s)) (carried_of l)))
 
 one_name : (l : Link) → filter is_last (segment_names_of l) ≡ LINKEDIT ∷ []
 unfolding segment_names_of

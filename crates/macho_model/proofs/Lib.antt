@@ -5,12 +5,15 @@ pub mod EachBelow
 pub mod ChainMemory
 pub mod Slides
 pub mod Apart
+pub mod SegmentTests
 pub mod FieldSlides
 pub mod PointerFixups
 pub mod PlainPointers
 pub mod LinkLaws
 pub mod CommonNumbers
+pub mod Carried
 pub mod ObjectLaws
 pub mod FixedPointers
 pub mod Unrefused
 pub mod Least
+pub mod Words

@@ -11,10 +11,10 @@ use Rattle.macho_model.specs.declared.targets.Target.TheVariants as target
 use Rattle.macho_records.specs.Sections.{type_of}
 use Rattle.macho_records.specs.declared.constants.TheConstants.{S_THREAD_LOCAL_VARIABLES}
 use Rattle.macho_model.specs.Links.{Link, SectionId, header_at}
-use Rattle.macho_model.specs.Fields.{Field}
+use Rattle.macho_model.specs.Fields.{Field, content_of}
 use Rattle.macho_model.specs.Placement.{Placed, id_of}
 use Rattle.macho_model.specs.Memory.{Choice, HoldsNumber}
-use Rattle.macho_model.specs.Stands.{Pointer, Kind, kind_of, is_in_template, is_template_offset, IsAt, PointerSays, Seen, Says, Denotes, seen_in}
+use Rattle.macho_model.specs.Stands.{Pointer, Kind, kind_of, is_in_template, is_template_offset, IsAt, PointerSays, Says, Denotes}
 use Rattle.macho_model.specs.Values.{is_absolute_target}
 use Rattle.macho_model.specs.HeldLaws.{IsFree}
 use Rattle.macho_model.proofs.EachBelow.{true_or_false, and_right, or_right}
@@ -43,14 +43,12 @@ absolute_stays l p c d (target.Absolute value) x s is at = at
 absolute_stays l p c d target.None x s is at = absurd (true_or_false false is refl)
 
 -- what a pointer says, whatever its place and the input's word are
-abbrev pub pointer_seen : ℕ → Seen
-pointer_seen word = record { place = 0; word = word; input = 0 }
-
 pointer_stays : (l : Link) (p : Placed) (c d : Choice) (id : SectionId) (f : Field) (word s : ℕ)
-    → (is_template_offset l id f || is_absolute_target f.target) ≡ true → Says l p 0 c id f (pointer_seen word) Pointer → Says l p s d id f (pointer_seen word) Pointer
+    → (is_template_offset l id f || is_absolute_target f.target) ≡ true → Says l p 0 c id f 0 word 0 Pointer
+    → Says l p s d id f 0 word 0 Pointer
 pointer_stays l p c d id f word s plain h = by (is_template_offset l id f) refl
   where
-    by : (t : Bool) → is_template_offset l id f ≡ t → Says l p s d id f (pointer_seen word) Pointer
+    by : (t : Bool) → is_template_offset l id f ≡ t → Says l p s d id f 0 word 0 Pointer
     by true is = (
       h.0 + s,
       template_moves l p c d f.target h.0 s (and_right (type_of (header_at l id) == S_THREAD_LOCAL_VARIABLES) (is_in_template l f.target) is) h.1,
@@ -73,8 +71,10 @@ pub plain_pointer_stays : (l : Link) (b : List ℕ) (p : Placed) (s : ℕ) (c d 
     → IsFree b (q.address + f.offset) f.width → Denotes l b p 0 c q f → Denotes l b p s d q f
 plain_pointer_stays l b p s c d q f kind plain free h =
     let zero_slide : q.address + f.offset + 0 ≡ q.address + f.offset = omega arith in
-    let says = subst (λ (k : Kind). Says l p 0 c (id_of q) f (seen_in l 0 q f h.word) k) kind h.says in
-    let moved : Says l p s d (id_of q) f (seen_in l s q f h.word) Pointer = pointer_stays l p c d (id_of q) f h.word s plain says in
+    let input : ℕ = content_of l (id_of q) f.relocation in
+    let says = subst (λ (k : Kind). Says l p 0 c (id_of q) f (q.address + f.offset + 0) h.word input k) kind h.says in
+    let moved : Says l p s d (id_of q) f (q.address + f.offset + s) h.word input Pointer = pointer_stays l p c d (id_of q) f h.word s plain
+    says in
     record {
       word = h.word;
       held = number_moves b s c d f.width (q.address + f.offset) h.word free (subst (λ x. HoldsNumber b 0 c f.width x h.word) zero_slide h.held);

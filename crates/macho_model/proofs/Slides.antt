@@ -75,9 +75,7 @@ pub through_slides : (place slot adrp ldr br s : ℕ) → s % 4096 ≡ 0 → Goe
     → GoesThrough (place + s) (slot + s) adrp ldr br
 through_slides place slot adrp ldr br s whole h =
     record {
-      pages = h.pages;
-      reaches = pages_reach place slot (4096 * signed 21 (imm21 adrp)) s whole h.reaches;
-      load = h.load;
-      offset = h.offset ∙ sym (low_slides slot s whole);
+      pages = page_of_slides place adrp 0x90000010 slot s whole h.pages;
+      loads = loads_slides ldr 0xf9400210 slot s whole h.loads;
       leaves = h.leaves;
     }

@@ -1,6 +1,5 @@
 -- Where the parts of a link are by a placement of them: addresses before any slide, and offsets in the file.
-use Rattle.std.specs.Prelude.{ℕ, ◌+◌, ◌-◌, ◌==◌, ◌&&◌, nat_le, nat_lt, Bool, filter}
-use Rattle.macho_model.specs.declared.placed.PlacedSegment.{PlacedSegment}
+use Rattle.std.specs.Prelude.{ℕ, ◌+◌, ◌-◌, ◌==◌, ◌&&◌, nat_le, nat_lt, filter}
 use Rattle.macho_model.specs.declared.targets.Target.{Target}
 use Rattle.macho_model.specs.declared.targets.Target.TheVariants as target
 use Rattle.macho_model.specs.Lists.{of_first}
@@ -25,10 +24,7 @@ address_of p target.Base = p.base
 address_of p (target.Absolute value) = value
 address_of p t = 0
 
--- a segment has an address in its file part
-abbrev pub has_in_file : ℕ → PlacedSegment → Bool
-has_in_file a s = nat_le s.address a && nat_lt a (s.address + s.file_size)
-
 -- the file offset of the byte at an address, 0 where no byte of the file is mapped there
 unfoldable pub offset_in_file : Placed → ℕ → ℕ
-offset_in_file p a = of_first 0 (λ s. s.file_offset + (a - s.address)) (filter (has_in_file a) p.segments)
+offset_in_file p a =
+    of_first 0 (λ s. s.file_offset + (a - s.address)) (filter (λ s. nat_le s.address a && nat_lt a (s.address + s.file_size)) p.segments)

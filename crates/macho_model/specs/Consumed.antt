@@ -1,6 +1,6 @@
 -- Sections that are read and turned into parts of the image: initializers, and compact unwind entries
 -- (`mach-o/compact_unwind_encoding.h`). A test for each rule that they keep.
-use Rattle.std.specs.Prelude.{ℕ, ◌+◌, ◌*◌, ◌-◌, ◌/◌, ◌%◌, ◌==◌, nat_le, nat_lt, ◌&&◌, ◌||◌, not, Bool, true, false, List, length, filter, map}
+use Rattle.std.specs.Prelude.{ℕ, ◌+◌, ◌*◌, ◌-◌, ◌/◌, ◌%◌, ◌==◌, nat_le, nat_lt, ◌&&◌, ◌||◌, not, Bool, true, false, List, length, filter, map, bytes_eq, [], ◌∷◌}
 use Rattle.std.specs.List.{list_any, list_all, flat_map, range_with_len}
 use Rattle.macho_records.specs.Numbers.{le_at, bits}
 use Rattle.macho_records.specs.ByteLayouts.{reading}
@@ -11,8 +11,7 @@ use Rattle.macho_model.specs.declared.rules.UnwindRule.{UnwindRule}
 use Rattle.macho_model.specs.declared.rules.UnwindRule.TheVariants.{U1, U2, U3, U4, U5, U6, U7, U8}
 use Rattle.macho_model.specs.declared.targets.Target.{Target}
 use Rattle.macho_model.specs.declared.targets.Target.TheVariants as target
-use Rattle.macho_records.specs.Sections.{is_executable_of, is_zerofill, type_of}
-use Rattle.macho_model.specs.Symbols.{is_in_segment}
+use Rattle.macho_records.specs.Sections.{has_instructions, is_zerofill, segment_name_of, type_of}
 use Rattle.macho_records.specs.declared.constants.TheConstants.{ARM64_RELOC_UNSIGNED, S_MOD_INIT_FUNC_POINTERS}
 use Rattle.macho_model.specs.Objects.{section_bytes}
 use Rattle.macho_model.specs.Links.{Link, object_of, SectionId, header_at, is_carried}
@@ -31,15 +30,12 @@ abbrev pub is_section_target : Target → Bool
 is_section_target (target.Section file section offset) = true
 is_section_target t = false
 
--- an initializer's relocation: a plain pointer to a symbol in a carried section
-abbrev pub initializer_relocation_fits : Link → SectionId → ℕ → Bool
-initializer_relocation_fits l s r =
-    is_plain_pointer (relocation_in l s r) && (relocation_in l s r).r_extern && is_section_target (target_of_relocation l s r)
-
--- a slot has exactly one relocation, at its start, and its content is 0
+-- a slot has exactly one relocation, at its start, a plain pointer to a symbol in a carried section, and its content is 0
 abbrev pub initializer_slot_fits : Link → SectionId → ℕ → Bool
 initializer_slot_fits l s slot =
-    (length (relocations_at l s (POINTER_SIZE * slot)) == 1) && list_all (initializer_relocation_fits l s) (relocations_at l s (POINTER_SIZE * slot))
+    (length (relocations_at l s (POINTER_SIZE * slot)) == 1)
+    && list_all (λ r. is_plain_pointer (relocation_in l s r) && (relocation_in l s r).r_extern && is_section_target (target_of_relocation l s r))
+    (relocations_at l s (POINTER_SIZE * slot))
     && (le_at POINTER_SIZE (bytes_of_section l s) (POINTER_SIZE * slot) == 0)
 
 abbrev pub initializer_section_fits : Link → SectionId → Bool
@@ -52,6 +48,10 @@ START_PLACE = 0
 abbrev pub LSDA_PLACE : ℕ
 LSDA_PLACE = 24
 
+-- all three
+abbrev pub ADDRESS_PLACES : List ℕ
+ADDRESS_PLACES = START_PLACE ∷ PERSONALITY_PLACE ∷ LSDA_PLACE ∷ []
+
 -- an unwind entry of a section, by number
 abbrev pub unwind_entry : Link → SectionId → ℕ → UnwindInfoEntry
 unwind_entry l s e = reading unwind_info_entry (bytes_of_section l s) (UNWIND_ENTRY_SIZE * e)
@@ -63,33 +63,15 @@ entry_count l s = (header_at l s).size / UNWIND_ENTRY_SIZE
 abbrev pub relocations_in_entry : Link → SectionId → ℕ → ℕ → List ℕ
 relocations_in_entry l s e place = relocations_at l s (UNWIND_ENTRY_SIZE * e + place)
 
--- U1: the section is made of whole entries
+-- the section is made of whole entries
 abbrev pub whole_entries : Link → SectionId → Bool
 whole_entries l s = (header_at l s).size % UNWIND_ENTRY_SIZE == 0
-
--- U2: a relocation is a plain pointer at one of the three addresses
-abbrev pub unwind_relocation_fits : Link → SectionId → ℕ → Bool
-unwind_relocation_fits l s r = is_plain_pointer (relocation_in l s r) && at_address ((relocation_in l s r).r_address % UNWIND_ENTRY_SIZE)
-  where
-    at_address : ℕ → Bool
-    at_address place = (place == START_PLACE) || (place == PERSONALITY_PLACE) || (place == LSDA_PLACE)
-
--- U3: an address has one relocation at most
-abbrev pub single_relocations : Link → SectionId → ℕ → Bool
-single_relocations l s e =
-    nat_le (length (relocations_in_entry l s e START_PLACE)) 1 && nat_le (length (relocations_in_entry l s e PERSONALITY_PLACE)) 1
-    && nat_le (length (relocations_in_entry l s e LSDA_PLACE)) 1
 
 -- a section that functions stand in
 abbrev pub holds_functions : Link → SectionId → Bool
 holds_functions l f =
-    is_carried (header_at l f) && is_executable_of (header_at l f) && is_in_segment TEXT (header_at l f) && not (is_zerofill (header_at l f))
-
--- U4: the start has a relocation that names such a section by number
-abbrev pub start_fits : Link → SectionId → ℕ → Bool
-start_fits l s e =
-    not (length (relocations_in_entry l s e START_PLACE) == 0)
-    && list_all (λ r. not (relocation_in l s r).r_extern && holds_functions l (section_named l s r)) (relocations_in_entry l s e START_PLACE)
+    is_carried (header_at l f) && has_instructions (header_at l f).flags && bytes_eq (segment_name_of (header_at l f)) TEXT
+    && not (is_zerofill (header_at l f))
 
 -- an address of the input lies in a section, with so many bytes from it on
 abbrev pub lies_in : Link → SectionId → ℕ → ℕ → Bool
@@ -100,11 +82,6 @@ lies_in l f address size =
 -- the relocations of an entry's start that name a section
 abbrev pub starts_in : Link → SectionId → ℕ → List ℕ
 starts_in l s e = filter (λ r. not (relocation_in l s r).r_extern) (relocations_in_entry l s e START_PLACE)
-
--- U5: the function lies in its section
-abbrev pub function_inside : Link → SectionId → ℕ → Bool
-function_inside l s e =
-    list_all (λ r. lies_in l (section_named l s r) (unwind_entry l s e).start (unwind_entry l s e).length) (starts_in l s e)
 
 -- An entry, by its section and number.
 pub record EntryId : Type 0 where
@@ -124,44 +101,40 @@ same_start l d e =
     (starts_in l d.of_section d.entry)
     && ((unwind_entry l d.of_section d.entry).start == (unwind_entry l e.of_section e.entry).start)
 
--- U6: no other entry begins where this one does
-abbrev pub start_alone : Link → SectionId → ℕ → Bool
-start_alone l s e =
-    list_all (λ d. not (same_start l d (record { of_section = s; entry = e })) || (same_section d.of_section s && (d.entry == e))) (entries_of_link l)
-
--- U7: a personality is a symbol that is defined or imported, language data a place in a carried section by number
-abbrev pub personality_fits : Link → SectionId → ℕ → Bool
-personality_fits l s e =
+-- An entry of a section, by number, keeps a rule.
+abbrev pub keeps : Link → SectionId → ℕ → UnwindRule → Bool
+-- the section is made of whole entries
+keeps l s e U1 = whole_entries l s
+-- a relocation whose place is in the entry is a plain pointer at one of its addresses
+keeps l s e U2 =
+    list_all (λ r. is_plain_pointer (relocation_in l s r)
+    && list_any (λ place. (relocation_in l s r).r_address % UNWIND_ENTRY_SIZE == place) ADDRESS_PLACES)
+    (filter (λ r. (relocation_in l s r).r_address / UNWIND_ENTRY_SIZE == e) (relocations_of l s))
+-- an address has one relocation at most
+keeps l s e U3 = list_all (λ place. nat_le (length (relocations_in_entry l s e place)) 1) ADDRESS_PLACES
+-- the start has a relocation that names, by number, a section that functions stand in
+keeps l s e U4 =
+    not (length (relocations_in_entry l s e START_PLACE) == 0)
+    && list_all (λ r. not (relocation_in l s r).r_extern && holds_functions l (section_named l s r)) (relocations_in_entry l s e START_PLACE)
+-- the function lies in its section
+keeps l s e U5 = list_all (λ r. lies_in l (section_named l s r) (unwind_entry l s e).start (unwind_entry l s e).length) (starts_in l s e)
+-- no other entry begins where this one does
+keeps l s e U6 =
+    list_all (λ d. not (same_start l d (record { of_section = s; entry = e })) || (same_section d.of_section s && (d.entry == e)))
+    (entries_of_link l)
+-- a personality is a symbol that is defined or imported, language data a place in a carried section by number
+keeps l s e U7 =
     list_all (λ r. (relocation_in l s r).r_extern && (is_defined (target_of_relocation l s r) || is_import (target_of_relocation l s r)))
     (relocations_in_entry l s e PERSONALITY_PLACE)
     && list_all
-    (λ r. not (relocation_in l s r).r_extern && is_carried (header_at l (section_named l s r)) && lies_in l (section_named l s r) (unwind_entry l s e).lsda 0)
+    (λ r. not (relocation_in l s r).r_extern && is_carried (header_at l (section_named l s r))
+    && lies_in l (section_named l s r) (unwind_entry l s e).lsda 0)
     (relocations_in_entry l s e LSDA_PLACE)
-
-abbrev pub absent_is_zero : List ℕ → ℕ → Bool
-absent_is_zero relocations word = not (length relocations == 0) || (word == 0)
-
--- U8: the bits that the linker numbers personalities by are clear, and so is an address without a relocation
-abbrev pub entry_is_clear : Link → SectionId → ℕ → Bool
-entry_is_clear l s e =
-    (bits 28 2 (unwind_entry l s e).encoding == 0) && absent_is_zero (relocations_in_entry l s e START_PLACE) (unwind_entry l s e).start
-    && absent_is_zero (relocations_in_entry l s e PERSONALITY_PLACE) (unwind_entry l s e).personality
-    && absent_is_zero (relocations_in_entry l s e LSDA_PLACE) (unwind_entry l s e).lsda
-
--- U2, of each relocation whose place is in the entry
-abbrev pub each_relocation_in : Link → SectionId → ℕ → Bool
-each_relocation_in l s e =
-    list_all (unwind_relocation_fits l s) (filter (λ r. (relocation_in l s r).r_address / UNWIND_ENTRY_SIZE == e) (relocations_of l s))
-
-abbrev pub keeps : Link → SectionId → ℕ → UnwindRule → Bool
-keeps l s e U1 = whole_entries l s
-keeps l s e U2 = each_relocation_in l s e
-keeps l s e U3 = single_relocations l s e
-keeps l s e U4 = start_fits l s e
-keeps l s e U5 = function_inside l s e
-keeps l s e U6 = start_alone l s e
-keeps l s e U7 = personality_fits l s e
-keeps l s e U8 = entry_is_clear l s e
+-- the bits that the linker numbers personalities by are clear, and so is an address without a relocation
+keeps l s e U8 =
+    (bits 28 2 (unwind_entry l s e).encoding == 0)
+    && list_all (λ (w : ℕ × ℕ). not (length (relocations_in_entry l s e w.0) == 0) || (w.1 == 0))
+    ((START_PLACE, (unwind_entry l s e).start) ∷ (PERSONALITY_PLACE, (unwind_entry l s e).personality) ∷ (LSDA_PLACE, (unwind_entry l s e).lsda) ∷ [])
 
 -- the personality functions, each once
 unfoldable pub personality_targets : Link → List Target

@@ -3,45 +3,28 @@ use Rattle.std.specs.Prelude.{ℕ, ◌+◌, ◌==◌, ◌&&◌, ◌||◌, not, i
 use Rattle.std.specs.List.{flat_map, list_any, before_first, range_with_len, slice_split}
 use Rattle.std.specs.Str.{bytes_eq}
 
--- the bytes of the format
-abbrev pub NEWLINE : ℕ
-NEWLINE = 10
-
-abbrev pub HASH : ℕ
-HASH = 35
-
+-- the star of a pattern
 abbrev pub STAR : ℕ
 STAR = 42
 
--- a space, a tab or a carriage return
-abbrev pub is_blank : ℕ → Bool
-is_blank b = (b == 32) || (b == 9) || (b == 13)
-
+-- a text without the spaces, tabs and carriage returns (32, 9, 13) that it begins with
 abbrev pub without_front : List ℕ → List ℕ
-without_front text = drop (length (take_while is_blank text)) text
+without_front text = drop (length (take_while (λ b. (b == 32) || (b == 9) || (b == 13)) text)) text
 
--- a text without the blanks at both ends
+-- a text without those at both ends
 abbrev pub trimmed : List ℕ → List ℕ
 trimmed text = reverse (without_front (reverse (without_front text)))
 
--- the entry of a line: what stands before a `#`, trimmed
-abbrev pub entry_of : List ℕ → List ℕ
-entry_of line = trimmed (before_first (λ b. b == HASH) line)
-
--- the entries of a text, in order; a line without one is passed over
+-- the entries of a text, in order: of each line (they end with byte 10) what stands before a `#` (35), trimmed, unless that is empty
 unfoldable pub entries_of : List ℕ → List (List ℕ)
-entries_of text = filter (λ e. not (length e == 0)) (map entry_of (slice_split (λ b. b == NEWLINE) text))
+entries_of text = filter (λ e. not (length e == 0)) (map (λ line. trimmed (before_first (λ b. b == 35) line)) (slice_split (λ b. b == 10) text))
 
--- an entry with a star is a pattern, any other one is plain
-abbrev pub is_pattern : List ℕ → Bool
-is_pattern entry = list_any (λ b. b == STAR) entry
-
--- the entries of several lists, in order, and the plain ones among them
+-- the entries of several lists, in order, and the plain ones among them; an entry with a star is a pattern
 unfoldable pub all_entries : List (List ℕ) → List (List ℕ)
 all_entries texts = flat_map entries_of texts
 
 unfoldable pub plain_entries : List (List ℕ) → List (List ℕ)
-plain_entries texts = filter (λ e. not (is_pattern e)) (all_entries texts)
+plain_entries texts = filter (λ e. not (list_any (λ b. b == STAR) e)) (all_entries texts)
 
 -- A name matches an entry: behind a star some rest of the name matches the rest of the entry; any other byte is the
 -- first one of the name.

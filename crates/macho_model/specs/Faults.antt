@@ -1,7 +1,9 @@
 -- When each refusal of a link stands. A refusal is told only where it stands, and an image only where none does.
-use Rattle.std.specs.Prelude.{◌≡◌, ℕ, ◌+◌, ◌*◌, ◌%◌, ◌<◌, ◌≤◌, ◌⊎◌, ◌==◌, ◌||◌, not, Bool, true, false, List, length, get_or, Option, Some, None, Contains, IsNone, reverse, take_while, drop, codes}
+use Rattle.std.specs.Prelude.{◌≡◌, ℕ, ◌+◌, ◌*◌, ◌%◌, ◌<◌, ◌≤◌, ◌⊎◌, ◌==◌, ◌||◌, not, Bool, true, false, List, length, Option, Some, None, Contains, IsNone, reverse, take_while, drop, codes}
 use Rattle.std.specs.List.{list_any}
 use Rattle.std.specs.Str.{bytes_eq}
+use Rattle.macho_records.specs.Sections.{segment_name_of}
+use Rattle.macho_records.specs.Symbols.{is_global}
 use Rattle.macho_model.specs.declared.rules.UnwindRule.{UnwindRule}
 use Rattle.macho_model.specs.declared.rules.UnwindRule.TheVariants.{U1}
 use Rattle.macho_model.specs.declared.targets.Limit.{Limit}
@@ -10,12 +12,11 @@ use Rattle.macho_model.specs.declared.placed.Counts.{Counts}
 use Rattle.macho_model.specs.Lists.{IsNumber}
 use Rattle.macho_model.specs.ExportLists.{plain_entries}
 use Rattle.macho_model.specs.Links.{Link, SectionId, section_id, header_at, carried_of}
-use Rattle.macho_model.specs.Symbols.{is_global}
 use Rattle.macho_model.specs.Resolution.{SymbolId, entry_at, name_at, strong_of, definition_of}
 use Rattle.macho_model.specs.Needs.{Use, ByRelocation, ByInitializer, ByPersonality, ByName, uses_of, symbol_used, initializer_sections, unwind_sections, relocation_in, POINTER_SIZE}
 use Rattle.macho_model.specs.Targets.{target_of_name, is_import}
 use Rattle.macho_model.specs.Fields.{Field}
-use Rattle.macho_model.specs.Segments.{SEGMENT_PAGE, segment_name, may_hold_pointers}
+use Rattle.macho_model.specs.Segments.{SEGMENT_PAGE, may_hold_pointers}
 use Rattle.macho_model.specs.Placement.{Placed}
 use Rattle.macho_model.specs.Rows.{is_supported, share_byte, are_pair}
 use Rattle.macho_model.specs.Consumed.{initializer_section_fits, initializer_slot_fits, is_plain_pointer, is_section_target, entry_count, whole_entries, keeps}
@@ -79,7 +80,7 @@ IsBadInitializer l s offset =
 
 -- a pointer is in a segment that may hold none; or its word crosses a page or is not at a multiple of four
 abbrev pub BadPlace : Link → SectionId → Field → Option Placed → Type 0
-BadPlace l s f None = may_hold_pointers (segment_name l s) ≡ false
+BadPlace l s f None = may_hold_pointers (segment_name_of (header_at l s)) ≡ false
 BadPlace l s f (Some p) =
     (address : ℕ) × SectionAt p s.file s.section address
     × ((SEGMENT_PAGE < (address + f.offset) % SEGMENT_PAGE + 8) ⊎ (1 ≤ (address + f.offset) % 4))

@@ -70,9 +70,6 @@ addend_of l s r =
     else if has_addend l s r then signed 24 (relocation_in l s (r - 1)).r_symbolnum
     else 0
 
-abbrev pub subtrahend_of : Link → SectionId → ℕ → Option Target
-subtrahend_of l s r = if has_subtrahend l s r then Some (target_of_relocation l s (r - 1)) else None
-
 abbrev pub field_of : Link → SectionId → ℕ → Field
 field_of l s r = record {
   relocation = r;
@@ -80,7 +77,7 @@ field_of l s r = record {
   width = width_of l s r;
   type = (relocation_in l s r).r_type;
   target = target_of_relocation l s r;
-  subtrahend = subtrahend_of l s r;
+  subtrahend = if has_subtrahend l s r then Some (target_of_relocation l s (r - 1)) else None;
   addend = addend_of l s r;
 }
 

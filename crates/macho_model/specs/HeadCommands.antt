@@ -1,6 +1,7 @@
 -- Header and load commands as records (`mach-o/loader.h`): those whose bytes `Head` says, and those that a reader finds in a file.
-use Rattle.std.specs.Prelude.{◌≡◌, ℕ, ◌+◌, ◌*◌, ◌-◌, ◌==◌, ◌||◌, if◌then◌else◌, List, [], ◌∷◌, ◌++◌, length, map, slice_range, sum_by, Option, Some, None}
+use Rattle.std.specs.Prelude.{◌≡◌, ℕ, ◌+◌, ◌*◌, ◌-◌, ◌==◌, ◌||◌, if◌then◌else◌, List, [], ◌∷◌, ◌++◌, length, map, replicate, slice_range, sum_by, codes, Option, Some, None}
 use Rattle.std.specs.List.{range_with_len}
+use Rattle.macho_records.specs.Numbers.{rounded_up}
 use Rattle.macho_records.specs.ByteLayouts.{reading, size_of}
 use Rattle.macho_records.specs.Layouts.{segment_command, section_header, symtab_command}
 use Rattle.macho_records.specs.CommandLayouts.{entry_point_command, dylinker_command, dylib_command, rpath_command, linkedit_data_command, uuid_command, build_version_command, build_tool_version}
@@ -17,7 +18,7 @@ use Rattle.macho_records.specs.UuidCommand.{UuidCommand}
 use Rattle.macho_records.specs.BuildVersionCommand.{BuildVersionCommand}
 use Rattle.macho_records.specs.BuildToolVersion.{BuildToolVersion}
 use Rattle.macho_records.specs.declared.constants.TheConstants.{LC_BUILD_VERSION, LC_CODE_SIGNATURE, LC_DYLD_CHAINED_FIXUPS, LC_DYLD_EXPORTS_TRIE, LC_ID_DYLIB, LC_LOAD_DYLIB, LC_LOAD_DYLINKER, LC_MAIN, LC_RPATH, LC_SEGMENT_64, LC_SYMTAB, LC_UUID}
-use Rattle.macho_records.specs.Segments.{bytes_of, text_of, segment_flags_of}
+use Rattle.macho_records.specs.Segments.{text_of, segment_flags_of}
 use Rattle.macho_model.specs.declared.placed.Counts.{Counts}
 use Rattle.macho_model.specs.declared.placed.PlacedSegment.{PlacedSegment}
 use Rattle.macho_model.specs.Commands.{Command, header_of, commands_of}
@@ -30,7 +31,7 @@ use Rattle.macho_model.specs.Addresses.{address_of}
 use Rattle.macho_model.specs.Agreement.{section_headers_at}
 use Rattle.macho_model.specs.Signature.{uuid_written}
 use Rattle.macho_model.specs.Head as head
-use Rattle.macho_model.specs.Head.{headers_in, PLATFORM_MACOS, THIS_TOOL, THIS_VERSION, path_command_size, path_filled, DYLINKER, range_size}
+use Rattle.macho_model.specs.Head.{headers_in, range_size}
 
 -- A load command with all that it says: its record, and what stands behind the record. A path stands there with the zeros
 -- that fill the command.
@@ -74,12 +75,33 @@ command_in b c =
 unfoldable pub commands_in : List ℕ → List HeadCommand
 commands_in b = map (command_in b) (commands_of b)
 
+-- `PLATFORM_MACOS`; this linker as a tool, by the bytes `wild` read as a number, the lowest first, and its version, 0.11.0
+abbrev pub PLATFORM_MACOS : ℕ
+PLATFORM_MACOS = 1
+
+abbrev pub THIS_TOOL : ℕ
+THIS_TOOL = 1684826487
+
+abbrev pub THIS_VERSION : ℕ
+THIS_VERSION = 0x00000b00
+
+-- a command with a path behind a record: at least one NUL ends the path, and zeros fill the command to a multiple of 8 bytes
+abbrev pub path_command_size : ℕ → List ℕ → ℕ
+path_command_size record_size path = rounded_up 8 (record_size + length path + 1)
+
+abbrev pub path_filled : ℕ → List ℕ → List ℕ
+path_filled record_size path = path ++ replicate (path_command_size record_size path - record_size - length path) 0
+
+-- the dynamic linker of the system
+abbrev pub DYLINKER : List ℕ
+DYLINKER = codes "/usr/lib/dyld"
+
 -- the commands of a link and its placement, one by one
 abbrev pub segment_for : Placed → PlacedSegment → HeadCommand
 segment_for p s = Segment (record {
   cmd = LC_SEGMENT_64;
   cmdsize = size_of segment_command + size_of section_header * length (headers_in p s);
-  segname = bytes_of s.name;
+  segname = s.name.0;
   vmaddr = s.address;
   vmsize = s.size;
   fileoff = s.file_offset;
@@ -163,6 +185,16 @@ commands_for l counts p uuid trie =
     ∷ linkedit_for LC_DYLD_EXPORTS_TRIE p.linkedit.trie.start trie
     ∷ symtab_for counts p
     ∷ linkedit_for LC_CODE_SIGNATURE p.linkedit.signature.start (range_size p.linkedit.signature) ∷ []
+
+-- the bytes of the commands of a link itself: an executable's entry and dynamic linker, or a library's own name; and the versions
+abbrev pub own_commands_size : Link → ℕ
+own_commands_size l =
+    if l.executable then size_of entry_point_command + path_command_size (size_of dylinker_command) DYLINKER
+    else path_command_size (size_of dylib_command) l.install_name
+
+abbrev pub versions_size : Option (ℕ × ℕ) → ℕ
+versions_size None = 0
+versions_size (Some versions) = size_of build_version_command + size_of build_tool_version
 
 abbrev pub size_said : HeadCommand → ℕ
 size_said (Segment command headers) = command.cmdsize

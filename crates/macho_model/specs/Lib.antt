@@ -1,5 +1,4 @@
 pub mod Lists
-pub mod Symbols
 pub mod Commands
 pub mod Objects
 pub mod ObjectRules
@@ -49,6 +48,7 @@ pub mod SlideLaws
 pub mod HeldLaws
 pub mod LinkLaws
 pub mod ObjectLaws
+pub mod steps
 -- the layouts of the records, and the tests on section headers, of the crates below
 pub use Rattle.macho_records.specs.CommandLayouts
 pub use Rattle.macho_records.specs.Layouts as HeaderLayouts

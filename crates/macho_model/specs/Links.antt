@@ -1,9 +1,8 @@
 -- What is linked: the arguments that matter and the inputs in order; which sections of the objects go into the image.
-use Rattle.std.specs.Prelude.{ℕ, ◌==◌, ◌&&◌, ◌||◌, not, if◌then◌else◌, Bool, List, [], ◌∷◌, map, filter, Option, codes, get_or, max}
+use Rattle.std.specs.Prelude.{ℕ, ◌==◌, ◌&&◌, not, if◌then◌else◌, Bool, List, [], ◌∷◌, map, filter, Option, codes, bytes_eq, get_or, max}
 use Rattle.std.specs.List.{flat_map, enumerate_from, range_with_len}
 use Rattle.macho_records.specs.declared.header.SectionHeader.{SectionHeader}
-use Rattle.macho_records.specs.Sections.{should_exclude_of, type_of, is_template_type}
-use Rattle.macho_model.specs.Symbols.{has_section_name}
+use Rattle.macho_records.specs.Sections.{should_exclude_of, section_name_of, type_of, is_template_type}
 use Rattle.macho_records.specs.declared.constants.TheConstants.{S_THREAD_LOCAL_VARIABLES}
 use Rattle.macho_model.specs.Objects.{num_sections, section_at}
 
@@ -61,18 +60,14 @@ header_at l s = section_at (object_of l s.file) s.section
 
 -- initializers and compact unwind entries are turned into sections of the image's own
 abbrev pub is_initializers : SectionHeader → Bool
-is_initializers h = has_section_name (codes "__mod_init_func") h
+is_initializers h = bytes_eq (section_name_of h) (codes "__mod_init_func")
 
 abbrev pub is_unwind_entries : SectionHeader → Bool
-is_unwind_entries h = has_section_name (codes "__compact_unwind") h
+is_unwind_entries h = bytes_eq (section_name_of h) (codes "__compact_unwind")
 
 -- a section goes into the image as it is
 abbrev pub is_carried : SectionHeader → Bool
 is_carried h = not (should_exclude_of h) && not (is_initializers h) && not (is_unwind_entries h)
-
--- a section that is read, and goes into the image in another form
-abbrev pub is_consumed : SectionHeader → Bool
-is_consumed h = not (should_exclude_of h) && (is_initializers h || is_unwind_entries h)
 
 -- a carried section of the thread-local template
 abbrev pub is_template : SectionHeader → Bool

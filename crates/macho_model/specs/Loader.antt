@@ -2,6 +2,8 @@
 -- refusal names a rule and the file offset of what breaks it.
 use Rattle.std.specs.Prelude.{◌≡◌, ℕ, ◌+◌, ◌-◌, ◌<◌, ◌≤◌, ◌⊎◌, ◌==◌, Bool, true, false, List, [], length, filter, All, Contains, ◌*◌}
 use Rattle.macho_records.specs.Numbers.{bits}
+use Rattle.macho_records.specs.ByteLayouts.{reading}
+use Rattle.macho_records.specs.Layouts.{segment_command}
 use Rattle.macho_records.specs.declared.header.SegmentCommand.{SegmentCommand}
 use Rattle.macho_model.specs.declared.rules.LoadRule.{LoadRule}
 use Rattle.macho_model.specs.declared.rules.LoadRule.TheVariants.{L1, L2, L3, L4, L5, L6, L7, L8, L9, L10}
@@ -14,7 +16,7 @@ use Rattle.macho_model.specs.Segments.{TEXT, SEGMENT_PAGE}
 use Rattle.macho_model.specs.Images.{segments_of, is_named, segments_named, Table, table_of_command, tables_of, fixups_header, import_place}
 use Rattle.macho_model.specs.Chain.{chain_segment, chain_segments, IsFileWord, OnPageChain}
 use Rattle.macho_model.specs.Needs.{POINTER_SIZE}
-use Rattle.macho_model.specs.LoadRules.{image_head_fits, needed_in_image, segment_in, protections_fit, file_part_inside, segment_is_paged, segment_ends, begins_behind, text_holds_commands, table_fits, import_fits}
+use Rattle.macho_model.specs.LoadRules.{image_head_fits, needed_in_image, protections_fit, file_part_inside, segment_is_paged, segment_ends, begins_behind, text_holds_commands, table_fits, import_fits}
 
 -- a chain word binds an import, by number, or moves with the image (`mach-o/fixup-chains.h`)
 abbrev pub is_bind : ℕ → Bool
@@ -42,15 +44,19 @@ pub record WordFits (b : List ℕ) (s : SegmentCommand) (page a : ℕ) : Type 0 
 pub record IsAccepted (b : List ℕ) : Type 0 where
   pub l1 : image_head_fits b ≡ true
   pub l2 : (commands_inside b ≡ true) × EachCommand (commands_of b) (command_fits (needed_in_image b) b)
-  pub l3 : EachCommand (numbered LC_SEGMENT_64 b) (protections_fit b)
-  pub l4 : EachCommand (numbered LC_SEGMENT_64 b) (file_part_inside b)
-  pub l5 : EachCommand (numbered LC_SEGMENT_64 b) (segment_is_paged b)
-  pub l6 : EachCommand (numbered LC_SEGMENT_64 b) (segment_ends b) × EachNext (λ c d. begins_behind b c d ≡ true) (numbered LC_SEGMENT_64 b)
+  pub l3 : All (λ s. protections_fit s ≡ true) (segments_of b)
+  pub l4 : All (λ s. file_part_inside b s ≡ true) (segments_of b)
+  pub l5 : All (λ s. segment_is_paged s ≡ true) (segments_of b)
+  pub l6 : All (λ s. segment_ends s ≡ true) (segments_of b) × EachNext (λ s t. begins_behind s t ≡ true) (segments_of b)
   pub l7 : (length (segments_named TEXT b) ≡ 1) × All (λ s. text_holds_commands b s ≡ true) (segments_named TEXT b)
   pub l8 : (length (tables_of b) ≤ 1) × All (λ t. table_fits b t ≡ true) (tables_of b)
   pub l9 : (t : Table) (k : ℕ) → Contains (tables_of b) t → k < (fixups_header b t).imports_count → import_fits b t k ≡ true
   pub l10 : (number : ℕ) (s : SegmentCommand) (page a : ℕ) → IsNumber (segments_of b) number s
       → OnPageChain (chain_segments b) b (chain_segment b (number, s)) page a → WordFits b s page a
+
+-- the segment of a command
+abbrev pub segment_in : List ℕ → Command → SegmentCommand
+segment_in b c = reading segment_command b c.at
 
 -- some segment's command and the one behind it fail a test, told at the latter
 abbrev pub NeighbourFails : List Command → ℕ → (Command → Command → Bool) → Type 0
@@ -92,11 +98,12 @@ WordFails b place =
 abbrev pub ImageBreaks : List ℕ → LoadRule → ℕ → Type 0
 ImageBreaks b L1 place = (place ≡ 0) × (image_head_fits b ≡ false)
 ImageBreaks b L2 place = ((place ≡ 0) × (commands_inside b ≡ false)) ⊎ CommandFails (commands_of b) place (command_fits (needed_in_image b) b)
-ImageBreaks b L3 place = CommandFails (numbered LC_SEGMENT_64 b) place (protections_fit b)
-ImageBreaks b L4 place = CommandFails (numbered LC_SEGMENT_64 b) place (file_part_inside b)
-ImageBreaks b L5 place = CommandFails (numbered LC_SEGMENT_64 b) place (segment_is_paged b)
+ImageBreaks b L3 place = CommandFails (numbered LC_SEGMENT_64 b) place (λ c. protections_fit (segment_in b c))
+ImageBreaks b L4 place = CommandFails (numbered LC_SEGMENT_64 b) place (λ c. file_part_inside b (segment_in b c))
+ImageBreaks b L5 place = CommandFails (numbered LC_SEGMENT_64 b) place (λ c. segment_is_paged (segment_in b c))
 ImageBreaks b L6 place =
-    CommandFails (numbered LC_SEGMENT_64 b) place (segment_ends b) ⊎ NeighbourFails (numbered LC_SEGMENT_64 b) place (begins_behind b)
+    CommandFails (numbered LC_SEGMENT_64 b) place (λ c. segment_ends (segment_in b c))
+    ⊎ NeighbourFails (numbered LC_SEGMENT_64 b) place (λ c d. begins_behind (segment_in b c) (segment_in b d))
 ImageBreaks b L7 place = TextIsNotOne b place ⊎ CommandFails (text_commands b) place (λ c. text_holds_commands b (segment_in b c))
 ImageBreaks b L8 place = SecondTable b place ⊎ CommandFails (fixup_commands b) place (λ c. table_fits b (table_of_command b c))
 ImageBreaks b L9 place = ImportFails b place

@@ -2,7 +2,7 @@
 -- refers to. Addresses are numbers modulo 2 ^ 64 (`mach-o/arm64/reloc.h`).
 use Rattle.std.specs.Prelude.{◌≡◌, ℕ, ◌+◌, ◌*◌, ◌%◌, ◌^◌, true}
 use Rattle.macho_records.specs.Numbers.{signed, page, low}
-use Rattle.macho_model.specs.Words.{is_adrp, imm21, imm26, is_add, is_ldr, imm12, scale_of, base_register, written_register, without_imm21, without_imm26, without_imm12, BR_X16, X16}
+use Rattle.macho_model.specs.Words.{imm21, imm26, is_add, is_ldr, imm12, scale_of, base_register, written_register, without_imm21, without_imm26, without_imm12}
 
 abbrev pub Same : ℕ → ℕ → Type 0
 Same x y = x % 2 ^ 64 ≡ y % 2 ^ 64
@@ -52,10 +52,9 @@ pub record LoadsFrom (word input slot : ℕ) : Type 0 where
 abbrev pub IsDistance : ℕ → ℕ → ℕ → Type 0
 IsDistance place word slot = Same (place + signed 32 word) slot
 
--- The three words of a stub at a place go on through a slot: ADRP x16 and LDR x16 from x16 find it, BR x16 leaves.
+-- The words of a stub at a place go through a slot: `adrp x16, PAGE`, `ldr x16, [x16, OFFSET]` and `br x16`. (The numbers are these words
+-- with immediates of 0.)
 pub record GoesThrough (place slot adrp ldr br : ℕ) : Type 0 where
-  pub pages : (is_adrp adrp ≡ true) × (written_register adrp ≡ X16)
-  pub reaches : Same (page (address place) + 4096 * signed 21 (imm21 adrp)) (page (address slot))
-  pub load : (is_ldr ldr ≡ true) × (base_register ldr ≡ X16) × (written_register ldr ≡ X16)
-  pub offset : 8 * imm12 ldr ≡ low (address slot)
-  pub leaves : br ≡ BR_X16
+  pub pages : PagesTo place adrp 0x90000010 slot
+  pub loads : LoadsFrom ldr 0xf9400210 slot
+  pub leaves : br ≡ 0xd61f0200

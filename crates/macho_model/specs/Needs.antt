@@ -1,14 +1,15 @@
 -- What the objects ask for, in the order of one walk: carried relocations, then initializers, then personality
 -- functions of unwind entries, then the plain names of the export lists. From it come imports and libraries.
 use Rattle.std.specs.Prelude.{ℕ, ◌+◌, ◌-◌, ◌*◌, ◌/◌, ◌==◌, ◌&&◌, ◌||◌, not, if◌then◌else◌, Bool, true, false, List, [], ◌∷◌, ◌++◌, map, filter, Option, Some, None}
-use Rattle.std.specs.List.{flat_map, filter_map, range_with_len, list_any, position_or_len}
+use Rattle.std.specs.List.{flat_map, filter_map, range_with_len, list_any}
 use Rattle.std.specs.Str.{bytes_eq}
 use Rattle.macho_records.specs.RelocationInfo.{RelocationInfo}
+use Rattle.macho_records.specs.Sections.{should_exclude_of}
 use Rattle.macho_records.specs.declared.constants.TheConstants.{ARM64_RELOC_ADDEND}
+use Rattle.macho_records.specs.Symbols.{is_global}
 use Rattle.macho_model.specs.Objects.{relocation_at}
 use Rattle.macho_model.specs.ExportLists.{plain_entries}
-use Rattle.macho_model.specs.Links.{Link, object_of, SectionId, header_at, is_consumed, is_initializers, is_unwind_entries, sections_of, carried_of}
-use Rattle.macho_model.specs.Symbols.{is_global}
+use Rattle.macho_model.specs.Links.{Link, object_of, SectionId, header_at, is_initializers, is_unwind_entries, sections_of, carried_of}
 use Rattle.macho_model.specs.Resolution.{SymbolId, Definition, Library, definition_of, entry_at, name_at, library_name, library_of_input}
 
 -- the bytes of a pointer, a slot or a word on a chain and of a compact unwind entry, and the place of the personality in the latter
@@ -44,12 +45,12 @@ relocations_of l s = range_with_len 0 (header_at l s).nreloc
 abbrev pub relocations_at : Link → SectionId → ℕ → List ℕ
 relocations_at l s place = filter (λ r. (relocation_in l s r).r_address == place) (relocations_of l s)
 
--- the consumed sections with initializers, and those with unwind entries
+-- the sections with initializers, and those with unwind entries, which go into the image in another form
 unfoldable pub initializer_sections : Link → List SectionId
-initializer_sections l = filter (λ s. is_consumed (header_at l s) && is_initializers (header_at l s)) (sections_of l)
+initializer_sections l = filter (λ s. not (should_exclude_of (header_at l s)) && is_initializers (header_at l s)) (sections_of l)
 
 unfoldable pub unwind_sections : Link → List SectionId
-unwind_sections l = filter (λ s. is_consumed (header_at l s) && is_unwind_entries (header_at l s)) (sections_of l)
+unwind_sections l = filter (λ s. not (should_exclude_of (header_at l s)) && is_unwind_entries (header_at l s)) (sections_of l)
 
 abbrev pub carried_uses : Link → SectionId → List Use
 carried_uses l s = map (ByRelocation s) (relocations_of l s)
@@ -109,10 +110,6 @@ distinct same (x ∷ xs) = x ∷ filter (λ y. not (same x y)) (distinct same xs
 unfoldable pub imports_of : Link → List (List ℕ)
 imports_of l = distinct bytes_eq (filter (is_imported l) (filter_map (name_used l) (uses_of l)))
 
--- the number of a name among imports; one that isn't among them will be the next
-abbrev pub import_number : List (List ℕ) → List ℕ → ℕ
-import_number noted name = position_or_len (bytes_eq name) noted
-
 -- the number of the library that defines a name, 0 for any other name
 abbrev pub library_file : Option Definition → ℕ
 library_file (Some (Library file)) = file
@@ -122,10 +119,8 @@ library_file d = 0
 abbrev pub import_library : Link → List ℕ → List ℕ
 import_library l name = library_name l (library_file (definition_of l name))
 
--- some import is bound to the library
-abbrev pub is_needed : Link → List ℕ → Bool
-is_needed l library = list_any (λ name. bytes_eq (import_library l name) library) (imports_of l)
-
--- the libraries of the image, by install name in input order: all of them, or only those that an import needs
+-- the libraries of the image, by install name in input order: all of them, or only those that an import is bound to
 unfoldable pub libraries_needed : Link → List (List ℕ)
-libraries_needed l = filter (λ library. not l.dead_strip_dylibs || is_needed l library) (distinct bytes_eq (filter_map library_of_input l.inputs))
+libraries_needed l =
+    filter (λ library. not l.dead_strip_dylibs || list_any (λ name. bytes_eq (import_library l name) library) (imports_of l))
+    (distinct bytes_eq (filter_map library_of_input l.inputs))

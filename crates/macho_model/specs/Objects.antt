@@ -6,7 +6,6 @@ use Rattle.macho_records.specs.ByteLayouts.{reading, size_of}
 use Rattle.macho_records.specs.Layouts.{segment_command, section_header, symtab_command, symtab_entry}
 use Rattle.macho_records.specs.CommandLayouts.{dylib_command}
 use Rattle.macho_records.specs.Relocations.{relocation_info}
-use Rattle.macho_records.specs.declared.header.SegmentCommand.{SegmentCommand}
 use Rattle.macho_records.specs.declared.header.SectionHeader.{SectionHeader}
 use Rattle.macho_records.specs.declared.symbols.SymtabCommand.{SymtabCommand}
 use Rattle.macho_records.specs.declared.symbols.SymtabEntry.{SymtabEntry}
@@ -16,12 +15,9 @@ use Rattle.macho_records.specs.Sections.{is_zerofill}
 use Rattle.macho_model.specs.Commands.{numbered, place_of, path_of}
 use Rattle.macho_model.specs.Lists.{of_first}
 
--- an object's one segment, which holds all its sections
-unfoldable pub segment_of : List ℕ → SegmentCommand
-segment_of b = reading segment_command b (place_of LC_SEGMENT_64 b)
-
+-- how many sections an object has, all of which its one segment holds
 unfoldable pub num_sections : List ℕ → ℕ
-num_sections b = (segment_of b).nsects
+num_sections b = (reading segment_command b (place_of LC_SEGMENT_64 b)).nsects
 
 -- the place of a section's header; sections count from 0
 unfoldable pub section_place : List ℕ → ℕ → ℕ

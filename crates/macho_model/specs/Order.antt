@@ -4,10 +4,9 @@ use Rattle.std.specs.Prelude.{◌≡◌, ℕ, ◌+◌, ◌*◌, ◌-◌, ◌/◌
 use Rattle.std.specs.Str.{bytes_eq}
 use Rattle.std.specs.List.{range_with_len}
 use Rattle.macho_records.specs.Numbers.{rounded_up}
-use Rattle.macho_records.specs.Segments.{bytes_of, text_of, name_field}
+use Rattle.macho_records.specs.Segments.{text_of, name_field}
 use Rattle.macho_model.specs.declared.placed.Counts.{Counts}
 use Rattle.macho_model.specs.declared.placed.PlacedSegment.{PlacedSegment}
-use Rattle.macho_model.specs.declared.placed.Range64.{Range64}
 use Rattle.macho_model.specs.Lists.{IsNumber, EachNext, of_first}
 use Rattle.macho_model.specs.Links.{Link, carried_of, greatest}
 use Rattle.macho_model.specs.Resolution.{chosen_commons}
@@ -43,7 +42,7 @@ table_pieces p =
 pub record StandInOrder (l : Link) (counts : Counts) (p : Placed) : Type 0 where
   -- the segments are those of the link, their names filled with zeros
   pub segments : map (λ s. text_of s.name) p.segments ≡ segment_names_of l
-  pub names : map (λ s. bytes_of s.name) p.segments ≡ map name_field (segment_names_of l)
+  pub names : map (λ s. s.name.0) p.segments ≡ map name_field (segment_names_of l)
   -- sections are listed by file, then section, and commons by number
   pub sections : map id_of p.sections ≡ carried_of l
   pub commons : map (λ c. c.id) p.commons ≡ range_with_len 0 (length (chosen_commons l))
@@ -85,18 +84,15 @@ fixup_room counts pages = rounded_up 8 (FIXUP_RECORDS + counts.import_size * cou
 abbrev pub signature_room : Counts → ℕ → ℕ
 signature_room counts limit = SIGNATURE_FIXED + counts.identifier + DIGEST_SIZE * (rounded_up SIGNED_PAGE limit / SIGNED_PAGE)
 
-abbrev pub HasRoom : Range64 → ℕ → Type 0
-HasRoom r room = r.end ≡ r.start + room
-
 -- The ranges that the linker fills have the room that was counted.
 pub record HaveRoom (counts : Counts) (p : Placed) : Type 0 where
-  pub initializers : HasRoom p.init_offsets (INITIALIZER_SIZE * counts.initializers)
-  pub unwind : HasRoom p.unwind counts.unwind
-  pub fixups : HasRoom p.linkedit.fixups (fixup_room counts (pointer_pages p))
-  pub trie : HasRoom p.linkedit.trie counts.trie
-  pub symbols : HasRoom p.linkedit.symtab (SYMBOL_SIZE * counts.symbols)
-  pub strings : HasRoom p.linkedit.strtab counts.strings
-  pub signature : HasRoom p.linkedit.signature (signature_room counts p.linkedit.signature.start)
+  pub initializers : p.init_offsets.end ≡ p.init_offsets.start + INITIALIZER_SIZE * counts.initializers
+  pub unwind : p.unwind.end ≡ p.unwind.start + counts.unwind
+  pub fixups : p.linkedit.fixups.end ≡ p.linkedit.fixups.start + fixup_room counts (pointer_pages p)
+  pub trie : p.linkedit.trie.end ≡ p.linkedit.trie.start + counts.trie
+  pub symbols : p.linkedit.symtab.end ≡ p.linkedit.symtab.start + SYMBOL_SIZE * counts.symbols
+  pub strings : p.linkedit.strtab.end ≡ p.linkedit.strtab.start + counts.strings
+  pub signature : p.linkedit.signature.end ≡ p.linkedit.signature.start + signature_room counts p.linkedit.signature.start
 
 -- THE least places: nothing stands higher than what is in front of it, its alignment and its room ask for.
 pub record AreLeast (l : Link) (counts : Counts) (p : Placed) : Type 0 where

@@ -14,14 +14,14 @@ use Rattle.macho_model.specs.declared.placed.Stub.{Stub}
 use Rattle.macho_model.specs.declared.placed.Range64.{Range64}
 use Rattle.macho_model.specs.declared.placed.Linkedit.{Linkedit}
 use Rattle.macho_model.specs.declared.targets.Target.TheVariants as target
-use Rattle.macho_records.specs.Sections.{is_zerofill}
+use Rattle.macho_records.specs.Sections.{is_zerofill, segment_name_of}
 use Rattle.macho_records.specs.Segments.{text_of}
 use Rattle.macho_records.specs.Symbols.{common_exponent_of, common_size_of}
 use Rattle.macho_model.specs.Lists.{IsNumber, EachNext, of_first}
 use Rattle.macho_model.specs.Links.{Link, SectionId, header_at, carried_of, is_template, placed_exponent}
 use Rattle.macho_model.specs.Resolution.{SymbolId, entry_at, chosen_commons}
 use Rattle.macho_model.specs.Targets.{slots_of, stubs_of, slot_number}
-use Rattle.macho_model.specs.Segments.{TEXT, DATA_CONST, DATA, LINKEDIT, SEGMENT_PAGE, base_of_link, segment_name, segment_rank}
+use Rattle.macho_model.specs.Segments.{TEXT, DATA_CONST, DATA, LINKEDIT, SEGMENT_PAGE, base_of_link, segment_rank}
 use Rattle.macho_model.specs.WrittenSum.{STUB_SIZE, written_sum_of}
 use Rattle.macho_model.specs.Needs.{POINTER_SIZE}
 
@@ -111,7 +111,7 @@ LiesInNamed p name in_file span =
 -- a section's segment has the section's segment name and holds it; an empty section lies anywhere in it
 abbrev pub SectionLies : Link → Placed → PlacedSection → Type 0
 SectionLies l p q =
-    (s : PlacedSegment) × IsNumber p.segments q.segment s × (is_segment_named (segment_name l (id_of q)) s ≡ true)
+    (s : PlacedSegment) × IsNumber p.segments q.segment s × (is_segment_named (segment_name_of (header_at l (id_of q))) s ≡ true)
     × LiesIn (not (is_zerofill (header_at l (id_of q))) && not ((header_at l (id_of q)).size == 0)) (section_span l q) s
 
 -- a table that is not empty lies in the file part of `__LINKEDIT`

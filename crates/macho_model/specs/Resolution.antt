@@ -5,8 +5,8 @@ use Rattle.std.specs.List.{flat_map, enumerate_from, range_with_len, list_any, l
 use Rattle.std.specs.Option.{unwrap_or}
 use Rattle.std.specs.Str.{bytes_eq}
 use Rattle.macho_records.specs.declared.symbols.SymtabEntry.{SymtabEntry}
-use Rattle.macho_records.specs.Symbols.{is_common_of, is_external_of, is_hidden_of, is_weak_of}
-use Rattle.macho_model.specs.Symbols.{is_absolute, is_in_section, is_global}
+use Rattle.macho_records.specs.Symbols.{is_common_of, is_hidden_of, is_weak_of, has_type, is_global}
+use Rattle.macho_records.specs.declared.constants.TheConstants.{N_ABS, N_SECT}
 use Rattle.macho_model.specs.Objects.{num_symbols, symbol_at, symbol_name, install_name_of}
 use Rattle.macho_model.specs.Links.{Input, Object, Dylib, Stub, Link, no_input, object_of, SectionId, header_at, is_carried}
 
@@ -38,11 +38,11 @@ section_of_symbol l s = record { file = s.file; section = (entry_at l s).n_sect 
 
 -- a symbol stands in a carried section
 abbrev pub stands_in_carried : Link → SymbolId → Bool
-stands_in_carried l s = is_in_section (entry_at l s) && is_carried (header_at l (section_of_symbol l s))
+stands_in_carried l s = has_type N_SECT (entry_at l s) && is_carried (header_at l (section_of_symbol l s))
 
 -- a global symbol that is defined: in a carried section, or as a value of its own
 abbrev pub is_definition : Link → SymbolId → Bool
-is_definition l s = is_global (entry_at l s) && (stands_in_carried l s || is_absolute (entry_at l s))
+is_definition l s = is_global (entry_at l s) && (stands_in_carried l s || has_type N_ABS (entry_at l s))
 
 abbrev pub is_strong : Link → SymbolId → Bool
 is_strong l s = is_definition l s && not (is_weak_of (entry_at l s))
@@ -70,8 +70,8 @@ greatest_of l name = filter (λ s. list_all (λ t. nat_le (entry_at l t).n_value
 -- a library offers the names of its visible defined symbols, or those that its stub lists
 abbrev pub is_offered_symbol : List ℕ → List ℕ → ℕ → Bool
 is_offered_symbol bytes name k =
-    is_external_of (symbol_at bytes k) && not (is_hidden_of (symbol_at bytes k)) && (is_in_section (symbol_at bytes k) || is_absolute (symbol_at bytes k))
-    && bytes_eq (symbol_name bytes k) name
+    is_global (symbol_at bytes k) && not (is_hidden_of (symbol_at bytes k))
+    && (has_type N_SECT (symbol_at bytes k) || has_type N_ABS (symbol_at bytes k)) && bytes_eq (symbol_name bytes k) name
 
 abbrev pub offers : List ℕ → Input → Bool
 offers name (Object bytes) = false

@@ -31,31 +31,16 @@ abbrev pub difference_fits : Link → SectionId → ℕ → Bool
 difference_fits l s r =
     (has_form (relocation_in l s r) 2 false true || has_form (relocation_in l s r) 3 false true) && is_defined (target_of_relocation l s r)
 
--- an addend has 4 bytes, and isn't relative to its place
-abbrev pub addend_fits : Link → SectionId → ℕ → Bool
-addend_fits l s r = ((relocation_in l s r).r_length == 2) && not (relocation_in l s r).r_pcrel
-
 -- a pointer of 8 bytes to anything, or what a subtrahend stands in front of
 abbrev pub pointer_fits : Link → SectionId → ℕ → Bool
 pointer_fits l s r =
     if has_subtrahend l s r then difference_fits l s r
     else ((relocation_in l s r).r_length == 3) && not (relocation_in l s r).r_pcrel && not (is_none (target_of_relocation l s r))
 
--- a target that may be called: one that moves with the image, or an import without addend
-abbrev pub may_be_called : Link → SectionId → ℕ → Bool
-may_be_called l s r = is_defined (target_of_relocation l s r) || (is_import (target_of_relocation l s r) && not (has_addend l s r))
-
 abbrev pub defined_or_import : Target → Bool
 defined_or_import t = is_defined t || is_import t
 
--- an instruction that takes an offset in a page
-abbrev pub takes_offset : ℕ → Bool
-takes_offset w = is_add w || is_load_store w
-
--- a load of a slot; one that becomes an ADD does not load into the zero register
-abbrev pub load_fits : ℕ → Target → Bool
-load_fits w t = is_ldr w && (is_import t || not (written_register w == REGISTER_31))
-
+-- A relocation is supported. An import is called without an addend; a load that becomes an ADD does not load into the zero register.
 unfoldable pub is_supported : Link → SectionId → ℕ → Bool
 is_supported l s r = supported (relocation_in l s r) (target_of_relocation l s r) (content_of l s r)
   where
@@ -63,14 +48,15 @@ is_supported l s r = supported (relocation_in l s r) (target_of_relocation l s r
     supported rel t w =
         if rel.r_type == ARM64_RELOC_UNSIGNED then pointer_fits l s r
         else if rel.r_type == ARM64_RELOC_SUBTRACTOR then difference_fits l s r && begins_pair l s r
-        else if rel.r_type == ARM64_RELOC_BRANCH26 then has_form rel 2 true true && is_branch w && may_be_called l s r
+        else if rel.r_type == ARM64_RELOC_BRANCH26
+        then has_form rel 2 true true && is_branch w && (is_defined t || (is_import t && not (has_addend l s r)))
         else if rel.r_type == ARM64_RELOC_PAGE21 then has_form rel 2 true true && is_adrp w && is_defined t
-        else if rel.r_type == ARM64_RELOC_PAGEOFF12 then has_form rel 2 false true && takes_offset w && is_defined t
+        else if rel.r_type == ARM64_RELOC_PAGEOFF12 then has_form rel 2 false true && (is_add w || is_load_store w) && is_defined t
         else if (rel.r_type == ARM64_RELOC_GOT_LOAD_PAGE21) || (rel.r_type == ARM64_RELOC_TLVP_LOAD_PAGE21) then has_form rel 2 true true && is_adrp w && defined_or_import t
         else if (rel.r_type == ARM64_RELOC_GOT_LOAD_PAGEOFF12) || (rel.r_type == ARM64_RELOC_TLVP_LOAD_PAGEOFF12)
-        then has_form rel 2 false true && load_fits w t && defined_or_import t
+        then has_form rel 2 false true && (is_ldr w && (is_import t || not (written_register w == REGISTER_31))) && defined_or_import t
         else if rel.r_type == ARM64_RELOC_POINTER_TO_GOT then has_form rel 2 true true && defined_or_import t
-        else if rel.r_type == ARM64_RELOC_ADDEND then addend_fits l s r && begins_pair l s r
+        else if rel.r_type == ARM64_RELOC_ADDEND then ((rel.r_length == 2) && not rel.r_pcrel) && begins_pair l s r
         else false
 
 abbrev pub share_byte : Link → SectionId → ℕ → ℕ → Bool

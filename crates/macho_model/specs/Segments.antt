@@ -2,18 +2,17 @@
 use Rattle.std.specs.Prelude.{ℕ, ◌+◌, ◌==◌, nat_lt, ◌&&◌, ◌||◌, not, if◌then◌else◌, Bool, List, [], ◌∷◌, ◌++◌, length, map, filter, codes}
 use Rattle.std.specs.List.{list_any, position_or_len}
 use Rattle.std.specs.Str.{bytes_eq}
-use Rattle.macho_records.specs.ByteTexts.{name_of}
 use Rattle.macho_records.specs.declared.header.SectionHeader.{SectionHeader}
 use Rattle.macho_model.specs.declared.placed.Counts.{Counts}
-use Rattle.macho_records.specs.Sections.{type_of}
+use Rattle.macho_records.specs.Sections.{section_name_of, segment_name_of, type_of}
 use Rattle.macho_records.specs.Segments.{segment_flags_of}
 use Rattle.macho_records.specs.declared.constants.TheConstants.{S_ZEROFILL, VM_PROT_READ, VM_PROT_WRITE, VM_PROT_EXECUTE}
-use Rattle.macho_model.specs.Links.{Link, SectionId, header_at, carried_of}
+use Rattle.macho_model.specs.Links.{Link, header_at, carried_of}
 use Rattle.macho_model.specs.Resolution.{chosen_commons}
 use Rattle.macho_model.specs.Needs.{distinct}
 use Rattle.macho_model.specs.Targets.{slots_of, stubs_of}
 
--- the names of segments that the linker knows, and of the section that commons are put into
+-- the names of segments that the linker knows
 abbrev pub PAGEZERO : List ℕ
 PAGEZERO = codes "__PAGEZERO"
 
@@ -28,9 +27,6 @@ DATA = codes "__DATA"
 
 abbrev pub LINKEDIT : List ℕ
 LINKEDIT = codes "__LINKEDIT"
-
-abbrev pub COMMON : List ℕ
-COMMON = codes "__common"
 
 -- the segments that the loader writes pointers in
 abbrev pub may_hold_pointers : List ℕ → Bool
@@ -47,9 +43,6 @@ PAGEZERO_SIZE = 0x100000000
 abbrev pub base_of_link : Link → ℕ
 base_of_link l = if l.executable then PAGEZERO_SIZE else 0
 
-abbrev pub segment_name : Link → SectionId → List ℕ
-segment_name l s = name_of (header_at l s).segname
-
 -- a segment with a place of its own in the order
 abbrev pub is_known_segment : List ℕ → Bool
 is_known_segment name =
@@ -57,14 +50,14 @@ is_known_segment name =
 
 -- the other segments, in the order in which the carried sections name them first
 unfoldable pub other_segments : Link → List (List ℕ)
-other_segments l = filter (λ name. not (is_known_segment name)) (distinct bytes_eq (map (segment_name l) (carried_of l)))
+other_segments l = filter (λ name. not (is_known_segment name)) (distinct bytes_eq (map (λ s. segment_name_of (header_at l s)) (carried_of l)))
 
 -- The rank of a segment: `__PAGEZERO`, `__TEXT`, `__DATA_CONST`, `__DATA`, the others as first seen. `__LINKEDIT` is behind all of them.
 unfoldable pub segment_rank : Link → List ℕ → ℕ
 segment_rank l name = position_or_len (bytes_eq name) (PAGEZERO ∷ TEXT ∷ DATA_CONST ∷ DATA ∷ other_segments l)
 
 abbrev pub has_section_in : Link → List ℕ → Bool
-has_section_in l name = list_any (λ s. bytes_eq (segment_name l s) name) (carried_of l)
+has_section_in l name = list_any (λ s. bytes_eq (segment_name_of (header_at l s)) name) (carried_of l)
 
 -- a list where a test holds, else nothing
 abbrev pub list_if : {X : Type 0} → Bool → List X → List X
@@ -106,10 +99,11 @@ abbrev pub same_key : OutputKey → OutputKey → Bool
 same_key a b = bytes_eq a.segment b.segment && bytes_eq a.name b.name && (a.type == b.type)
 
 abbrev pub key_of : SectionHeader → OutputKey
-key_of h = record { segment = name_of h.segname; name = name_of h.sectname; type = type_of h }
+key_of h = record { segment = segment_name_of h; name = section_name_of h; type = type_of h }
 
+-- the section that commons are put into
 abbrev pub common_key : OutputKey
-common_key = record { segment = DATA; name = COMMON; type = S_ZEROFILL }
+common_key = record { segment = DATA; name = codes "__common"; type = S_ZEROFILL }
 
 -- the merged sections of the image, as first seen
 unfoldable pub output_keys_of : Link → List OutputKey

@@ -4,11 +4,10 @@ use Rattle.std.specs.Prelude.{◌≡◌, ℕ, ◌+◌, ◌*◌, ◌-◌, ◌/◌
 use Rattle.std.specs.List.{flat_map, range_with_len}
 use Rattle.sha2.specs.Sha256.{sha256}
 use Rattle.macho_records.specs.Numbers.{big, row_bytes, rounded_up}
-use Rattle.macho_records.specs.ByteLayouts.{reading, size_of, spelling}
-use Rattle.macho_records.specs.CommandLayouts.{uuid_command, code_directory}
+use Rattle.macho_records.specs.ByteLayouts.{reading}
+use Rattle.macho_records.specs.CommandLayouts.{uuid_command}
 use Rattle.macho_records.specs.declared.constants.TheConstants.{LC_UUID}
 use Rattle.macho_records.specs.declared.header.SegmentCommand.{SegmentCommand}
-use Rattle.macho_records.specs.CodeDirectory.{CodeDirectory}
 use Rattle.macho_model.specs.Commands.{numbered}
 use Rattle.macho_model.specs.Links.{Link}
 use Rattle.macho_model.specs.Segments.{TEXT}
@@ -55,42 +54,24 @@ pub record Signed : Type 0 where
 abbrev pub DIRECTORY_PLACE : ℕ
 DIRECTORY_PLACE = 20
 
--- the bytes of a code directory with its identifier and its digests
-abbrev pub directory_size : Signed → ℕ
-directory_size s = size_of code_directory + length (identifier_text s.name) + DIGEST_SIZE * page_count s.limit
+-- the bytes of a code directory in front of its identifier
+abbrev pub DIRECTORY_HEAD : ℕ
+DIRECTORY_HEAD = 88
 
--- its magic is `CSMAGIC_CODEDIRECTORY`, its flags `CS_ADHOC` and `CS_LINKER_SIGNED`, an executable's `CS_EXECSEG_MAIN_BINARY`
-abbrev pub directory_for : Signed → CodeDirectory
-directory_for s = record {
-  magic = 0xfade0c02;
-  length = directory_size s;
-  version = 0x20400;
-  flags = 0x20002;
-  hash_offset = size_of code_directory + length (identifier_text s.name);
-  ident_offset = size_of code_directory;
-  special_slots = 0;
-  code_slots = page_count s.limit;
-  code_limit = s.limit;
-  hash_size = DIGEST_SIZE;
-  -- `CS_HASHTYPE_SHA256`, and pages of 2 ^ 12 bytes
-  hash_type = 2;
-  platform = 0;
-  page_exponent = 12;
-  spare = 0;
-  scatter_offset = 0;
-  team_offset = 0;
-  spare2 = 0;
-  code_limit64 = 0;
-  exec_base = s.text_offset;
-  exec_limit = s.text_size;
-  exec_flags = if s.executable then 1 else 0;
-}
-
--- the bytes of a signature: the super blob (`CSMAGIC_EMBEDDED_SIGNATURE`) with one code directory, the identifier, the digests
+-- The bytes of a signature. The super blob (`CSMAGIC_EMBEDDED_SIGNATURE`): its length, and one blob by its type and place. The code directory
+-- (`CSMAGIC_CODEDIRECTORY`): its length, version and flags (`CS_ADHOC`, `CS_LINKER_SIGNED`), the places of digests and identifier, no special
+-- digests, the number of digests and the limit; the size and type of a digest (`CS_HASHTYPE_SHA256`), no platform, pages of 2 ^ 12 bytes;
+-- four fields that are not used, and no limit of 64 bits; the file range of `__TEXT`, and an executable's `CS_EXECSEG_MAIN_BINARY`. Then the
+-- identifier and the digests.
 unfoldable pub signature_text : Signed → List ℕ → List ℕ
 signature_text s b =
-    row_bytes big 4 (0xfade0cc0 ∷ (DIRECTORY_PLACE + directory_size s) ∷ 1 ∷ 0 ∷ DIRECTORY_PLACE ∷ [])
-    ++ spelling code_directory (directory_for s) ++ identifier_text s.name ++ page_digests b s.limit
+    let digests : ℕ = DIRECTORY_HEAD + length (identifier_text s.name) in
+    let size : ℕ = digests + DIGEST_SIZE * page_count s.limit in
+    row_bytes big 4 (0xfade0cc0 ∷ (DIRECTORY_PLACE + size) ∷ 1 ∷ 0 ∷ DIRECTORY_PLACE ∷ [])
+    ++ (row_bytes big 4 (0xfade0c02 ∷ size ∷ 0x20400 ∷ 0x20002 ∷ digests ∷ DIRECTORY_HEAD ∷ 0 ∷ page_count s.limit ∷ s.limit ∷ [])
+    ++ row_bytes big 1 (DIGEST_SIZE ∷ 2 ∷ 0 ∷ 12 ∷ []) ++ row_bytes big 4 (0 ∷ 0 ∷ 0 ∷ 0 ∷ [])
+    ++ row_bytes big 8 (0 ∷ s.text_offset ∷ s.text_size ∷ (if s.executable then 1 else 0) ∷ []))
+    ++ identifier_text s.name ++ page_digests b s.limit
 
 -- what is signed of an image: all bytes in front of the signature, under the last part of the output's path
 abbrev pub signed_of : Link → SegmentCommand → ℕ → Signed

@@ -9,6 +9,7 @@ use Rattle.macho_model.specs.declared.placed.Stub.{Stub}
 use Rattle.macho_model.specs.declared.placed.Range64.{Range64}
 use Rattle.macho_model.specs.declared.targets.Target.{Target}
 use Rattle.macho_model.specs.declared.targets.Target.TheVariants as target
+use Rattle.macho_records.specs.Numbers.{signed}
 use Rattle.macho_records.specs.Sections.{type_of}
 use Rattle.macho_records.specs.declared.constants.TheConstants.{ARM64_RELOC_BRANCH26, ARM64_RELOC_GOT_LOAD_PAGE21, ARM64_RELOC_GOT_LOAD_PAGEOFF12, ARM64_RELOC_PAGE21, ARM64_RELOC_PAGEOFF12, ARM64_RELOC_POINTER_TO_GOT, ARM64_RELOC_TLVP_LOAD_PAGE21, ARM64_RELOC_TLVP_LOAD_PAGEOFF12, ARM64_RELOC_UNSIGNED, S_THREAD_LOCAL_VARIABLES}
 use Rattle.macho_records.specs.Symbols.{common_size_of}
@@ -17,7 +18,7 @@ use Rattle.macho_model.specs.Links.{Link, object_of, SectionId, section_id, head
 use Rattle.macho_model.specs.Resolution.{entry_at}
 use Rattle.macho_model.specs.Needs.{imports_of, import_library}
 use Rattle.macho_model.specs.Fields.{Field, fields_of, content_of}
-use Rattle.macho_model.specs.Meaning.{Same, PointsTo, IsDifference, BranchesTo, PagesTo, OffsetsTo, AddsTo, LoadsFrom, IsDistance, GoesThrough}
+use Rattle.macho_model.specs.Meaning.{Same, IsDifference, BranchesTo, PagesTo, OffsetsTo, AddsTo, LoadsFrom, GoesThrough}
 use Rattle.macho_model.specs.Segments.{SEGMENT_PAGE}
 use Rattle.macho_model.specs.Placement.{Placed, id_of, common_of, IsPlaced}
 use Rattle.macho_model.specs.Loader.{IsAccepted}
@@ -83,7 +84,7 @@ abbrev pub is_template_offset : Link → SectionId → Field → Bool
 is_template_offset l id f = (type_of (header_at l id) == S_THREAD_LOCAL_VARIABLES) && is_in_template l f.target
 
 abbrev pub PointerSays : Bool → Option Range64 → ℕ → ℕ → ℕ → Type 0
-PointerSays false template s word x = PointsTo word x
+PointerSays false template s word x = Same word x
 PointerSays true None s word x = ⊥
 PointerSays true (Some r) s word x = Same (word + (r.start + s)) x
 
@@ -104,35 +105,27 @@ LoadIsAt l p s choice t x = IsAt l p s choice t x
 abbrev pub SubtrahendIsAt : Link → Placed → ℕ → Choice → Option Target → ℕ → Type 0
 SubtrahendIsAt l p s choice subtrahend x = MatchOption subtrahend ⊥ (λ t. IsAt l p s choice t x)
 
--- What is seen of a field: its place in memory, the word that is there, and the one that the input has.
-pub record Seen : Type 0 where
-  pub place : ℕ
-  pub word : ℕ
-  pub input : ℕ
-
--- What a field says, by its kind; a pointer has 8 bytes.
-abbrev pub Says : Link → Placed → ℕ → Choice → SectionId → Field → Seen → Kind → Type 0
-Says l p s choice id f seen Pointer =
-    (x : ℕ) × IsAt l p s choice f.target x × PointerSays (is_template_offset l id f) p.template s seen.word (x + f.addend) × (f.width ≡ 8)
-Says l p s choice id f seen Difference =
-    (x : ℕ) × (y : ℕ) × IsAt l p s choice f.target x × SubtrahendIsAt l p s choice f.subtrahend y × IsDifference f.width seen.word x y f.addend
-Says l p s choice id f seen Branch = (x : ℕ) × CallIsAt l p s choice f.target x × BranchesTo seen.place seen.word seen.input (x + f.addend)
-Says l p s choice id f seen Page = (x : ℕ) × IsAt l p s choice f.target x × PagesTo seen.place seen.word seen.input (x + f.addend)
-Says l p s choice id f seen Offset = (x : ℕ) × IsAt l p s choice f.target x × OffsetsTo seen.word seen.input (x + f.addend)
-Says l p s choice id f seen SlotPage = (x : ℕ) × LoadIsAt l p s choice f.target x × PagesTo seen.place seen.word seen.input x
-Says l p s choice id f seen SlotOffset = LoadSays l p s choice f.target seen.word seen.input
-Says l p s choice id f seen SlotDistance = (slot : ℕ) × SlotAt p s f.target slot × IsDistance seen.place seen.word slot
-Says l p s choice id f seen NoKind = ⊥
-
--- a field of a placed section is seen with a word, at a slide
-abbrev pub seen_in : Link → ℕ → PlacedSection → Field → ℕ → Seen
-seen_in l s q f word = record { place = q.address + f.offset + s; word = word; input = content_of l (id_of q) f.relocation }
+-- What a field says, by its kind: of its place in memory, the word that is there, and the one that the input has. A pointer has 8 bytes, a
+-- distance to a slot is a signed number of 4.
+abbrev pub Says : Link → Placed → ℕ → Choice → SectionId → Field → ℕ → ℕ → ℕ → Kind → Type 0
+Says l p s choice id f place word input Pointer =
+    (x : ℕ) × IsAt l p s choice f.target x × PointerSays (is_template_offset l id f) p.template s word (x + f.addend) × (f.width ≡ 8)
+Says l p s choice id f place word input Difference =
+    (x : ℕ) × (y : ℕ) × IsAt l p s choice f.target x × SubtrahendIsAt l p s choice f.subtrahend y × IsDifference f.width word x y f.addend
+Says l p s choice id f place word input Branch = (x : ℕ) × CallIsAt l p s choice f.target x × BranchesTo place word input (x + f.addend)
+Says l p s choice id f place word input Page = (x : ℕ) × IsAt l p s choice f.target x × PagesTo place word input (x + f.addend)
+Says l p s choice id f place word input Offset = (x : ℕ) × IsAt l p s choice f.target x × OffsetsTo word input (x + f.addend)
+Says l p s choice id f place word input SlotPage = (x : ℕ) × LoadIsAt l p s choice f.target x × PagesTo place word input x
+Says l p s choice id f place word input SlotOffset = LoadSays l p s choice f.target word input
+Says l p s choice id f place word input SlotDistance = (slot : ℕ) × SlotAt p s f.target slot × Same (place + signed 32 word) slot
+Says l p s choice id f place word input NoKind = ⊥
 
 -- A field of a placed section denotes its target and addend in memory.
 pub record Denotes (l : Link) (b : List ℕ) (p : Placed) (s : ℕ) (choice : Choice) (q : PlacedSection) (f : Field) : Type 0 where
   pub word : ℕ
   pub held : HoldsNumber b s choice f.width (q.address + f.offset + s) word
-  pub says : Says l p s choice (id_of q) f (seen_in l s q f word) (kind_of f.type (is_some f.subtrahend))
+  pub says : Says l p s choice (id_of q) f (q.address + f.offset + s) word (content_of l (id_of q) f.relocation)
+      (kind_of f.type (is_some f.subtrahend))
 
 -- an offset in a section is in none of its fields
 abbrev pub IsOutsideField : ℕ → Field → Type 0
@@ -154,7 +147,7 @@ pub record SlotStands (l : Link) (b : List ℕ) (p : Placed) (s : ℕ) (choice :
   pub held : HoldsNumber b s choice 8 (slot.address + s) word
   pub x : ℕ
   pub at : IsAt l p s choice slot.target x
-  pub points : PointsTo word x
+  pub points : Same word x
 
 -- a stub goes on through the slot of its import
 pub record StubStands (b : List ℕ) (p : Placed) (s : ℕ) (choice : Choice) (stub : Stub) : Type 0 where
@@ -168,16 +161,12 @@ pub record StubStands (b : List ℕ) (p : Placed) (s : ℕ) (choice : Choice) (s
   pub at : SlotAt p s (target.Import stub.import) slot
   pub through : GoesThrough (stub.address + s) slot adrp ldr br
 
--- slots and stubs lead to their targets
-pub record LeadsThrough (l : Link) (b : List ℕ) (p : Placed) (s : ℕ) (choice : Choice) : Type 0 where
-  pub slots : All (SlotStands l b p s choice) p.slots
-  pub stubs : All (StubStands b p s choice) p.stubs
-
 -- THE image stands, at a slide and for a choice of import addresses.
 pub record ImageStands (l : Link) (b : List ℕ) (p : Placed) (s : ℕ) (choice : Choice) : Type 0 where
   pub sections : All (SectionStands l b p s choice) p.sections
   pub commons : All (CommonStands l b s choice) p.commons
-  pub through : LeadsThrough l b p s choice
+  pub slots : All (SlotStands l b p s choice) p.slots
+  pub stubs : All (StubStands b p s choice) p.stubs
 
 -- THE promise of a link: its parts are placed, the loader accepts the bytes, and at every slide of whole pages that
 -- fits, for every choice that binds all imports, the image stands.

@@ -2,10 +2,9 @@
 use Rattle.std.specs.Prelude.{◌≡◌, ℕ, ◌+◌, ◌-◌, ◌*◌, ◌^◌, ◌&&◌, ◌||◌, not, if◌then◌else◌, Bool, false, List, [], ◌∷◌, ◌++◌, length, map, bit_and, bit_or}
 use Rattle.std.specs.List.{flat_map, position_or_len, range_with_len}
 use Rattle.macho_records.specs.Numbers.{bits}
-use Rattle.macho_records.specs.declared.constants.TheConstants.{N_EXT, N_PEXT, N_SECT}
+use Rattle.macho_records.specs.declared.constants.TheConstants.{N_EXT, N_PEXT, N_SECT, N_ABS}
 use Rattle.macho_records.specs.declared.symbols.SymtabEntry.{SymtabEntry}
-use Rattle.macho_records.specs.Symbols.{is_common_of, is_hidden_of}
-use Rattle.macho_model.specs.Symbols.{is_absolute, is_global}
+use Rattle.macho_records.specs.Symbols.{is_common_of, is_hidden_of, has_type, is_global}
 use Rattle.macho_model.specs.Objects.{num_symbols, symbol_at, strings_of}
 use Rattle.macho_model.specs.Links.{Link, header_at}
 use Rattle.macho_model.specs.Resolution.{SymbolId, entry_at, name_at, section_of_symbol}
@@ -30,7 +29,7 @@ section_number l counts key = position_or_len (is_merged key) (output_sections_o
 abbrev pub entry_section : Link → Counts → SymbolId → ℕ
 entry_section l counts s =
     if is_common_of (entry_at l s) then section_number l counts common_key
-    else if is_absolute (entry_at l s) then 0
+    else if has_type N_ABS (entry_at l s) then 0
     else section_number l counts (key_of (header_at l (section_of_symbol l s)))
 
 -- only this image sees a global symbol that is hidden, or that the export lists leave out

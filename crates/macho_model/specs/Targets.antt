@@ -1,41 +1,36 @@
 -- Targets: what a symbol and a relocation lead to; and the slots and stubs that references need.
-use Rattle.std.specs.Prelude.{ℕ, ◌-◌, ◌==◌, ◌&&◌, ◌||◌, if◌then◌else◌, Bool, true, false, List, Option, Some, None}
+use Rattle.std.specs.Prelude.{ℕ, ◌-◌, ◌==◌, ◌&&◌, ◌||◌, if◌then◌else◌, Bool, true, false, List, Option, Some, None, option_map}
 use Rattle.std.specs.List.{filter_map, position_or_len}
+use Rattle.std.specs.Str.{bytes_eq}
+use Rattle.std.specs.Option.{unwrap_or}
 use Rattle.macho_model.specs.declared.targets.Target.{Target}
 use Rattle.macho_model.specs.declared.targets.Target.TheVariants as target
-use Rattle.macho_model.specs.Symbols.{is_absolute, is_global, is_local}
-use Rattle.macho_records.specs.Symbols.{is_common_of}
-use Rattle.macho_records.specs.declared.constants.TheConstants.{ARM64_RELOC_BRANCH26, ARM64_RELOC_GOT_LOAD_PAGE21, ARM64_RELOC_GOT_LOAD_PAGEOFF12, ARM64_RELOC_POINTER_TO_GOT, ARM64_RELOC_TLVP_LOAD_PAGE21, ARM64_RELOC_TLVP_LOAD_PAGEOFF12}
+use Rattle.macho_records.specs.Symbols.{is_common_of, has_type, is_global}
+use Rattle.macho_records.specs.declared.constants.TheConstants.{ARM64_RELOC_BRANCH26, ARM64_RELOC_GOT_LOAD_PAGE21, ARM64_RELOC_GOT_LOAD_PAGEOFF12, ARM64_RELOC_POINTER_TO_GOT, ARM64_RELOC_TLVP_LOAD_PAGE21, ARM64_RELOC_TLVP_LOAD_PAGEOFF12, N_ABS}
 use Rattle.macho_model.specs.Links.{Link, SectionId, header_at, is_carried}
 use Rattle.macho_model.specs.Resolution.{SymbolId, Definition, Symbol, Library, ImageBase, entry_at, name_at, same_symbol, section_of_symbol, stands_in_carried, definition_of, chosen_commons}
-use Rattle.macho_model.specs.Needs.{Use, ByRelocation, ByPersonality, relocation_in, section_named, symbol_of_relocation, imports_of, import_number, uses_of, distinct}
+use Rattle.macho_model.specs.Needs.{Use, ByRelocation, ByPersonality, relocation_in, section_named, symbol_of_relocation, imports_of, uses_of, distinct}
 
--- the place of a symbol in its section
-abbrev pub place_of_symbol : Link → SymbolId → Target
-place_of_symbol l s = target.Section s.file ((entry_at l s).n_sect - 1) ((entry_at l s).n_value - (header_at l (section_of_symbol l s)).addr)
-
--- what a symbol that defines itself leads to
+-- what a symbol leads to by itself: its place in a section that goes into the image, its value, its number among the commons, or nothing
 abbrev pub own_target : Link → SymbolId → Target
 own_target l s =
-    if stands_in_carried l s then place_of_symbol l s
-    else if is_absolute (entry_at l s) then target.Absolute (entry_at l s).n_value
+    if stands_in_carried l s
+    then target.Section s.file ((entry_at l s).n_sect - 1) ((entry_at l s).n_value - (header_at l (section_of_symbol l s)).addr)
+    else if has_type N_ABS (entry_at l s) then target.Absolute (entry_at l s).n_value
     else if is_common_of (entry_at l s) then target.Common (position_or_len (same_symbol s) (chosen_commons l))
     else target.None
 
--- what a definition of a name leads to, where some imports are noted
+-- what a definition of a name leads to, where some imports are noted; one that isn't noted will be the next
 abbrev pub definition_target : Link → List (List ℕ) → List ℕ → Option Definition → Target
 definition_target l noted name None = target.None
 definition_target l noted name (Some (Symbol s)) = own_target l s
-definition_target l noted name (Some (Library file)) = target.Import (import_number noted name)
+definition_target l noted name (Some (Library file)) = target.Import (position_or_len (bytes_eq name) noted)
 definition_target l noted name (Some ImageBase) = target.Base
 
--- The target of a symbol where some imports are noted: that of its name where it is global, its own place or value where
--- it is local.
+-- The target of a symbol where some imports are noted: that of its name where it is global, else its own place or value, if it has one.
 abbrev pub target_with : Link → List (List ℕ) → SymbolId → Target
 target_with l noted s =
-    if is_global (entry_at l s) then definition_target l noted (name_at l s) (definition_of l (name_at l s))
-    else if is_local (entry_at l s) && (stands_in_carried l s || is_absolute (entry_at l s)) then own_target l s
-    else target.None
+    if is_global (entry_at l s) then definition_target l noted (name_at l s) (definition_of l (name_at l s)) else own_target l s
 
 -- the target of a global name, where all imports are noted
 abbrev pub target_of_name : Link → List ℕ → Target
@@ -45,19 +40,12 @@ target_of_name l name = definition_target l (imports_of l) name (definition_of l
 unfoldable pub target_of : Link → SymbolId → Target
 target_of l s = target_with l (imports_of l) s
 
-abbrev pub target_of_symbol : Link → Option SymbolId → Target
-target_of_symbol l None = target.None
-target_of_symbol l (Some s) = target_of l s
-
--- the start of a section that a relocation names by its number, from 1
-abbrev pub target_of_section : Link → SectionId → Target
-target_of_section l s = if is_carried (header_at l s) then target.Section s.file s.section 0 else target.None
-
--- the target of a relocation: of its symbol, or the start of its section
+-- the target of a relocation: of its symbol, or the start of the carried section that it names by number
 unfoldable pub target_of_relocation : Link → SectionId → ℕ → Target
 target_of_relocation l s r =
-    if (relocation_in l s r).r_extern then target_of_symbol l (symbol_of_relocation l s r)
-    else target_of_section l (section_named l s r)
+    if (relocation_in l s r).r_extern then unwrap_or (option_map (target_of l) (symbol_of_relocation l s r)) target.None
+    else if is_carried (header_at l (section_named l s r)) then target.Section s.file (section_named l s r).section 0
+    else target.None
 
 abbrev pub is_import : Target → Bool
 is_import (target.Import id) = true

@@ -1,5 +1,6 @@
 -- Valid links: those that a linker owes an image if their paths can be written, wherever there is memory.
 use Rattle.std.specs.Prelude.{◌≡◌, ℕ, ◌+◌, ◌*◌, ◌-◌, ◌%◌, ◌^◌, ◌≤◌, ◌==◌, nat_le, nat_lt, ◌&&◌, ◌||◌, not, Bool, true, false, All, Contains, None, is_some}
+use Rattle.macho_records.specs.Sections.{segment_name_of}
 use Rattle.macho_model.specs.declared.targets.Target.{Target}
 use Rattle.macho_model.specs.declared.targets.Target.TheVariants as target
 use Rattle.macho_model.specs.declared.placed.Counts.{Counts}
@@ -8,7 +9,7 @@ use Rattle.macho_model.specs.Links.{Link, SectionId, section_id, header_at, carr
 use Rattle.macho_model.specs.Resolution.{entry_at}
 use Rattle.macho_model.specs.Fields.{Field, fields_of, content_of}
 use Rattle.macho_model.specs.Words.{scale_of}
-use Rattle.macho_model.specs.Segments.{segment_name, may_hold_pointers}
+use Rattle.macho_model.specs.Segments.{may_hold_pointers}
 use Rattle.macho_model.specs.WrittenSum.{written_sum_of}
 use Rattle.macho_model.specs.Placement.{common_of}
 use Rattle.macho_model.specs.Stands.{Kind, Pointer, Difference, Branch, Page, Offset, kind_of}
@@ -40,23 +41,15 @@ stays_inside l (target.Import id) addend = fits_signed 32 addend
 stays_inside l target.Base addend = addend == 0
 stays_inside l t addend = false
 
--- a pointer that the loader writes is aligned, in a segment that may hold it, and leads into its target
-abbrev pub fixup_fits : Link → SectionId → Field → Bool
-fixup_fits l s f =
-    not (needs_fixup l s f) || (may_hold_pointers (segment_name l s) && stands_at_multiple l s 8 f && stays_inside l f.target f.addend)
-
--- a field is sure to fit, by its kind
+-- A field is sure to fit, by its kind. A pointer that the loader writes is aligned, in a segment that may hold it, and leads into its target.
 abbrev pub field_fits : Link → SectionId → Field → Kind → Bool
-field_fits l s f Pointer = fixup_fits l s f
+field_fits l s f Pointer =
+    not (needs_fixup l s f) || (may_hold_pointers (segment_name_of (header_at l s)) && stands_at_multiple l s 8 f && stays_inside l f.target f.addend)
 field_fits l s f Difference = (f.width == 8) || is_small f.addend
 field_fits l s f Branch = is_small f.addend && stands_at_multiple l s 4 f && is_multiple l 4 f.target f.addend
 field_fits l s f Page = is_small f.addend
 field_fits l s f Offset = is_small f.addend && is_multiple l (scale_of (content_of l s f.relocation)) f.target f.addend
 field_fits l s f kind = true
-
--- the greatest written sum of a valid link
-abbrev pub VALID_SUM : ℕ
-VALID_SUM = 64 * 2 ^ 20
 
 -- A valid link.
 pub record IsValid (l : Link) (counts : Counts) : Type 0 where
@@ -65,5 +58,5 @@ pub record IsValid (l : Link) (counts : Counts) : Type 0 where
   -- each field fits
   pub fields : (s : SectionId) → Contains (carried_of l) s
       → All (λ f. field_fits l s f (kind_of f.type (is_some f.subtrahend)) ≡ true) (fields_of l s)
-  -- and the written sum is small
-  pub sum : written_sum_of l counts ≤ VALID_SUM
+  -- and the written sum is at most 64 MiB
+  pub sum : written_sum_of l counts ≤ 64 * 2 ^ 20

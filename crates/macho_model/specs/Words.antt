@@ -55,13 +55,6 @@ written_register w = bits 0 5 w
 abbrev pub REGISTER_31 : ℕ
 REGISTER_31 = 31
 
--- BR x16, and the register that a stub goes through
-abbrev pub BR_X16 : ℕ
-BR_X16 = 0xd61f0200
-
-abbrev pub X16 : ℕ
-X16 = 16
-
 -- what is left of a word when an immediate is taken out
 abbrev pub without_imm21 : ℕ → ℕ
 without_imm21 w = bits 0 5 w + bits 24 5 w * 2 ^ 24 + bits 31 1 w * 2 ^ 31

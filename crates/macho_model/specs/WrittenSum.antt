@@ -6,7 +6,7 @@ use Rattle.macho_records.specs.ByteLayouts.{size_of}
 use Rattle.macho_model.specs.declared.placed.Counts.{Counts}
 use Rattle.macho_records.specs.Symbols.{common_exponent_of, common_size_of}
 use Rattle.macho_model.specs.Links.{Link, SectionId, header_at, carried_of, placed_exponent}
-use Rattle.macho_model.specs.Resolution.{SymbolId, entry_at, chosen_commons}
+use Rattle.macho_model.specs.Resolution.{entry_at, chosen_commons}
 use Rattle.macho_model.specs.Targets.{slots_of, stubs_of}
 use Rattle.macho_model.specs.Segments.{SEGMENT_PAGE, segment_names_of, output_count, one_if}
 use Rattle.macho_model.specs.Needs.{POINTER_SIZE}
@@ -33,18 +33,12 @@ DIGEST_SIZE = 32
 abbrev pub section_cost : Link → SectionId → ℕ
 section_cost l s = (header_at l s).size + padding_of (placed_exponent l s)
 
-abbrev pub common_cost : Link → SymbolId → ℕ
-common_cost l s = common_size_of (entry_at l s) + padding_of (common_exponent_of (entry_at l s))
-
 -- sections, commons, slots, stubs, initializers and unwind information
 unfoldable pub content_sum : Link → Counts → ℕ
 content_sum l counts =
-    sum_by (section_cost l) (carried_of l) + sum_by (common_cost l) (chosen_commons l) + POINTER_SIZE * length (slots_of l)
-    + STUB_SIZE * length (stubs_of l) + INITIALIZER_SIZE * counts.initializers + counts.unwind
-
--- the segments that are mapped from the file: all but `__PAGEZERO`
-abbrev pub file_segments : Link → ℕ
-file_segments l = length (segment_names_of l) - one_if l.executable
+    sum_by (section_cost l) (carried_of l)
+    + sum_by (λ s. common_size_of (entry_at l s) + padding_of (common_exponent_of (entry_at l s))) (chosen_commons l)
+    + POINTER_SIZE * length (slots_of l) + STUB_SIZE * length (stubs_of l) + INITIALIZER_SIZE * counts.initializers + counts.unwind
 
 -- the load commands
 unfoldable pub command_sum : Link → Counts → ℕ
@@ -58,12 +52,13 @@ FIXUP_RECORDS = 188
 
 -- The sum without the signature: with header, commands and tables; with two bytes for each page that fixups may be in (one for each
 -- page of content, one for each section and common, and one more); and with what alignment costs: 28 bytes, and two pages of 16 KiB for
--- each segment, of which it fills less than one
+-- each segment but `__PAGEZERO` (alignment fills less than one of the two)
 unfoldable pub unsigned_sum : Link → Counts → ℕ
 unsigned_sum l counts =
     content_sum l counts + size_of mach_header + command_sum l counts + counts.padding + counts.trie + SYMBOL_SIZE * counts.symbols + counts.strings
     + (FIXUP_RECORDS + 28) + counts.import_size * counts.imports + counts.name_bytes
-    + 2 * (content_sum l counts / SEGMENT_PAGE + (length (carried_of l) + length (chosen_commons l) + 1)) + 2 * SEGMENT_PAGE * file_segments l
+    + 2 * (content_sum l counts / SEGMENT_PAGE + (length (carried_of l) + length (chosen_commons l) + 1))
+    + 2 * SEGMENT_PAGE * (length (segment_names_of l) - one_if l.executable)
 
 -- the fixed parts of a signature: its superblob and code directory
 abbrev pub SIGNATURE_FIXED : ℕ

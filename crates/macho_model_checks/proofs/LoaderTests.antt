@@ -9,13 +9,13 @@ use Rattle.std.specs.List.{list_all}
 use Rattle.std.proofs.lemmas.Bool.{leb-true, le-leb}
 use Rattle.std.proofs.lemmas.List.{get_or_default}
 use Rattle.std.proofs.lemmas.List.Elements.{All-contains, Contains-get_or}
-use Rattle.macho_records.specs.declared.constants.TheConstants.{LC_SEGMENT_64}
+use Rattle.macho_records.specs.declared.header.SegmentCommand.{SegmentCommand}
 use Rattle.macho_model.specs.declared.rules.LoadRule.{LoadRule}
 use Rattle.macho_model.specs.declared.rules.LoadRule.TheVariants.{L1, L2, L3, L4, L5, L6, L7, L8, L9, L10}
-use Rattle.macho_model.specs.Commands.{Command, commands_of, command_fits, numbered}
+use Rattle.macho_model.specs.Commands.{commands_of, command_fits}
 use Rattle.macho_model.specs.ObjectRules.{commands_inside}
 use Rattle.macho_model.specs.Segments.{TEXT}
-use Rattle.macho_model.specs.Images.{segments_named, tables_of, fixups_header}
+use Rattle.macho_model.specs.Images.{segments_of, segments_named, tables_of, fixups_header}
 use Rattle.macho_model.specs.LoadRules.{image_head_fits, needed_in_image, protections_fit, file_part_inside, segment_is_paged}
 use Rattle.macho_model.specs.LoadRules.{segment_ends, begins_behind, text_holds_commands, table_fits, import_fits}
 use Rattle.macho_model.specs.Loader.{IsAccepted}
@@ -30,40 +30,49 @@ pub accepted_keeping : (b : List ℕ) → ((rule : LoadRule) → LoadKeeps b rul
 accepted_keeping b h =
     record { l1 = h L1; l2 = h L2; l3 = h L3; l4 = h L4; l5 = h L5; l6 = h L6; l7 = h L7; l8 = h L8; l9 = h L9; l10 = h L10 }
 
--- two neighbours of a list
-no_command : Command
-no_command = record { at = 0; number = 0; size = 0 }
+-- two neighbours of a list of segments
+abbrev pub no_segment : SegmentCommand
+no_segment = record {
+  cmd = 0;
+  cmdsize = 0;
+  segname = [];
+  vmaddr = 0;
+  vmsize = 0;
+  fileoff = 0;
+  filesize = 0;
+  maxprot = 0;
+  initprot = 0;
+  nsects = 0;
+  flags = 0;
+}
 
-abbrev pub each_neighbour : List Command → (Command → Command → Bool) → Bool
-each_neighbour cs test = each_below (length cs - 1) (λ k. test (get_or cs k (record { at = 0; number = 0; size = 0 }))
-    (get_or cs (k + 1) (record { at = 0; number = 0; size = 0 })))
+abbrev pub each_neighbour : List SegmentCommand → (SegmentCommand → SegmentCommand → Bool) → Bool
+each_neighbour ss test = each_below (length ss - 1) (λ k. test (get_or ss k no_segment) (get_or ss (k + 1) no_segment))
 
-neighbours_pass : (cs : List Command) (test : Command → Command → Bool) → each_neighbour cs test ≡ true
-    → EachNext (λ c d. test c d ≡ true) cs
-unfolding no_command
-neighbours_pass cs test h k c d (before, at_k) (lt, at_next) =
-    let there = below_pass (length cs - 1) (λ j. test (get_or cs j no_command) (get_or cs (j + 1) no_command)) h k (omega arith) in
-    let first : get_or cs k no_command ≡ c = get_or_default cs k no_command c (omega arith) ∙ at_k in
-    let second : get_or cs (k + 1) no_command ≡ d = get_or_default cs (k + 1) no_command d lt ∙ at_next in
+neighbours_pass : (ss : List SegmentCommand) (test : SegmentCommand → SegmentCommand → Bool) → each_neighbour ss test ≡ true
+    → EachNext (λ s t. test s t ≡ true) ss
+neighbours_pass ss test h k s t (before, at_k) (lt, at_next) =
+    let there = below_pass (length ss - 1) (λ j. test (get_or ss j no_segment) (get_or ss (j + 1) no_segment)) h k (omega arith) in
+    let first : get_or ss k no_segment ≡ s = get_or_default ss k no_segment s (omega arith) ∙ at_k in
+    let second : get_or ss (k + 1) no_segment ≡ t = get_or_default ss (k + 1) no_segment t lt ∙ at_next in
     rw (← first, ← second) there
 
-pass_neighbours : (cs : List Command) (test : Command → Command → Bool) → EachNext (λ c d. test c d ≡ true) cs
-    → each_neighbour cs test ≡ true
-unfolding no_command
-pass_neighbours cs test h =
-    pass_below (length cs - 1) (λ j. test (get_or cs j no_command) (get_or cs (j + 1) no_command))
-    (λ k lt. h k (get_or cs k no_command) (get_or cs (k + 1) no_command)
-    (omega arith, get_or_default cs k (get_or cs k no_command) no_command (omega arith))
-    (omega arith, get_or_default cs (k + 1) (get_or cs (k + 1) no_command) no_command (omega arith)))
+pass_neighbours : (ss : List SegmentCommand) (test : SegmentCommand → SegmentCommand → Bool) → EachNext (λ s t. test s t ≡ true) ss
+    → each_neighbour ss test ≡ true
+pass_neighbours ss test h =
+    pass_below (length ss - 1) (λ j. test (get_or ss j no_segment) (get_or ss (j + 1) no_segment))
+    (λ k lt. h k (get_or ss k no_segment) (get_or ss (k + 1) no_segment)
+    (omega arith, get_or_default ss k (get_or ss k no_segment) no_segment (omega arith))
+    (omega arith, get_or_default ss (k + 1) (get_or ss (k + 1) no_segment) no_segment (omega arith)))
 
 -- a rule's test; the last rule has none here
 abbrev pub load_test : List ℕ → LoadRule → Bool
 load_test b L1 = image_head_fits b
 load_test b L2 = commands_inside b && list_all (command_fits (needed_in_image b) b) (commands_of b)
-load_test b L3 = list_all (protections_fit b) (numbered LC_SEGMENT_64 b)
-load_test b L4 = list_all (file_part_inside b) (numbered LC_SEGMENT_64 b)
-load_test b L5 = list_all (segment_is_paged b) (numbered LC_SEGMENT_64 b)
-load_test b L6 = list_all (segment_ends b) (numbered LC_SEGMENT_64 b) && each_neighbour (numbered LC_SEGMENT_64 b) (begins_behind b)
+load_test b L3 = list_all protections_fit (segments_of b)
+load_test b L4 = list_all (file_part_inside b) (segments_of b)
+load_test b L5 = list_all segment_is_paged (segments_of b)
+load_test b L6 = list_all segment_ends (segments_of b) && each_neighbour (segments_of b) begins_behind
 load_test b L7 = (length (segments_named TEXT b) == 1) && list_all (text_holds_commands b) (segments_named TEXT b)
 load_test b L8 = nat_le (length (tables_of b)) 1 && list_all (table_fits b) (tables_of b)
 load_test b L9 = list_all (λ t. each_below (fixups_header b t).imports_count (import_fits b t)) (tables_of b)
@@ -82,14 +91,14 @@ load_test_shows b L2 some h = (
   all_pass (command_fits (needed_in_image b) b) (commands_of b)
       (and_right (commands_inside b) (list_all (command_fits (needed_in_image b) b) (commands_of b)) h),
 )
-load_test_shows b L3 some h = all_pass (protections_fit b) (numbered LC_SEGMENT_64 b) h
-load_test_shows b L4 some h = all_pass (file_part_inside b) (numbered LC_SEGMENT_64 b) h
-load_test_shows b L5 some h = all_pass (segment_is_paged b) (numbered LC_SEGMENT_64 b) h
+load_test_shows b L3 some h = all_pass protections_fit (segments_of b) h
+load_test_shows b L4 some h = all_pass (file_part_inside b) (segments_of b) h
+load_test_shows b L5 some h = all_pass segment_is_paged (segments_of b) h
 load_test_shows b L6 some h = (
-  all_pass (segment_ends b) (numbered LC_SEGMENT_64 b)
-      (and_left (list_all (segment_ends b) (numbered LC_SEGMENT_64 b)) (each_neighbour (numbered LC_SEGMENT_64 b) (begins_behind b)) h),
-  neighbours_pass (numbered LC_SEGMENT_64 b) (begins_behind b)
-      (and_right (list_all (segment_ends b) (numbered LC_SEGMENT_64 b)) (each_neighbour (numbered LC_SEGMENT_64 b) (begins_behind b)) h),
+  all_pass segment_ends (segments_of b)
+      (and_left (list_all segment_ends (segments_of b)) (each_neighbour (segments_of b) begins_behind) h),
+  neighbours_pass (segments_of b) begins_behind
+      (and_right (list_all segment_ends (segments_of b)) (each_neighbour (segments_of b) begins_behind) h),
 )
 load_test_shows b L7 some h = (
   is_equal (length (segments_named TEXT b)) 1
@@ -113,12 +122,12 @@ shows_load_test b L1 h = h
 shows_load_test b L2 h =
     and_both (commands_inside b) (list_all (command_fits (needed_in_image b) b) (commands_of b)) h.0
     (pass_all (command_fits (needed_in_image b) b) (commands_of b) h.1)
-shows_load_test b L3 h = pass_all (protections_fit b) (numbered LC_SEGMENT_64 b) h
-shows_load_test b L4 h = pass_all (file_part_inside b) (numbered LC_SEGMENT_64 b) h
-shows_load_test b L5 h = pass_all (segment_is_paged b) (numbered LC_SEGMENT_64 b) h
+shows_load_test b L3 h = pass_all protections_fit (segments_of b) h
+shows_load_test b L4 h = pass_all (file_part_inside b) (segments_of b) h
+shows_load_test b L5 h = pass_all segment_is_paged (segments_of b) h
 shows_load_test b L6 h =
-    and_both (list_all (segment_ends b) (numbered LC_SEGMENT_64 b)) (each_neighbour (numbered LC_SEGMENT_64 b) (begins_behind b))
-    (pass_all (segment_ends b) (numbered LC_SEGMENT_64 b) h.0) (pass_neighbours (numbered LC_SEGMENT_64 b) (begins_behind b) h.1)
+    and_both (list_all segment_ends (segments_of b)) (each_neighbour (segments_of b) begins_behind)
+    (pass_all segment_ends (segments_of b) h.0) (pass_neighbours (segments_of b) begins_behind h.1)
 shows_load_test b L7 h =
     and_both (length (segments_named TEXT b) == 1) (list_all (text_holds_commands b) (segments_named TEXT b))
     (equal_is (length (segments_named TEXT b)) 1 h.0) (pass_all (text_holds_commands b) (segments_named TEXT b) h.1)

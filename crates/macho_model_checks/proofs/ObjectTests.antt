@@ -3,17 +3,15 @@
 -- A rule speaks of each section, symbol, relocation or command, which are finitely many, so it has a test that is true
 -- exactly where the rule is kept. An object is what keeps every rule. So the tests, computed, show of an example that
 -- it is an object, or which rule it breaks, and that it keeps the others.
-use Rattle.std.proofs.Common.{◌≡◌, ◌≢◌, ℕ, ◌==◌, Bool, true, false, not, ◌&&◌, List, [], ◌∷◌, get_or, map, refl, sym, ap, ◌∙◌}
+use Rattle.std.proofs.Common.{◌≡◌, ◌≢◌, ℕ, ◌<◌, ◌==◌, Bool, true, false, not, ◌&&◌, List, [], ◌∷◌, get_or, map, refl, sym, ap, ◌∙◌}
 use Rattle.std.specs.List.{list_all}
+use Rattle.macho_model.specs.steps.RecordTests.{symbol_section_exists, relocation_number_exists, data_inside, exponent_fits, value_in_section, name_ends, relocations_inside, field_inside, thread_local_in_data, zerofill_unrelocated, global_has_name, common_fits}
 use Rattle.macho_records.specs.declared.constants.TheConstants.{LC_SEGMENT_64, LC_SYMTAB, MH_OBJECT}
 use Rattle.macho_model.specs.declared.rules.ObjectRule.{ObjectRule}
 use Rattle.macho_model.specs.declared.rules.ObjectRule.TheVariants.{O1, O2, O3, O4, O5, O6, O7, O8, O9, O10, O11, O12, O13, O14}
 use Rattle.macho_model.specs.Commands.{commands_of, command_fits}
 use Rattle.macho_model.specs.Objects.{num_sections, section_at, num_symbols}
-use Rattle.macho_model.specs.ObjectRules.{head_fits, commands_inside, needed_in_object, has_one, tables_inside, symbol_section_exists}
-use Rattle.macho_model.specs.ObjectRules.{relocation_number_exists, data_inside, exponent_fits, value_in_section, name_ends}
-use Rattle.macho_model.specs.ObjectRules.{relocations_inside, field_inside, thread_local_in_data, zerofill_unrelocated, global_has_name}
-use Rattle.macho_model.specs.ObjectRules.{common_fits}
+use Rattle.macho_model.specs.ObjectRules.{head_fits, commands_inside, needed_in_object, has_one, tables_inside}
 use Rattle.macho_model.specs.Grammar.{EachCommand, IsObject}
 use Rattle.macho_model.specs.ObjectLaws.{EachSection, EachSymbol, EachRelocation, KeepsObjectRules}
 use Rattle.macho_model.proofs.ObjectLaws.{object_keeps, kept_object}
@@ -26,16 +24,16 @@ Keeps b O1 = head_fits MH_OBJECT b ≡ true
 Keeps b O2 = (commands_inside b ≡ true) × EachCommand (commands_of b) (command_fits (needed_in_object b) b)
 Keeps b O3 = (has_one LC_SEGMENT_64 b ≡ true) × (has_one LC_SYMTAB b ≡ true)
 Keeps b O4 = tables_inside b ≡ true
-Keeps b O5 = EachSymbol b (symbol_section_exists b) × EachRelocation b (relocation_number_exists b)
-Keeps b O6 = EachSection b (data_inside b)
-Keeps b O7 = EachSection b (exponent_fits b)
-Keeps b O8 = EachSymbol b (value_in_section b)
-Keeps b O9 = EachSymbol b (name_ends b)
-Keeps b O10 = EachSection b (relocations_inside b) × EachRelocation b (field_inside b)
-Keeps b O11 = EachSection b (thread_local_in_data b)
-Keeps b O12 = EachSection b (zerofill_unrelocated b)
-Keeps b O13 = EachSymbol b (global_has_name b)
-Keeps b O14 = EachSymbol b (common_fits b)
+Keeps b O5 = EachSymbol b O5 × EachRelocation b O5
+Keeps b O6 = EachSection b O6
+Keeps b O7 = EachSection b O7
+Keeps b O8 = EachSymbol b O8
+Keeps b O9 = EachSymbol b O9
+Keeps b O10 = EachSection b O10 × EachRelocation b O10
+Keeps b O11 = EachSection b O11
+Keeps b O12 = EachSection b O12
+Keeps b O13 = EachSymbol b O13
+Keeps b O14 = EachSymbol b O14
 
 pub keeps_all : (b : List ℕ) → ((rule : ObjectRule) → Keeps b rule) → IsObject b
 keeps_all b h =
@@ -81,12 +79,14 @@ all_kept b is = by_rule (object_keeps is)
 abbrev pub each_relocation : List ℕ → (ℕ → ℕ → Bool) → Bool
 each_relocation b test = each_below (num_sections b) (λ k. each_below (section_at b k).nreloc (test k))
 
-relocations_pass : (b : List ℕ) (test : ℕ → ℕ → Bool) → each_relocation b test ≡ true → EachRelocation b test
+relocations_pass : (b : List ℕ) (test : ℕ → ℕ → Bool) → each_relocation b test ≡ true → (k r : ℕ) → k < num_sections b
+    → r < (section_at b k).nreloc → test k r ≡ true
 relocations_pass b test h k r in_sections in_table =
     below_pass (section_at b k).nreloc (test k) (below_pass (num_sections b) (λ j. each_below (section_at b j).nreloc (test j)) h k
     in_sections) r in_table
 
-pass_relocations : (b : List ℕ) (test : ℕ → ℕ → Bool) → EachRelocation b test → each_relocation b test ≡ true
+pass_relocations : (b : List ℕ) (test : ℕ → ℕ → Bool) → ((k r : ℕ) → k < num_sections b → r < (section_at b k).nreloc → test k r ≡ true)
+    → each_relocation b test ≡ true
 pass_relocations b test h =
     pass_below (num_sections b) (λ j. each_below (section_at b j).nreloc (test j))
     (λ k in_sections. pass_below (section_at b k).nreloc (test k) (λ r in_table. h k r in_sections in_table))

@@ -16,7 +16,7 @@ use Rattle.macho_model.specs.Placement.{Placed, head_size}
 use Rattle.macho_model.specs.Chain.{chain_segments}
 use Rattle.macho_model.specs.Exports.{library_number}
 use Rattle.macho_model.specs.Commands.{numbered, header_of, commands_from, commands_of, commands_end}
-use Rattle.macho_model.specs.Objects.{segment_of, num_sections, section_place, section_at, section_bytes, symtab_of, num_symbols}
+use Rattle.macho_model.specs.Objects.{num_sections, section_place, section_at, section_bytes, symtab_of, num_symbols}
 use Rattle.macho_model.specs.Objects.{symbol_place, symbol_at, strings_of, symbol_name, relocation_place, relocation_at}
 use Rattle.macho_model.specs.ExportLists.{plain_entries, all_entries, entries_of}
 use Rattle.macho_model.specs.Links.{Link, sections_of, carried_of, template_exponent, placed_exponent}
@@ -33,7 +33,8 @@ use Rattle.macho_model.specs.Loader.{IsAccepted}
 use Rattle.macho_model.specs.Fixups.{own_entries, import_entries_of, entries_have_addends}
 use Rattle.macho_model.specs.Addresses.{section_address, common_address, slot_address}
 use Rattle.macho_model.specs.Agreement.{SegmentsAgree, section_headers_of, section_headers_at, TablesAgree}
-use Rattle.macho_model.specs.Signature.{uuid_written, UuidSays, Signed, DIRECTORY_PLACE, directory_size, directory_for, identifier_text}
+use Rattle.macho_structs.specs.declared.signature.CodeDirectory.{CodeDirectory}
+use Rattle.macho_model.specs.Signature.{uuid_written, UuidSays, identifier_text}
 use Rattle.macho_model.specs.Faults.{last_part}
 use Rattle.macho_model.specs.Head as head
 use Rattle.macho_model.specs.Head.{HeadSays, head_for}
@@ -55,7 +56,7 @@ use Rattle.macho_model_checks.proofs.WordsBySegment.{segments_pass, words_fit_in
 -- what the link has: one import, and two words that the loader writes: its slot, and the pointer
 pub call_needs : (imports_of calling ≡ codes "_exit" ∷ []) × (fixup_count calling ≡ 2)
 unfolding commands_end commands_of commands_from header_of reading le_at row_bytes le_bytes words8 words halves name16 entry calls_exit
-    head_of_call fixups_of_call tables_of_call be_at be_bytes big_words signature_of_call call_image segment_of num_sections section_place
+    head_of_call fixups_of_call tables_of_call be_at be_bytes big_words signature_of_call call_image num_sections section_place
     section_at section_bytes symtab_of num_symbols symbol_place symbol_at strings_of symbol_name relocation_place relocation_at
     sections_of carried_of template_exponent placed_exponent symbols_of strong_of weak_of commons_of greatest_of libraries_with
     definition_of chosen_commons initializer_sections unwind_sections uses_of imports_of libraries_needed target_of
@@ -66,7 +67,7 @@ call_needs = (refl, refl)
 -- THE section headers that the link asks for are those written out
 pub call_sections : output_sections_for calling counts_of_call placed_call ≡ placed_call.output_sections
 unfolding commands_end commands_of commands_from header_of reading le_at row_bytes le_bytes words8 words halves name16 entry calls_exit
-    head_of_call fixups_of_call tables_of_call be_at be_bytes big_words signature_of_call call_image segment_of num_sections section_place
+    head_of_call fixups_of_call tables_of_call be_at be_bytes big_words signature_of_call call_image num_sections section_place
     section_at section_bytes symtab_of num_symbols symbol_place symbol_at strings_of symbol_name relocation_place relocation_at
     sections_of carried_of template_exponent placed_exponent symbols_of strong_of weak_of commons_of greatest_of libraries_with
     definition_of chosen_commons initializer_sections unwind_sections uses_of imports_of libraries_needed target_of
@@ -83,7 +84,7 @@ call_long = refl
 
 head_long : length (head_for calling placed_call (head.commands_for calling counts_of_call placed_call uuid_given 14)) ≡ 920
 unfolding commands_end commands_of commands_from header_of reading le_at row_bytes le_bytes words8 words halves name16 entry calls_exit
-    head_of_call fixups_of_call tables_of_call be_at be_bytes big_words signature_of_call call_image segment_of num_sections section_place
+    head_of_call fixups_of_call tables_of_call be_at be_bytes big_words signature_of_call call_image num_sections section_place
     section_at section_bytes symtab_of num_symbols symbol_place symbol_at strings_of symbol_name relocation_place relocation_at
     sections_of carried_of template_exponent placed_exponent symbols_of strong_of weak_of commons_of greatest_of libraries_with
     definition_of chosen_commons initializer_sections unwind_sections uses_of imports_of libraries_needed target_of
@@ -94,7 +95,7 @@ head_long = refl
 
 head_stands : slice_range call_image 0 920 ≡ head_for calling placed_call (head.commands_for calling counts_of_call placed_call uuid_given 14)
 unfolding commands_end commands_of commands_from header_of reading le_at row_bytes le_bytes words8 words halves name16 entry calls_exit
-    head_of_call fixups_of_call tables_of_call be_at be_bytes big_words signature_of_call call_image segment_of num_sections section_place
+    head_of_call fixups_of_call tables_of_call be_at be_bytes big_words signature_of_call call_image num_sections section_place
     section_at section_bytes symtab_of num_symbols symbol_place symbol_at strings_of symbol_name relocation_place relocation_at
     sections_of carried_of template_exponent placed_exponent symbols_of strong_of weak_of commons_of greatest_of libraries_with
     definition_of chosen_commons initializer_sections unwind_sections uses_of imports_of libraries_needed target_of
@@ -116,7 +117,7 @@ call_head = record {
 -- and as a reader finds them
 pub call_commands : CommandsSay calling counts_of_call uuid_given call_image placed_call
 unfolding commands_end commands_of commands_from header_of reading le_at row_bytes le_bytes words8 words halves name16 entry calls_exit
-    head_of_call fixups_of_call tables_of_call be_at be_bytes big_words signature_of_call call_image segment_of num_sections section_place
+    head_of_call fixups_of_call tables_of_call be_at be_bytes big_words signature_of_call call_image num_sections section_place
     section_at section_bytes symtab_of num_symbols symbol_place symbol_at strings_of symbol_name relocation_place relocation_at
     sections_of carried_of template_exponent placed_exponent symbols_of strong_of weak_of commons_of greatest_of libraries_with
     definition_of chosen_commons initializer_sections unwind_sections uses_of imports_of libraries_needed target_of
@@ -157,7 +158,7 @@ call_tables = record {
 -- THE symbol table: `_main`, in section 1
 pub call_symbols : SymbolsSay calling counts_of_call call_image placed_call
 unfolding commands_end commands_of commands_from header_of reading le_at row_bytes le_bytes words8 words halves name16 entry calls_exit
-    head_of_call fixups_of_call tables_of_call be_at be_bytes big_words signature_of_call call_image segment_of num_sections section_place
+    head_of_call fixups_of_call tables_of_call be_at be_bytes big_words signature_of_call call_image num_sections section_place
     section_at section_bytes symtab_of num_symbols symbol_place symbol_at strings_of symbol_name relocation_place relocation_at
     sections_of carried_of template_exponent placed_exponent symbols_of strong_of weak_of commons_of greatest_of libraries_with
     definition_of chosen_commons initializer_sections unwind_sections uses_of imports_of libraries_needed target_of
@@ -169,14 +170,14 @@ call_symbols = record { entries = refl; strings = refl }
 -- its name is found at its place
 call_names : map (symbol_name call_image) (range_with_len 0 (num_symbols call_image)) ≡ codes "_main" ∷ []
 unfolding commands_end commands_of commands_from header_of reading le_at row_bytes le_bytes words8 words halves name16 entry calls_exit
-    head_of_call fixups_of_call tables_of_call be_at be_bytes big_words signature_of_call call_image segment_of num_sections section_place
+    head_of_call fixups_of_call tables_of_call be_at be_bytes big_words signature_of_call call_image num_sections section_place
     section_at section_bytes symtab_of num_symbols symbol_place symbol_at strings_of symbol_name
 call_names = refl
 
 -- THE import table: library 1, `_exit`, no addend; and the library
 first_entry : EntrySays calling call_image (record { at = 0xc000; size = 0xd0 }) 0
 unfolding commands_end commands_of commands_from header_of reading le_at row_bytes le_bytes words8 words halves name16 entry calls_exit
-    head_of_call fixups_of_call tables_of_call be_at be_bytes big_words signature_of_call call_image segment_of num_sections section_place
+    head_of_call fixups_of_call tables_of_call be_at be_bytes big_words signature_of_call call_image num_sections section_place
     section_at section_bytes symtab_of num_symbols symbol_place symbol_at strings_of symbol_name relocation_place relocation_at
     sections_of carried_of template_exponent placed_exponent symbols_of strong_of weak_of commons_of greatest_of libraries_with
     definition_of chosen_commons initializer_sections unwind_sections uses_of imports_of libraries_needed target_of
@@ -188,7 +189,7 @@ first_entry = record { library = refl; weak = refl; place = refl; name = refl; a
 
 entry_facts : (tables_of call_image ≡ record { at = 0xc000; size = 0xd0 } ∷ []) × (length (import_entries_of calling) ≡ 1)
 unfolding commands_end commands_of commands_from header_of reading le_at row_bytes le_bytes words8 words halves name16 entry calls_exit
-    head_of_call fixups_of_call tables_of_call be_at be_bytes big_words signature_of_call call_image segment_of num_sections section_place
+    head_of_call fixups_of_call tables_of_call be_at be_bytes big_words signature_of_call call_image num_sections section_place
     section_at section_bytes symtab_of num_symbols symbol_place symbol_at strings_of symbol_name relocation_place relocation_at
     sections_of carried_of template_exponent placed_exponent symbols_of strong_of weak_of commons_of greatest_of libraries_with
     definition_of chosen_commons initializer_sections unwind_sections uses_of imports_of libraries_needed target_of
@@ -204,7 +205,7 @@ each_entry (suc k) within = absurd (omega (arith, within, entry_facts.1))
 
 pub call_imports : ImportTableSays calling call_image
 unfolding commands_end commands_of commands_from header_of reading le_at row_bytes le_bytes words8 words halves name16 entry calls_exit
-    head_of_call fixups_of_call tables_of_call be_at be_bytes big_words signature_of_call call_image segment_of num_sections section_place
+    head_of_call fixups_of_call tables_of_call be_at be_bytes big_words signature_of_call call_image num_sections section_place
     section_at section_bytes symtab_of num_symbols symbol_place symbol_at strings_of symbol_name relocation_place relocation_at
     sections_of carried_of template_exponent placed_exponent symbols_of strong_of weak_of commons_of greatest_of libraries_with
     definition_of chosen_commons initializer_sections unwind_sections uses_of imports_of libraries_needed target_of
@@ -223,7 +224,7 @@ call_imports = record {
 
 pub call_libraries : LibrariesSay calling call_image
 unfolding commands_end commands_of commands_from header_of reading le_at row_bytes le_bytes words8 words halves name16 entry calls_exit
-    head_of_call fixups_of_call tables_of_call be_at be_bytes big_words signature_of_call call_image segment_of num_sections section_place
+    head_of_call fixups_of_call tables_of_call be_at be_bytes big_words signature_of_call call_image num_sections section_place
     section_at section_bytes symtab_of num_symbols symbol_place symbol_at strings_of symbol_name relocation_place relocation_at
     sections_of carried_of template_exponent placed_exponent symbols_of strong_of weak_of commons_of greatest_of libraries_with
     definition_of chosen_commons initializer_sections unwind_sections uses_of imports_of libraries_needed target_of
@@ -233,12 +234,34 @@ unfolding commands_end commands_of commands_from header_of reading le_at row_byt
 call_libraries = refl
 
 -- the code directory of the signature, and the identifier behind it
-abbrev pub signed_call : Signed
-signed_call = record { name = codes "out"; executable = true; text_offset = 0; text_size = 0x4000; limit = 0xc100 }
+abbrev pub directory_of_call : CodeDirectory
+directory_of_call = record {
+  magic = 0xfade0c02;
+  length = 520;
+  version = 0x20400;
+  flags = 0x20002;
+  hash_offset = 104;
+  ident_offset = 88;
+  special_slots = 0;
+  code_slots = 13;
+  code_limit = 0xc100;
+  hash_size = 32;
+  hash_type = 2;
+  platform = 0;
+  page_exponent = 12;
+  spare = 0;
+  scatter_offset = 0;
+  team_offset = 0;
+  spare2 = 0;
+  code_limit64 = 0;
+  exec_base = 0;
+  exec_limit = 0x4000;
+  exec_flags = 1;
+}
 
-pub call_directory : (reading code_directory call_image 0xc114 ≡ directory_for signed_call)
+pub call_directory : (reading code_directory call_image 0xc114 ≡ directory_of_call)
     × (slice_range call_image 0xc16c 0xc17c ≡ identifier_text (last_part calling.output))
-    × (length call_image ≡ 0xc100 + (DIRECTORY_PLACE + directory_size signed_call))
+    × (length call_image ≡ 0xc100 + 540)
 unfolding commands_end commands_of commands_from header_of reading le_at row_bytes le_bytes words8 words halves name16 entry calls_exit
     head_of_call fixups_of_call tables_of_call be_at be_bytes big_words signature_of_call call_image
 call_directory = (refl, refl, refl)
@@ -364,14 +387,14 @@ with_another_value = changed call_image 0xc0f0 (words8 (0x10000039c ∷ []))
 
 value_there : map (λ e. e.n_value) (map (symbol_at with_another_value) (range_with_len 0 (num_symbols with_another_value))) ≡ 0x10000039c ∷ []
 unfolding changed with_another_value commands_end commands_of commands_from header_of reading le_at row_bytes le_bytes words8 words halves
-    name16 entry calls_exit head_of_call fixups_of_call tables_of_call be_at be_bytes big_words signature_of_call call_image segment_of
+    name16 entry calls_exit head_of_call fixups_of_call tables_of_call be_at be_bytes big_words signature_of_call call_image
     num_sections section_place section_at section_bytes symtab_of num_symbols symbol_place symbol_at strings_of symbol_name
     relocation_place relocation_at
 value_there = refl
 
 value_asked : map (λ e. e.n_value) (symbol_entries calling counts_of_call placed_call) ≡ 0x100000398 ∷ []
 unfolding commands_end commands_of commands_from header_of reading le_at row_bytes le_bytes words8 words halves name16 entry calls_exit
-    head_of_call fixups_of_call tables_of_call be_at be_bytes big_words signature_of_call call_image segment_of num_sections section_place
+    head_of_call fixups_of_call tables_of_call be_at be_bytes big_words signature_of_call call_image num_sections section_place
     section_at section_bytes symtab_of num_symbols symbol_place symbol_at strings_of symbol_name relocation_place relocation_at
     sections_of carried_of template_exponent placed_exponent symbols_of strong_of weak_of commons_of greatest_of libraries_with
     definition_of chosen_commons initializer_sections unwind_sections uses_of imports_of libraries_needed target_of
@@ -395,7 +418,7 @@ library_facts : (tables_of with_another_library ≡ record { at = 0xc000; size =
     × (library_number calling (import_library calling (name_of_entry calling 0)) ≡ 1)
 unfolding changed with_another_library commands_end commands_of commands_from header_of reading le_at row_bytes le_bytes words8 words
     halves name16 entry calls_exit head_of_call fixups_of_call tables_of_call be_at be_bytes big_words signature_of_call call_image
-    segment_of num_sections section_place section_at section_bytes symtab_of num_symbols symbol_place symbol_at strings_of symbol_name
+    num_sections section_place section_at section_bytes symtab_of num_symbols symbol_place symbol_at strings_of symbol_name
     relocation_place relocation_at sections_of carried_of template_exponent placed_exponent symbols_of strong_of weak_of
     commons_of greatest_of libraries_with definition_of chosen_commons initializer_sections unwind_sections uses_of imports_of
     libraries_needed target_of target_of_relocation slots_of stubs_of fields_of plain_entries all_entries entries_of
@@ -427,7 +450,7 @@ names_there = (refl, refl)
 
 names_asked : get_or (get_or (libraries_needed calling) 0 []) 0 0 ≡ 0x2f
 unfolding commands_end commands_of commands_from header_of reading le_at row_bytes le_bytes words8 words halves name16 entry calls_exit
-    head_of_call fixups_of_call tables_of_call be_at be_bytes big_words signature_of_call call_image segment_of num_sections section_place
+    head_of_call fixups_of_call tables_of_call be_at be_bytes big_words signature_of_call call_image num_sections section_place
     section_at section_bytes symtab_of num_symbols symbol_place symbol_at strings_of symbol_name relocation_place relocation_at
     sections_of carried_of template_exponent placed_exponent symbols_of strong_of weak_of commons_of greatest_of libraries_with
     definition_of chosen_commons initializer_sections unwind_sections uses_of imports_of libraries_needed target_of

@@ -18,7 +18,7 @@ use Rattle.macho_model_checks.proofs.ExampleCall.{tables_of_call, big_words, sig
 use Rattle.macho_bytes.specs.Numbers.{le_at, le_bytes, be_at, be_bytes, row_bytes}
 use Rattle.macho_bytes.specs.Layouts.{reading}
 use Rattle.macho_model.specs.Commands.{header_of, commands_from, commands_of, commands_end}
-use Rattle.macho_model.specs.Objects.{segment_of, num_sections, section_place, section_at, section_bytes, symtab_of, num_symbols}
+use Rattle.macho_model.specs.Objects.{num_sections, section_place, section_at, section_bytes, symtab_of, num_symbols}
 use Rattle.macho_model.specs.Objects.{symbol_place, symbol_at, strings_of, symbol_name, relocation_place, relocation_at}
 use Rattle.macho_model.specs.ExportLists.{plain_entries, all_entries, entries_of}
 use Rattle.macho_model.specs.Links.{sections_of, carried_of, template_exponent, placed_exponent}
@@ -97,7 +97,7 @@ data_extent = piece 0x100008008 8 3
 
 gap_row : row_with with_gap data_segment ≡ front_of_data ∷ data_extent ∷ []
 unfolding commands_end commands_of commands_from header_of reading le_at row_bytes le_bytes words8 words halves name16 entry calls_exit
-    head_of_call fixups_of_call tables_of_call be_at be_bytes big_words signature_of_call call_image segment_of num_sections section_place
+    head_of_call fixups_of_call tables_of_call be_at be_bytes big_words signature_of_call call_image num_sections section_place
     section_at section_bytes symtab_of num_symbols symbol_place symbol_at strings_of symbol_name relocation_place relocation_at
     sections_of carried_of template_exponent placed_exponent symbols_of strong_of weak_of commons_of greatest_of libraries_with
     definition_of chosen_commons initializer_sections unwind_sections uses_of imports_of libraries_needed target_of
@@ -109,7 +109,7 @@ gap_row = refl
 -- it is listed in order, and its section headers are those of the link
 pub gap_in_order : StandInOrder calling counts_of_call with_gap
 unfolding commands_end commands_of commands_from header_of reading le_at row_bytes le_bytes words8 words halves name16 entry calls_exit
-    head_of_call fixups_of_call tables_of_call be_at be_bytes big_words signature_of_call call_image segment_of num_sections section_place
+    head_of_call fixups_of_call tables_of_call be_at be_bytes big_words signature_of_call call_image num_sections section_place
     section_at section_bytes symtab_of num_symbols symbol_place symbol_at strings_of symbol_name relocation_place relocation_at
     sections_of carried_of template_exponent placed_exponent symbols_of strong_of weak_of commons_of greatest_of libraries_with
     definition_of chosen_commons initializer_sections unwind_sections uses_of imports_of libraries_needed target_of
@@ -125,7 +125,7 @@ gap_in_order = record {
 
 pub gap_in_headers : with_gap.output_sections ≡ output_sections_for calling counts_of_call with_gap
 unfolding commands_end commands_of commands_from header_of reading le_at row_bytes le_bytes words8 words halves name16 entry calls_exit
-    head_of_call fixups_of_call tables_of_call be_at be_bytes big_words signature_of_call call_image segment_of num_sections section_place
+    head_of_call fixups_of_call tables_of_call be_at be_bytes big_words signature_of_call call_image num_sections section_place
     section_at section_bytes symtab_of num_symbols symbol_place symbol_at strings_of symbol_name relocation_place relocation_at
     sections_of carried_of template_exponent placed_exponent symbols_of strong_of weak_of commons_of greatest_of libraries_with
     definition_of chosen_commons initializer_sections unwind_sections uses_of imports_of libraries_needed target_of
@@ -149,7 +149,7 @@ exchanged_facts : (are_rows_least with_list_exchanged ≡ true) × (are_pieces_l
     × (map (λ (s : SectionId). s.section) (map id_of with_list_exchanged.sections) ≡ 1 ∷ 0 ∷ [])
     × (map (λ (s : SectionId). s.section) (carried_of calling) ≡ 0 ∷ 1 ∷ [])
 unfolding commands_end commands_of commands_from header_of reading le_at row_bytes le_bytes words8 words halves name16 entry calls_exit
-    head_of_call fixups_of_call tables_of_call be_at be_bytes big_words signature_of_call call_image segment_of num_sections section_place
+    head_of_call fixups_of_call tables_of_call be_at be_bytes big_words signature_of_call call_image num_sections section_place
     section_at section_bytes symtab_of num_symbols symbol_place symbol_at strings_of symbol_name relocation_place relocation_at
     sections_of carried_of template_exponent placed_exponent symbols_of strong_of weak_of commons_of greatest_of libraries_with
     definition_of chosen_commons initializer_sections unwind_sections uses_of imports_of libraries_needed target_of
@@ -194,7 +194,7 @@ with_places_exchanged = record placed_call {
 places_row : row_with with_places_exchanged (text_from 0x100000000 0x4000)
     ≡ piece 0x100000000 0x398 0 ∷ piece 0x1000003a4 8 2 ∷ piece 0x100000398 12 2 ∷ []
 unfolding commands_end commands_of commands_from header_of reading le_at row_bytes le_bytes words8 words halves name16 entry calls_exit
-    head_of_call fixups_of_call tables_of_call be_at be_bytes big_words signature_of_call call_image segment_of num_sections section_place
+    head_of_call fixups_of_call tables_of_call be_at be_bytes big_words signature_of_call call_image num_sections section_place
     section_at section_bytes symtab_of num_symbols symbol_place symbol_at strings_of symbol_name relocation_place relocation_at
     sections_of carried_of template_exponent placed_exponent symbols_of strong_of weak_of commons_of greatest_of libraries_with
     definition_of chosen_commons initializer_sections unwind_sections uses_of imports_of libraries_needed target_of

@@ -1,16 +1,17 @@
 -- Consumed sections, and what a dynamic library offers, by computing from the bytes of small inputs.
 use Rattle.std.proofs.Common.{◌≡◌, ℕ, Bool, true, false, List, [], ◌∷◌, ◌++◌, refl, map}
 use Rattle.std.specs.Prelude.{codes}
+use Rattle.macho_records.specs.Sections.{should_exclude_of}
 use Rattle.macho_records.specs.declared.header.SectionHeader.{SectionHeader}
 use Rattle.macho_model.specs.declared.rules.UnwindRule.TheVariants.{U1, U2, U3, U4, U5, U6, U7, U8}
 use Rattle.macho_model.specs.declared.targets.Target.TheVariants as target
 use Rattle.macho_bytes.specs.Numbers.{le_at, le_bytes, row_bytes}
 use Rattle.macho_bytes.specs.Layouts.{reading}
 use Rattle.macho_model.specs.Commands.{header_of, commands_from, commands_of, commands_end}
-use Rattle.macho_model.specs.Objects.{segment_of, num_sections, section_place, section_at, section_bytes, symtab_of, num_symbols}
+use Rattle.macho_model.specs.Objects.{num_sections, section_place, section_at, section_bytes, symtab_of, num_symbols}
 use Rattle.macho_model.specs.Objects.{symbol_place, symbol_at, strings_of, symbol_name, relocation_place, relocation_at, install_name_of}
 use Rattle.macho_model.specs.ExportLists.{plain_entries, all_entries, entries_of}
-use Rattle.macho_model.specs.Links.{Link, Dylib, sections_of, carried_of, template_exponent, placed_exponent, is_carried, is_consumed}
+use Rattle.macho_model.specs.Links.{Link, Dylib, sections_of, carried_of, template_exponent, placed_exponent, is_carried}
 use Rattle.macho_model.specs.Resolution.{symbols_of, strong_of, weak_of, commons_of, greatest_of, libraries_with, definition_of}
 use Rattle.macho_model.specs.Resolution.{chosen_commons, offers}
 use Rattle.macho_model.specs.Needs.{initializer_sections, unwind_sections, uses_of, imports_of, libraries_needed}
@@ -39,14 +40,14 @@ header_named name segment flags = record {
   reserved3 = 0;
 }
 
--- initializers in a segment that isn't taken are neither carried nor consumed; unwind entries are consumed in any segment
--- that is, also where they are marked as debug information
+-- initializers in a segment of the linker's own are left out; unwind entries in any other segment are taken, also where they are marked as
+-- debug information, but not carried
 pub which_are_taken : (is_carried (header_named (codes "__mod_init_func") (codes "__LLVM") 9) ≡ false)
-    × (is_consumed (header_named (codes "__mod_init_func") (codes "__LLVM") 9) ≡ false)
-    × (is_consumed (header_named (codes "__mod_init_func") (codes "__DATA_CONST") 9) ≡ true)
-    × (is_consumed (header_named (codes "__compact_unwind") (codes "__LD") 0x02000000) ≡ true)
+    × (should_exclude_of (header_named (codes "__mod_init_func") (codes "__LLVM") 9) ≡ true)
+    × (should_exclude_of (header_named (codes "__mod_init_func") (codes "__DATA_CONST") 9) ≡ false)
+    × (should_exclude_of (header_named (codes "__compact_unwind") (codes "__LD") 0x02000000) ≡ false)
     × (is_carried (header_named (codes "__compact_unwind") (codes "__LD") 0x02000000) ≡ false)
-    × (is_consumed (header_named (codes "__compact_unwind") (codes "__LINKEDIT") 0) ≡ false)
+    × (should_exclude_of (header_named (codes "__compact_unwind") (codes "__LINKEDIT") 0) ≡ true)
 unfolding name16
 which_are_taken = (refl, refl, refl, refl, refl, refl)
 
@@ -60,7 +61,7 @@ abbrev pub by_symbol : Link
 by_symbol = link_of_object (unwind_object (unwind_entry 8 0x02000000) (0 ∷ 0x0e000000 ∷ []))
 
 pub a_start_by_symbol : kept_by by_symbol 0 ≡ true ∷ true ∷ true ∷ false ∷ true ∷ true ∷ true ∷ true ∷ []
-unfolding header_of commands_from commands_of commands_end segment_of num_sections section_place section_at section_bytes symtab_of
+unfolding header_of commands_from commands_of commands_end num_sections section_place section_at section_bytes symtab_of
     num_symbols symbol_place symbol_at strings_of symbol_name relocation_place relocation_at sections_of carried_of template_exponent
     placed_exponent symbols_of strong_of weak_of commons_of greatest_of libraries_with definition_of chosen_commons
     initializer_sections unwind_sections uses_of imports_of libraries_needed target_of target_of_relocation slots_of stubs_of
@@ -74,7 +75,7 @@ two_by_symbol = link_of_object (unwind_object (unwind_entry 8 0x02000000 ++ unwi
     (0 ∷ 0x0e000000 ∷ 32 ∷ 0x0e000000 ∷ []))
 
 pub two_starts_by_symbol : kept_by two_by_symbol 1 ≡ true ∷ true ∷ true ∷ false ∷ true ∷ true ∷ true ∷ true ∷ []
-unfolding header_of commands_from commands_of commands_end segment_of num_sections section_place section_at section_bytes symtab_of
+unfolding header_of commands_from commands_of commands_end num_sections section_place section_at section_bytes symtab_of
     num_symbols symbol_place symbol_at strings_of symbol_name relocation_place relocation_at sections_of carried_of template_exponent
     placed_exponent symbols_of strong_of weak_of commons_of greatest_of libraries_with definition_of chosen_commons
     initializer_sections unwind_sections uses_of imports_of libraries_needed target_of target_of_relocation slots_of stubs_of
@@ -87,7 +88,7 @@ abbrev pub no_start : Link
 no_start = link_of_object (unwind_object (words8 (4 ∷ []) ++ words (4 ∷ 0x02000000 ∷ []) ++ words8 (0 ∷ 0 ∷ [])) [])
 
 pub an_absent_start : kept_by no_start 0 ≡ true ∷ true ∷ true ∷ false ∷ true ∷ true ∷ true ∷ false ∷ []
-unfolding header_of commands_from commands_of commands_end segment_of num_sections section_place section_at section_bytes symtab_of
+unfolding header_of commands_from commands_of commands_end num_sections section_place section_at section_bytes symtab_of
     num_symbols symbol_place symbol_at strings_of symbol_name relocation_place relocation_at sections_of carried_of template_exponent
     placed_exponent symbols_of strong_of weak_of commons_of greatest_of libraries_with definition_of chosen_commons
     initializer_sections unwind_sections uses_of imports_of libraries_needed target_of target_of_relocation slots_of stubs_of
@@ -102,7 +103,7 @@ with_personality = link_of_object (unwind_object (unwind_entry 8 0x02000000) (0 
 pub a_personality : (personality_targets with_personality ≡ target.Section 0 0 0 ∷ [])
     × (slots_of with_personality ≡ target.Section 0 0 0 ∷ [])
     × (kept_by with_personality 0 ≡ true ∷ true ∷ true ∷ true ∷ true ∷ true ∷ true ∷ true ∷ [])
-unfolding header_of commands_from commands_of commands_end segment_of num_sections section_place section_at section_bytes symtab_of
+unfolding header_of commands_from commands_of commands_end num_sections section_place section_at section_bytes symtab_of
     num_symbols symbol_place symbol_at strings_of symbol_name relocation_place relocation_at sections_of carried_of template_exponent
     placed_exponent symbols_of strong_of weak_of commons_of greatest_of libraries_with definition_of chosen_commons
     initializer_sections unwind_sections uses_of imports_of libraries_needed target_of target_of_relocation slots_of stubs_of
@@ -124,7 +125,7 @@ library =
 pub what_it_offers : map (λ name. offers name (Dylib library)) (codes "_a" ∷ codes "_b" ∷ codes "_c" ∷ codes "_d" ∷ codes "_e"
     ∷ codes "_f" ∷ codes "_g" ∷ [])
     ≡ true ∷ true ∷ false ∷ false ∷ false ∷ false ∷ false ∷ []
-unfolding header_of commands_from commands_of commands_end segment_of num_sections section_place section_at section_bytes symtab_of
+unfolding header_of commands_from commands_of commands_end num_sections section_place section_at section_bytes symtab_of
     num_symbols symbol_place symbol_at strings_of symbol_name relocation_place relocation_at sections_of carried_of template_exponent
     placed_exponent symbols_of strong_of weak_of commons_of greatest_of libraries_with definition_of chosen_commons
     initializer_sections unwind_sections uses_of imports_of libraries_needed target_of target_of_relocation slots_of stubs_of

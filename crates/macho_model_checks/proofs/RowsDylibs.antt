@@ -6,13 +6,13 @@ use Rattle.std.proofs.Common.{◌≡◌, ℕ, Bool, true, false, ◌&&◌, ◌==
 use Rattle.std.specs.Prelude.{codes}
 use Rattle.std.specs.List.{list_all, AllByRecursion}
 use Rattle.std.proofs.lemmas.List.Elements.{All-from_recursion}
+use Rattle.macho_model.specs.steps.RecordTests.{name_ends, global_has_name}
 use Rattle.macho_bytes.specs.Numbers.{le_at, le_bytes, row_bytes}
 use Rattle.macho_bytes.specs.Layouts.{reading}
 use Rattle.macho_records.specs.declared.constants.TheConstants.{LC_ID_DYLIB, LC_SYMTAB, MH_DYLIB}
 use Rattle.macho_model.specs.Commands.{header_of, commands_from, commands_of, commands_end, numbered, command_fits}
 use Rattle.macho_model.specs.Objects.{symtab_of, num_symbols, symbol_place, symbol_at, strings_of, symbol_name, install_name_of}
-use Rattle.macho_model.specs.ObjectRules.{head_fits, commands_inside, needed_in_dylib, has_one, tables_inside, name_ends, path_ends}
-use Rattle.macho_model.specs.ObjectRules.{global_has_name}
+use Rattle.macho_model.specs.ObjectRules.{head_fits, commands_inside, needed_in_dylib, has_one, tables_inside, path_ends}
 use Rattle.macho_model.specs.Grammar.{IsDylib}
 use Rattle.macho_model.specs.ObjectLaws.{KeepsDylibRules}
 use Rattle.macho_model.proofs.ObjectLaws.{dylib_keeps, kept_dylib}

@@ -9,7 +9,7 @@ use Rattle.macho_model.specs.Links.{Link, SectionId}
 use Rattle.macho_model.specs.Fields.{Field}
 use Rattle.macho_model.specs.Placement.{Placed}
 use Rattle.macho_model.specs.Memory.{Choice}
-use Rattle.macho_model.specs.Stands.{Pointer, Seen, Says, LoadSays, LoadIsAt}
+use Rattle.macho_model.specs.Stands.{Pointer, Says, LoadSays, LoadIsAt}
 use Rattle.macho_model.specs.Words.{is_branch, is_adrp, is_add, is_ldr, is_load_store, load_scale, scale_of}
 use Rattle.macho_model.specs.Meaning.{PointsTo, IsDifference, BranchesTo, PagesTo, OffsetsTo, AddsTo, LoadsFrom, IsDistance, GoesThrough}
 
@@ -114,17 +114,25 @@ a_distance = refl
 -- a stub at 0x100004000 through a slot at 0x100008010: `30 00 00 90 10 0a 40 f9 00 02 1f d6`
 pub a_stub : GoesThrough 0x100004000 0x100008010 (word_of 0x30 0x00 0x00 0x90) (word_of 0x10 0x0a 0x40 0xf9) (word_of 0x00 0x02 0x1f 0xd6)
 unfolding le_at
-a_stub = record { pages = (refl, refl); reaches = refl; load = (refl, refl, refl); offset = refl; leaves = refl }
+a_stub = record {
+  pages = record { reaches = refl; kept = refl };
+  loads = record { load = refl; reaches = refl; kept = refl };
+  leaves = refl;
+}
 
 pub a_stub_slid : GoesThrough (0x100004000 + slide) (0x100008010 + slide) (word_of 0x30 0x00 0x00 0x90) (word_of 0x10 0x0a 0x40 0xf9)
     (word_of 0x00 0x02 0x1f 0xd6)
 unfolding le_at
-a_stub_slid = record { pages = (refl, refl); reaches = refl; load = (refl, refl, refl); offset = refl; leaves = refl }
+a_stub_slid = record {
+  pages = record { reaches = refl; kept = refl };
+  loads = record { load = refl; reaches = refl; kept = refl };
+  leaves = refl;
+}
 
 -- a pointer has 8 bytes: one of 4 says nothing, whatever word is there
-pub short_pointer_says_nothing : (l : Link) (p : Placed) (s : ℕ) (choice : Choice) (id : SectionId) (f : Field) (seen : Seen) → f.width ≡ 4
-    → Says l p s choice id f seen Pointer → ⊥
-short_pointer_says_nothing l p s choice id f seen four says = absurd (omega (arith, four, says.3))
+pub short_pointer_says_nothing : (l : Link) (p : Placed) (s : ℕ) (choice : Choice) (id : SectionId) (f : Field) (place word input : ℕ) → f.width ≡ 4
+    → Says l p s choice id f place word input Pointer → ⊥
+short_pointer_says_nothing l p s choice id f place word input four says = absurd (omega (arith, four, says.3))
 
 -- and a value that does not move is not loaded, nor is its page
 pub value_is_not_loaded : (l : Link) (p : Placed) (s : ℕ) (choice : Choice) (value word input x : ℕ)

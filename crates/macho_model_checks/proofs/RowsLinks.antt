@@ -7,7 +7,7 @@ use Rattle.macho_bytes.specs.Numbers.{le_at, le_bytes, row_bytes}
 use Rattle.macho_bytes.specs.Layouts.{reading}
 use Rattle.macho_model.specs.declared.targets.Target.TheVariants as target
 use Rattle.macho_model.specs.Commands.{header_of, commands_from, commands_of, commands_end}
-use Rattle.macho_model.specs.Objects.{segment_of, num_sections, section_place, section_at, section_bytes, symtab_of, num_symbols}
+use Rattle.macho_model.specs.Objects.{num_sections, section_place, section_at, section_bytes, symtab_of, num_symbols}
 use Rattle.macho_model.specs.Objects.{symbol_place, symbol_at, strings_of, symbol_name, relocation_place, relocation_at}
 use Rattle.macho_model.specs.ExportLists.{plain_entries, all_entries, entries_of}
 use Rattle.macho_model.specs.Links.{sections_of, carried_of, template_exponent, placed_exponent}
@@ -40,7 +40,7 @@ answers =
     ∷ []
 
 pub each_name_has_its_definition : AllByRecursion (λ a. definition_of resolving a.name ≡ a.definition) answers
-unfolding header_of commands_from commands_of commands_end segment_of num_sections section_place section_at section_bytes symtab_of
+unfolding header_of commands_from commands_of commands_end num_sections section_place section_at section_bytes symtab_of
     num_symbols symbol_place symbol_at strings_of symbol_name relocation_place relocation_at sections_of carried_of template_exponent
     placed_exponent symbols_of strong_of weak_of commons_of greatest_of libraries_with definition_of chosen_commons
     initializer_sections unwind_sections uses_of imports_of libraries_needed target_of target_of_relocation slots_of stubs_of
@@ -50,7 +50,7 @@ each_name_has_its_definition = (refl, (refl, (refl, (refl, (refl, (refl, (refl, 
 
 -- the common of 8 bytes is the one chosen, and so has the number 0
 pub one_common_is_chosen : chosen_commons resolving ≡ symbol 1 2 ∷ []
-unfolding header_of commands_from commands_of commands_end segment_of num_sections section_place section_at section_bytes symtab_of
+unfolding header_of commands_from commands_of commands_end num_sections section_place section_at section_bytes symtab_of
     num_symbols symbol_place symbol_at strings_of symbol_name relocation_place relocation_at sections_of carried_of template_exponent
     placed_exponent symbols_of strong_of weak_of commons_of greatest_of libraries_with definition_of chosen_commons
     initializer_sections unwind_sections uses_of imports_of libraries_needed target_of target_of_relocation slots_of stubs_of
@@ -61,7 +61,7 @@ one_common_is_chosen = refl
 -- a symbol leads where its name is defined: the function, the weak definition, the chosen common
 pub symbols_lead_to : map (target_of resolving) (symbol 0 0 ∷ symbol 0 1 ∷ symbol 0 2 ∷ []) ≡ target.Section 1 0 4 ∷ target.Section 1 0 0
     ∷ target.Common 0 ∷ []
-unfolding header_of commands_from commands_of commands_end segment_of num_sections section_place section_at section_bytes symtab_of
+unfolding header_of commands_from commands_of commands_end num_sections section_place section_at section_bytes symtab_of
     num_symbols symbol_place symbol_at strings_of symbol_name relocation_place relocation_at sections_of carried_of template_exponent
     placed_exponent symbols_of strong_of weak_of commons_of greatest_of libraries_with definition_of chosen_commons
     initializer_sections unwind_sections uses_of imports_of libraries_needed target_of target_of_relocation slots_of stubs_of
@@ -71,7 +71,7 @@ symbols_lead_to = refl
 
 -- two strong definitions of one name
 pub two_strong_ones : strong_of doubled (codes "_f") ≡ symbol 0 0 ∷ symbol 2 0 ∷ []
-unfolding header_of commands_from commands_of commands_end segment_of num_sections section_place section_at section_bytes symtab_of
+unfolding header_of commands_from commands_of commands_end num_sections section_place section_at section_bytes symtab_of
     num_symbols symbol_place symbol_at strings_of symbol_name relocation_place relocation_at sections_of carried_of template_exponent
     placed_exponent symbols_of strong_of weak_of commons_of greatest_of libraries_with definition_of chosen_commons
     initializer_sections unwind_sections uses_of imports_of libraries_needed target_of target_of_relocation slots_of stubs_of
@@ -81,7 +81,7 @@ two_strong_ones = refl
 
 -- all four sections are carried
 pub carried_sections : carried_of linked_b ≡ section 0 0 ∷ section 0 1 ∷ section 0 2 ∷ section 0 3 ∷ []
-unfolding header_of commands_from commands_of commands_end segment_of num_sections section_place section_at section_bytes symtab_of
+unfolding header_of commands_from commands_of commands_end num_sections section_place section_at section_bytes symtab_of
     num_symbols symbol_place symbol_at strings_of symbol_name relocation_place relocation_at sections_of carried_of template_exponent
     placed_exponent symbols_of strong_of weak_of commons_of greatest_of libraries_with definition_of chosen_commons
     initializer_sections unwind_sections uses_of imports_of libraries_needed target_of target_of_relocation slots_of stubs_of
@@ -102,7 +102,7 @@ pub fields_of_data : fields_of linked_b (section 0 1) ≡
     }
     ∷ record { relocation = 2; offset = 8; width = 8; type = 0; target = target.Common 0; subtrahend = None; addend = 0 }
     ∷ []
-unfolding header_of commands_from commands_of commands_end segment_of num_sections section_place section_at section_bytes symtab_of
+unfolding header_of commands_from commands_of commands_end num_sections section_place section_at section_bytes symtab_of
     num_symbols symbol_place symbol_at strings_of symbol_name relocation_place relocation_at sections_of carried_of template_exponent
     placed_exponent symbols_of strong_of weak_of commons_of greatest_of libraries_with definition_of chosen_commons
     initializer_sections unwind_sections uses_of imports_of libraries_needed target_of target_of_relocation slots_of stubs_of
@@ -113,7 +113,7 @@ fields_of_data = refl
 -- a call of a library's function
 pub fields_of_text : fields_of linked_b (section 0 0) ≡
     record { relocation = 0; offset = 0; width = 4; type = 2; target = target.Import 0; subtrahend = None; addend = 0 } ∷ []
-unfolding header_of commands_from commands_of commands_end segment_of num_sections section_place section_at section_bytes symtab_of
+unfolding header_of commands_from commands_of commands_end num_sections section_place section_at section_bytes symtab_of
     num_symbols symbol_place symbol_at strings_of symbol_name relocation_place relocation_at sections_of carried_of template_exponent
     placed_exponent symbols_of strong_of weak_of commons_of greatest_of libraries_with definition_of chosen_commons
     initializer_sections unwind_sections uses_of imports_of libraries_needed target_of target_of_relocation slots_of stubs_of
@@ -125,7 +125,7 @@ fields_of_text = refl
 pub needs_of_a_call : (imports_of linked_b ≡ codes "_exit" ∷ []) × (stubs_of linked_b ≡ target.Import 0 ∷ [])
     × (slots_of linked_b ≡ target.Import 0 ∷ [])
     × (libraries_needed linked_b ≡ codes "/usr/lib/libSystem.B.dylib" ∷ [])
-unfolding header_of commands_from commands_of commands_end segment_of num_sections section_place section_at section_bytes symtab_of
+unfolding header_of commands_from commands_of commands_end num_sections section_place section_at section_bytes symtab_of
     num_symbols symbol_place symbol_at strings_of symbol_name relocation_place relocation_at sections_of carried_of template_exponent
     placed_exponent symbols_of strong_of weak_of commons_of greatest_of libraries_with definition_of chosen_commons
     initializer_sections unwind_sections uses_of imports_of libraries_needed target_of target_of_relocation slots_of stubs_of
@@ -140,7 +140,7 @@ pub fields_with_addends : fields_of finding (section 0 0) ≡
     ∷ record { relocation = 4; offset = 8; width = 4; type = 5; target = target.Import 0; subtrahend = None; addend = 0 }
     ∷ record { relocation = 5; offset = 12; width = 4; type = 6; target = target.Import 0; subtrahend = None; addend = 0 }
     ∷ []
-unfolding header_of commands_from commands_of commands_end segment_of num_sections section_place section_at section_bytes symtab_of
+unfolding header_of commands_from commands_of commands_end num_sections section_place section_at section_bytes symtab_of
     num_symbols symbol_place symbol_at strings_of symbol_name relocation_place relocation_at sections_of carried_of template_exponent
     placed_exponent symbols_of strong_of weak_of commons_of greatest_of libraries_with definition_of chosen_commons
     initializer_sections unwind_sections uses_of imports_of libraries_needed target_of target_of_relocation slots_of stubs_of
@@ -150,7 +150,7 @@ fields_with_addends = refl
 
 -- a load of a slot needs no stub
 pub needs_of_a_load : (slots_of finding ≡ target.Import 0 ∷ []) × (stubs_of finding ≡ [])
-unfolding header_of commands_from commands_of commands_end segment_of num_sections section_place section_at section_bytes symtab_of
+unfolding header_of commands_from commands_of commands_end num_sections section_place section_at section_bytes symtab_of
     num_symbols symbol_place symbol_at strings_of symbol_name relocation_place relocation_at sections_of carried_of template_exponent
     placed_exponent symbols_of strong_of weak_of commons_of greatest_of libraries_with definition_of chosen_commons
     initializer_sections unwind_sections uses_of imports_of libraries_needed target_of target_of_relocation slots_of stubs_of
@@ -160,7 +160,7 @@ needs_of_a_load = (refl, refl)
 
 -- all of them are supported, and an addend and what it stands in front of are a pair
 pub supported_ones : map (is_supported finding (section 0 0)) (0 ∷ 1 ∷ 2 ∷ 3 ∷ 4 ∷ 5 ∷ []) ≡ true ∷ true ∷ true ∷ true ∷ true ∷ true ∷ []
-unfolding header_of commands_from commands_of commands_end segment_of num_sections section_place section_at section_bytes symtab_of
+unfolding header_of commands_from commands_of commands_end num_sections section_place section_at section_bytes symtab_of
     num_symbols symbol_place symbol_at strings_of symbol_name relocation_place relocation_at sections_of carried_of template_exponent
     placed_exponent symbols_of strong_of weak_of commons_of greatest_of libraries_with definition_of chosen_commons
     initializer_sections unwind_sections uses_of imports_of libraries_needed target_of target_of_relocation slots_of stubs_of
@@ -170,7 +170,7 @@ supported_ones = refl
 
 pub pairs : (share_byte finding (section 0 0) 0 1 ≡ true) × (are_pair finding (section 0 0) 0 1 ≡ true)
     × (share_byte finding (section 0 0) 1 2 ≡ false)
-unfolding header_of commands_from commands_of commands_end segment_of num_sections section_place section_at section_bytes symtab_of
+unfolding header_of commands_from commands_of commands_end num_sections section_place section_at section_bytes symtab_of
     num_symbols symbol_place symbol_at strings_of symbol_name relocation_place relocation_at sections_of carried_of template_exponent
     placed_exponent symbols_of strong_of weak_of commons_of greatest_of libraries_with definition_of chosen_commons
     initializer_sections unwind_sections uses_of imports_of libraries_needed target_of target_of_relocation slots_of stubs_of
@@ -181,7 +181,7 @@ pairs = (refl, refl, refl)
 -- A branch over an ADRP, an addend in front of a load of a slot, and a load into register 31 that would have to become
 -- an ADD are not; a load behind the unfit addend, by itself, is.
 pub unsupported_ones : map (is_supported unsupported (section 0 0)) (0 ∷ 1 ∷ 2 ∷ 3 ∷ []) ≡ false ∷ false ∷ true ∷ false ∷ []
-unfolding header_of commands_from commands_of commands_end segment_of num_sections section_place section_at section_bytes symtab_of
+unfolding header_of commands_from commands_of commands_end num_sections section_place section_at section_bytes symtab_of
     num_symbols symbol_place symbol_at strings_of symbol_name relocation_place relocation_at sections_of carried_of template_exponent
     placed_exponent symbols_of strong_of weak_of commons_of greatest_of libraries_with definition_of chosen_commons
     initializer_sections unwind_sections uses_of imports_of libraries_needed target_of target_of_relocation slots_of stubs_of
@@ -191,7 +191,7 @@ unsupported_ones = refl
 
 -- two fields that share bytes and are no pair
 pub overlap : (share_byte unsupported (section 0 0) 3 4 ≡ true) × (are_pair unsupported (section 0 0) 3 4 ≡ false)
-unfolding header_of commands_from commands_of commands_end segment_of num_sections section_place section_at section_bytes symtab_of
+unfolding header_of commands_from commands_of commands_end num_sections section_place section_at section_bytes symtab_of
     num_symbols symbol_place symbol_at strings_of symbol_name relocation_place relocation_at sections_of carried_of template_exponent
     placed_exponent symbols_of strong_of weak_of commons_of greatest_of libraries_with definition_of chosen_commons
     initializer_sections unwind_sections uses_of imports_of libraries_needed target_of target_of_relocation slots_of stubs_of

@@ -13,7 +13,7 @@ use Rattle.macho_model_checks.proofs.RowsValid.{data_object, initializers_object
 use Rattle.macho_bytes.specs.Numbers.{le_at, le_bytes, row_bytes}
 use Rattle.macho_bytes.specs.Layouts.{reading}
 use Rattle.macho_model.specs.Commands.{header_of, commands_from, commands_of, commands_end}
-use Rattle.macho_model.specs.Objects.{segment_of, num_sections, section_place, section_at, section_bytes, symtab_of, num_symbols}
+use Rattle.macho_model.specs.Objects.{num_sections, section_place, section_at, section_bytes, symtab_of, num_symbols}
 use Rattle.macho_model.specs.Objects.{symbol_place, symbol_at, strings_of, symbol_name, relocation_place, relocation_at}
 use Rattle.macho_model.specs.ExportLists.{plain_entries, all_entries, entries_of}
 use Rattle.macho_model.specs.Links.{Link, sections_of, carried_of, template_exponent, placed_exponent}
@@ -40,7 +40,7 @@ unfoldable pub offsets_file : ℕ → List ℕ
 offsets_file second = replicate 24 0 ++ words (16 ∷ second ∷ [])
 
 pub offsets_are_said : InitOffsetsSay two_initializers (offsets_file 16) placed_initializers
-unfolding header_of commands_from commands_of commands_end segment_of num_sections section_place section_at section_bytes symtab_of
+unfolding header_of commands_from commands_of commands_end num_sections section_place section_at section_bytes symtab_of
     num_symbols symbol_place symbol_at strings_of symbol_name relocation_place relocation_at sections_of carried_of template_exponent
     placed_exponent symbols_of strong_of weak_of commons_of greatest_of libraries_with definition_of chosen_commons
     initializer_sections unwind_sections uses_of imports_of libraries_needed target_of target_of_relocation slots_of stubs_of
@@ -52,7 +52,7 @@ offsets_there :
     (map (initializer_at (offsets_file 20) placed_initializers) (range_with_len 0 (length (initializers_of two_initializers)))
     ≡ 0x100000010 ∷ 0x100000014 ∷ [])
     × (map (address_of placed_initializers) (initializers_of two_initializers) ≡ 0x100000010 ∷ 0x100000010 ∷ [])
-unfolding header_of commands_from commands_of commands_end segment_of num_sections section_place section_at section_bytes symtab_of
+unfolding header_of commands_from commands_of commands_end num_sections section_place section_at section_bytes symtab_of
     num_symbols symbol_place symbol_at strings_of symbol_name relocation_place relocation_at sections_of carried_of template_exponent
     placed_exponent symbols_of strong_of weak_of commons_of greatest_of libraries_with definition_of chosen_commons
     initializer_sections unwind_sections uses_of imports_of libraries_needed target_of target_of_relocation slots_of stubs_of

@@ -5,7 +5,7 @@ use Rattle.macho_model.specs.declared.targets.Target.TheVariants as target
 use Rattle.macho_bytes.specs.Numbers.{le_at, le_bytes, row_bytes}
 use Rattle.macho_bytes.specs.Layouts.{reading}
 use Rattle.macho_model.specs.Commands.{header_of, commands_from, commands_of, commands_end}
-use Rattle.macho_model.specs.Objects.{segment_of, num_sections, section_place, section_at, section_bytes, symtab_of, num_symbols}
+use Rattle.macho_model.specs.Objects.{num_sections, section_place, section_at, section_bytes, symtab_of, num_symbols}
 use Rattle.macho_model.specs.Objects.{symbol_place, symbol_at, strings_of, symbol_name, relocation_place, relocation_at}
 use Rattle.macho_model.specs.ExportLists.{plain_entries, all_entries, entries_of}
 use Rattle.macho_model.specs.Links.{Link, Object, sections_of, carried_of, template_exponent, placed_exponent}
@@ -36,7 +36,7 @@ pub no_difference : (fields_of apart (section 0 0) ≡
     record { relocation = 1; offset = 8; width = 8; type = 0; target = target.Section 0 0 0; subtrahend = None; addend = 5 } ∷ [])
     × (is_supported apart (section 0 0) 0 ≡ false) × (is_supported apart (section 0 0) 1 ≡ true)
     × (are_pair apart (section 0 0) 0 1 ≡ false)
-unfolding header_of commands_from commands_of commands_end segment_of num_sections section_place section_at section_bytes symtab_of
+unfolding header_of commands_from commands_of commands_end num_sections section_place section_at section_bytes symtab_of
     num_symbols symbol_place symbol_at strings_of symbol_name relocation_place relocation_at sections_of carried_of template_exponent
     placed_exponent symbols_of strong_of weak_of commons_of greatest_of libraries_with definition_of chosen_commons
     initializer_sections unwind_sections uses_of imports_of libraries_needed target_of target_of_relocation slots_of stubs_of
@@ -50,7 +50,7 @@ uneven = alone (of_text (words8 (0 ∷ 0 ∷ [])) (8 ∷ 0x1e000000 ∷ 8 ∷ 0x
 
 pub no_uneven_difference : (is_supported uneven (section 0 0) 0 ≡ false) × (is_supported uneven (section 0 0) 1 ≡ false)
     × (are_pair uneven (section 0 0) 0 1 ≡ false)
-unfolding header_of commands_from commands_of commands_end segment_of num_sections section_place section_at section_bytes symtab_of
+unfolding header_of commands_from commands_of commands_end num_sections section_place section_at section_bytes symtab_of
     num_symbols symbol_place symbol_at strings_of symbol_name relocation_place relocation_at sections_of carried_of template_exponent
     placed_exponent symbols_of strong_of weak_of commons_of greatest_of libraries_with definition_of chosen_commons
     initializer_sections unwind_sections uses_of imports_of libraries_needed target_of target_of_relocation slots_of stubs_of
@@ -74,7 +74,7 @@ pub a_difference : (fields_of together (section 0 0) ≡
     } ∷ [])
     × (is_supported together (section 0 0) 0 ≡ true) × (is_supported together (section 0 0) 1 ≡ true)
     × (are_pair together (section 0 0) 0 1 ≡ true)
-unfolding header_of commands_from commands_of commands_end segment_of num_sections section_place section_at section_bytes symtab_of
+unfolding header_of commands_from commands_of commands_end num_sections section_place section_at section_bytes symtab_of
     num_symbols symbol_place symbol_at strings_of symbol_name relocation_place relocation_at sections_of carried_of template_exponent
     placed_exponent symbols_of strong_of weak_of commons_of greatest_of libraries_with definition_of chosen_commons
     initializer_sections unwind_sections uses_of imports_of libraries_needed target_of target_of_relocation slots_of stubs_of
@@ -89,7 +89,7 @@ elsewhere = alone (of_text (words (0 ∷ 0x90000000 ∷ [])) (0 ∷ 0xa4000010 �
 pub no_addend : (fields_of elsewhere (section 0 0) ≡
     record { relocation = 1; offset = 4; width = 4; type = 3; target = target.Section 0 0 0; subtrahend = None; addend = 0 } ∷ [])
     × (is_supported elsewhere (section 0 0) 0 ≡ false) × (is_supported elsewhere (section 0 0) 1 ≡ true)
-unfolding header_of commands_from commands_of commands_end segment_of num_sections section_place section_at section_bytes symtab_of
+unfolding header_of commands_from commands_of commands_end num_sections section_place section_at section_bytes symtab_of
     num_symbols symbol_place symbol_at strings_of symbol_name relocation_place relocation_at sections_of carried_of template_exponent
     placed_exponent symbols_of strong_of weak_of commons_of greatest_of libraries_with definition_of chosen_commons
     initializer_sections unwind_sections uses_of imports_of libraries_needed target_of target_of_relocation slots_of stubs_of
@@ -104,7 +104,7 @@ by_number = alone (changed (of_text (words8 (0x18 ∷ 8 ∷ [])) (0 ∷ 0x060000
 
 pub addends_by_number : (map (λ f. f.target) (fields_of by_number (section 0 0)) ≡ target.Section 0 0 0 ∷ target.Section 0 0 0 ∷ [])
     × (map (λ f. f.addend) (fields_of by_number (section 0 0)) ≡ 8 ∷ (2 ^ 64 - 8) ∷ [])
-unfolding header_of commands_from commands_of commands_end segment_of num_sections section_place section_at section_bytes symtab_of
+unfolding header_of commands_from commands_of commands_end num_sections section_place section_at section_bytes symtab_of
     num_symbols symbol_place symbol_at strings_of symbol_name relocation_place relocation_at sections_of carried_of template_exponent
     placed_exponent symbols_of strong_of weak_of commons_of greatest_of libraries_with definition_of chosen_commons
     initializer_sections unwind_sections uses_of imports_of libraries_needed target_of target_of_relocation slots_of stubs_of
@@ -118,7 +118,7 @@ abbrev pub with_slots : Link
 with_slots = alone (of_text (words (0 ∷ 0x90000000 ∷ 0x90000000 ∷ [])) (0 ∷ 0x7d000000 ∷ 4 ∷ 0x5d000001 ∷ 8 ∷ 0x5d000000 ∷ []))
 
 pub slots_needed : (slots_of with_slots ≡ target.Section 0 0 0 ∷ target.Import 0 ∷ []) × (stubs_of with_slots ≡ [])
-unfolding header_of commands_from commands_of commands_end segment_of num_sections section_place section_at section_bytes symtab_of
+unfolding header_of commands_from commands_of commands_end num_sections section_place section_at section_bytes symtab_of
     num_symbols symbol_place symbol_at strings_of symbol_name relocation_place relocation_at sections_of carried_of template_exponent
     placed_exponent symbols_of strong_of weak_of commons_of greatest_of libraries_with definition_of chosen_commons
     initializer_sections unwind_sections uses_of imports_of libraries_needed target_of target_of_relocation slots_of stubs_of
@@ -129,7 +129,7 @@ slots_needed = (refl, refl)
 -- a debugging entry leads nowhere, a value without a name to itself
 pub other_targets : (target_of with_slots (record { file = 0; symbol = 3 }) ≡ target.None)
     × (target_of with_slots (record { file = 0; symbol = 2 }) ≡ target.Absolute 42)
-unfolding header_of commands_from commands_of commands_end segment_of num_sections section_place section_at section_bytes symtab_of
+unfolding header_of commands_from commands_of commands_end num_sections section_place section_at section_bytes symtab_of
     num_symbols symbol_place symbol_at strings_of symbol_name relocation_place relocation_at sections_of carried_of template_exponent
     placed_exponent symbols_of strong_of weak_of commons_of greatest_of libraries_with definition_of chosen_commons
     initializer_sections unwind_sections uses_of imports_of libraries_needed target_of target_of_relocation slots_of stubs_of
@@ -143,7 +143,7 @@ listing lists = record (alone (of_text (words (0xd65f03c0 ∷ [])) [])) { dead_s
 
 pub a_listed_name_needs_its_library : (libraries_needed (listing (codes "_exit" ∷ [])) ≡ codes "/usr/lib/libSystem.B.dylib" ∷ [])
     × (imports_of (listing (codes "_exit" ∷ [])) ≡ codes "_exit" ∷ []) × (libraries_needed (listing []) ≡ [])
-unfolding header_of commands_from commands_of commands_end segment_of num_sections section_place section_at section_bytes symtab_of
+unfolding header_of commands_from commands_of commands_end num_sections section_place section_at section_bytes symtab_of
     num_symbols symbol_place symbol_at strings_of symbol_name relocation_place relocation_at sections_of carried_of template_exponent
     placed_exponent symbols_of strong_of weak_of commons_of greatest_of libraries_with definition_of chosen_commons
     initializer_sections unwind_sections uses_of imports_of libraries_needed target_of target_of_relocation slots_of stubs_of

@@ -15,7 +15,7 @@ use Rattle.macho_records.specs.declared.header.SegmentCommand.{SegmentCommand}
 use Rattle.macho_model.specs.declared.targets.Target.TheVariants as target
 use Rattle.macho_records.specs.Symbols.{common_size_of}
 use Rattle.macho_model.specs.Commands.{header_of, commands_from, commands_of, commands_end}
-use Rattle.macho_model.specs.Objects.{segment_of, num_sections, section_place, section_at, section_bytes, symtab_of, num_symbols}
+use Rattle.macho_model.specs.Objects.{num_sections, section_place, section_at, section_bytes, symtab_of, num_symbols}
 use Rattle.macho_model.specs.Objects.{symbol_place, symbol_at, strings_of, symbol_name, relocation_place, relocation_at}
 use Rattle.macho_model.specs.Links.{Link, Object, object_of, header_at, sections_of, carried_of, template_exponent, placed_exponent}
 use Rattle.macho_model.specs.Targets.{target_of, target_of_relocation, slots_of, stubs_of}
@@ -29,7 +29,7 @@ use Rattle.macho_model.specs.Placement.{Placed, Span, id_of, common_of}
 use Rattle.macho_model.specs.Zeros.{contents_of, IsOutsideSpan, IsZeroElsewhere}
 use Rattle.macho_model.proofs.EachBelow.{all_pass}
 use Rattle.std.specs.List.{list_all}
-use Rattle.macho_model.specs.Stands.{IsOutsideField, Denotes, SectionStands, CommonStands, SlotStands, StubStands, LeadsThrough}
+use Rattle.macho_model.specs.Stands.{IsOutsideField, Denotes, SectionStands, CommonStands, SlotStands, StubStands}
 use Rattle.macho_model.specs.Stands.{ImageStands, IsLoadable}
 use Rattle.macho_model.specs.Needs.{initializer_sections, unwind_sections, uses_of, imports_of, libraries_needed}
 use Rattle.macho_model.specs.ExportLists.{plain_entries, all_entries, entries_of}
@@ -100,11 +100,8 @@ smallest_stands s choice =
       sections = All-cons (SectionStands link_a smallest placed_a s choice) (section_a 0x100000138) [] (section_stands s choice)
           (All-nil (SectionStands link_a smallest placed_a s choice));
       commons = All-nil (CommonStands link_a smallest s choice);
-      through = record {
-        slots = All-nil (SlotStands link_a smallest placed_a s choice);
-        stubs = All-nil
-            (StubStands smallest placed_a s choice);
-      };
+      slots = All-nil (SlotStands link_a smallest placed_a s choice);
+      stubs = All-nil (StubStands smallest placed_a s choice);
     }
 
 -- The smallest link meets the whole promise.
@@ -173,6 +170,11 @@ other_code_does_not_stand s choice sections =
     let is = one_byte other_code text_segment s choice 0x138 0 other_tables other_segment (omega arith) zero_there in
     omega (arith, is, other_byte)
 
+-- slots and stubs lead to their targets
+pub record LeadsThrough (l : Link) (b : List ℕ) (p : Placed) (s : ℕ) (choice : Choice) : Type 0 where
+  pub slots : All (SlotStands l b p s choice) p.slots
+  pub stubs : All (StubStands b p s choice) p.stubs
+
 -- One part of standing fails, and the other two hold.
 pub data StandsPart : Type 0 where
   Sections : StandsPart
@@ -229,7 +231,7 @@ placed_c address = record placed_a { commons = record { id = 0; address = addres
 facts_c : (common_size_of (entry_at link_c (common_of link_c 0)) ≡ 4) × ((header_at link_c (section 0 0)).size ≡ 8)
     × (fields_of link_c (section 0 0) ≡ [])
     × (section_bytes (object_of link_c 0) 0 ≡ code)
-unfolding header_of commands_from commands_of commands_end segment_of num_sections section_place section_at section_bytes symtab_of
+unfolding header_of commands_from commands_of commands_end num_sections section_place section_at section_bytes symtab_of
     num_symbols symbol_place symbol_at strings_of symbol_name sections_of carried_of symbols_of strong_of weak_of commons_of greatest_of
     libraries_with definition_of chosen_commons target_of target_of_relocation fields_of relocation_place relocation_at le_at le_bytes
     row_bytes reading words8 words halves name16 entry text_object object_c
@@ -281,7 +283,8 @@ common_stands s choice = record {
       let zero = zero_at i small in
       rw here (subst (Holds smallest s choice (0x100000200 + s + i)) zero (zeros_are_held s choice i small)))
       (All-nil (CommonStands link_c smallest s choice));
-  through = nothing_through 0x100000200 s choice;
+  slots = (nothing_through 0x100000200 s choice).slots;
+  stubs = (nothing_through 0x100000200 s choice).stubs;
 }
 
 -- The same with the common at an address that is not mapped: `commons` fails.
@@ -317,7 +320,7 @@ is_outside part = nat_le 513 part.start || nat_le (part.start + part.size) 512
 
 outside_parts : list_all is_outside (contents_of link_c with_one (placed_c 0x100000200) 0) ≡ true
 unfolding contents_of tables_of with_one commands_end text_segment mapped_segments segments_of commands_of commands_from header_of reading
-    le_at row_bytes le_bytes words8 words name16 smallest changed segment_of num_sections section_place section_at section_bytes symtab_of
+    le_at row_bytes le_bytes words8 words name16 smallest changed num_sections section_place section_at section_bytes symtab_of
     num_symbols symbol_place symbol_at strings_of symbol_name sections_of carried_of symbols_of strong_of weak_of commons_of
     greatest_of libraries_with definition_of chosen_commons target_of target_of_relocation fields_of relocation_place
     relocation_at halves entry text_object object_c template_exponent placed_exponent initializer_sections unwind_sections

@@ -6,7 +6,7 @@ use Rattle.macho_bytes.specs.Layouts.{reading}
 use Rattle.macho_records.specs.Symbols.{is_hidden_of}
 use Rattle.macho_model.specs.declared.targets.Target.TheVariants as target
 use Rattle.macho_model.specs.Commands.{header_of, commands_from, commands_of, commands_end}
-use Rattle.macho_model.specs.Objects.{segment_of, num_sections, section_place, section_at, section_bytes, symtab_of, num_symbols}
+use Rattle.macho_model.specs.Objects.{num_sections, section_place, section_at, section_bytes, symtab_of, num_symbols}
 use Rattle.macho_model.specs.Objects.{symbol_place, symbol_at, strings_of, symbol_name, relocation_place, relocation_at}
 use Rattle.macho_model.specs.ExportLists.{plain_entries, all_entries, entries_of}
 use Rattle.macho_model.specs.Links.{Link, Object, sections_of, carried_of, template_exponent, placed_exponent}
@@ -28,7 +28,7 @@ two_templates = executable_of (Object object_b ∷ Object (changed object_b (hea
 -- both sections of the template are placed at the greater one; other sections at their own
 pub template_is_aligned : (template_exponent two_templates ≡ 3)
     × (map (placed_exponent two_templates) (section 0 0 ∷ section 0 1 ∷ section 0 3 ∷ section 1 3 ∷ []) ≡ 2 ∷ 3 ∷ 3 ∷ 3 ∷ [])
-unfolding header_of commands_from commands_of commands_end segment_of num_sections section_place section_at section_bytes symtab_of
+unfolding header_of commands_from commands_of commands_end num_sections section_place section_at section_bytes symtab_of
     num_symbols symbol_place symbol_at strings_of symbol_name relocation_place relocation_at sections_of carried_of template_exponent
     placed_exponent symbols_of strong_of weak_of commons_of greatest_of libraries_with definition_of chosen_commons
     initializer_sections unwind_sections uses_of imports_of libraries_needed target_of target_of_relocation slots_of stubs_of
@@ -41,7 +41,7 @@ with_descriptors type = executable_of (Object (changed object_b (header_b 1 + 52
 
 pub descriptors_are_aligned : (placed_exponent (with_descriptors 0x13) (section 0 1) ≡ 3)
     × (placed_exponent (with_descriptors 0) (section 0 1) ≡ 0)
-unfolding header_of commands_from commands_of commands_end segment_of num_sections section_place section_at section_bytes symtab_of
+unfolding header_of commands_from commands_of commands_end num_sections section_place section_at section_bytes symtab_of
     num_symbols symbol_place symbol_at strings_of symbol_name relocation_place relocation_at sections_of carried_of template_exponent
     placed_exponent symbols_of strong_of weak_of commons_of greatest_of libraries_with definition_of chosen_commons
     initializer_sections unwind_sections uses_of imports_of libraries_needed target_of target_of_relocation slots_of stubs_of
@@ -52,7 +52,7 @@ descriptors_are_aligned = (refl, refl)
 what_main_is : (definition_of link_a (codes "_main") ≡ Some (Symbol (symbol 0 0))) × (is_hidden_of (entry_at link_a (symbol 0 0)) ≡ false)
     × (is_listed link_a (codes "_main") ≡ true) × (target_of_name link_a (codes "_main") ≡ target.Section 0 0 0)
     × (section_flag link_a 0 0 + weak_flag link_a (symbol 0 0) ≡ 0)
-unfolding header_of commands_from commands_of commands_end segment_of num_sections section_place section_at section_bytes symtab_of
+unfolding header_of commands_from commands_of commands_end num_sections section_place section_at section_bytes symtab_of
     num_symbols symbol_place symbol_at strings_of symbol_name relocation_place relocation_at sections_of carried_of template_exponent
     placed_exponent symbols_of strong_of weak_of commons_of greatest_of libraries_with definition_of chosen_commons
     initializer_sections unwind_sections uses_of imports_of libraries_needed target_of target_of_relocation slots_of stubs_of

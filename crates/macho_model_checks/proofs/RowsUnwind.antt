@@ -13,7 +13,7 @@ use Rattle.macho_bytes.specs.Numbers.{le_at, le_bytes, row_bytes}
 use Rattle.macho_bytes.specs.Layouts.{reading, spelling}
 use Rattle.macho_bytes.specs.Texts.{Stands}
 use Rattle.macho_model.specs.Commands.{header_of, commands_from, commands_of, commands_end}
-use Rattle.macho_model.specs.Objects.{segment_of, num_sections, section_place, section_at, section_bytes, symtab_of, num_symbols}
+use Rattle.macho_model.specs.Objects.{num_sections, section_place, section_at, section_bytes, symtab_of, num_symbols}
 use Rattle.macho_model.specs.Objects.{symbol_place, symbol_at, strings_of, symbol_name, relocation_place, relocation_at}
 use Rattle.macho_model.specs.ExportLists.{plain_entries, all_entries, entries_of}
 use Rattle.macho_model.specs.Links.{Link, sections_of, carried_of, template_exponent, placed_exponent}
@@ -26,15 +26,16 @@ use Rattle.macho_model.specs.Consumed.{entries_of_link}
 use Rattle.macho_model.specs.Placement.{Placed}
 use Rattle.macho_model.specs.Addresses.{offset_in_file, section_address}
 use Rattle.macho_unwind_pages.specs.declared.entries.ResolvedUnwindInfo.{ResolvedUnwindInfo}
+use Rattle.macho_unwind_pages.specs.declared.paging.Row.{Row}
 use Rattle.macho_unwind_pages.specs.Entries.{AreEntries, IsLast, inputs_of, ids_of, named_ids}
 use Rattle.macho_unwind_pages.specs.Orders.{in_order, put_in_order}
-use Rattle.macho_unwind_pages.specs.Plans.{PageList, PlanList, IsPage, IsPlan, IsPlanOf, AreLocals, HasSlot}
+use Rattle.macho_unwind_pages.specs.Plans.{PageList, PlanList, IsPage, IsPlan, FitOnPage, IsPlanOf, HasSlot, own_codes}
 use Rattle.macho_unwind_pages.proofs.OnePlan.{plans_are_one}
 use Rattle.macho_unwind.specs.Texts.{section_text, page_text}
 use Rattle.macho_unwind.specs.declared.lookup.Found.{Found}
 use Rattle.macho_unwind.specs.Lookup.{UnwindFinds}
 use Rattle.macho_unwind.specs.Entries.{IsSectionOf, IsFoundFor, BeginsWith}
-use Rattle.macho_unwind.proofs.EntryLookup.{finds-entries, finds-only-entries}
+use Rattle.macho_unwind.proofs.EntryLookup.{IsWritten, written, finds-entries, finds-only-entries}
 use Rattle.macho_promise.specs.UnwindSays.{resolved_entries, unwind_bytes, IsUnwindText, UnwindSays}
 use Rattle.macho_model_checks.proofs.Examples.{words8, words, halves, name16, changed}
 use Rattle.macho_model_checks.proofs.ExampleLinks.{entry}
@@ -65,7 +66,7 @@ abbrev pub functions : List ResolvedUnwindInfo
 functions = function_there ∷ []
 
 resolved_are : resolved_entries unwinding placed_unwind ≡ functions
-unfolding commands_end commands_of commands_from header_of reading le_at row_bytes le_bytes words8 words halves name16 entry segment_of
+unfolding commands_end commands_of commands_from header_of reading le_at row_bytes le_bytes words8 words halves name16 entry
     num_sections section_place section_at section_bytes symtab_of num_symbols symbol_place symbol_at strings_of symbol_name
     relocation_place relocation_at sections_of carried_of template_exponent placed_exponent symbols_of strong_of weak_of commons_of
     greatest_of libraries_with definition_of chosen_commons initializer_sections unwind_sections uses_of imports_of
@@ -112,21 +113,32 @@ plan_fits = record {
   end = omega arith;
 }
 
+-- its functions: one
+abbrev row_there : Row
+row_there = record { start = 0x138; code = 0x02000000 }
+
+fits_there : FitOnPage plan_there.globals (row_there ∷ [])
+unfolding own_codes
+fits_there = record {
+  near = one_of (λ row. row.start < 0x138 + 2 ^ 24) row_there (omega arith);
+  locals = omega arith;
+  room = omega arith;
+}
+
 pub plan_is_theirs : IsPlanOf 0x100000000 functions plan_there
-unfolding named_ids in_order put_in_order
+unfolding named_ids in_order put_in_order own_codes
 plan_is_theirs = record {
-  formed = plan_fits;
   run = functions;
   same = IsPermutation-refl functions;
   rising = λ i j d lt within. absurd (omega (arith, lt, within));
-  rows = refl;
+  pages = (row_there ∷ []) ∷ [];
+  divided = record {
+    all = refl;
+    each = one_of (λ page. (1 ≤ length page) × FitOnPage plan_there.globals page) (row_there ∷ []) (omega arith, fits_there);
+    closed = λ k within fit. omega (arith, within);
+  };
+  written = refl;
   globals = refl;
-  locals = one_of (AreLocals plan_there.globals) page_there (record {
-    used = All-nil _;
-    own = All-nil _;
-    order = λ i j d lt within. absurd (omega (arith, within));
-  });
-  closed = λ k d lt. absurd (omega (arith, lt));
   personalities = refl;
   slots = one_of (HasSlot 0x100000000 (ids_of (inputs_of functions)) plan_there.personalities) function_there tt;
   lsdas = refl;
@@ -155,9 +167,12 @@ section_is_theirs : IsSectionOf 0x100000000 functions unwind_section
 section_is_theirs = record {
   plan = plan_there;
   of_entries = plan_is_theirs;
-  near = omega arith;
   is = sym text_there;
 }
+
+it_is_written : IsWritten 0x100000000 functions unwind_section
+it_is_written = subst (IsWritten 0x100000000 functions) text_there
+    (written 0x100000000 functions plan_there they_are_entries plan_is_theirs plan_fits (record { some = omega arith; fits = omega arith }))
 
 long_section : length unwind_section ≡ 72
 unfolding words halves le_bytes row_bytes unwind_section
@@ -173,10 +188,10 @@ begins_there = rw range_there (record { within = omega (arith, long_section); sa
 finds_there : (offset : ℕ) (x : Found)
     → UnwindFinds (unwind_bytes unwind_file placed_unwind) offset x ↔ IsFoundFor 0x100000000 functions offset x
 finds_there offset x = (
-  finds-only-entries 0x100000000 functions unwind_section they_are_entries (omega arith) section_is_theirs
+  finds-only-entries 0x100000000 functions unwind_section they_are_entries it_is_written
       (unwind_bytes unwind_file placed_unwind) begins_there offset x,
   λ is. subst (λ (y : Found). UnwindFinds (unwind_bytes unwind_file placed_unwind) offset y) (sym is.is)
-      (finds-entries 0x100000000 functions unwind_section they_are_entries section_is_theirs (unwind_bytes unwind_file placed_unwind)
+      (finds-entries 0x100000000 functions unwind_section they_are_entries it_is_written (unwind_bytes unwind_file placed_unwind)
       begins_there offset is.entry is.of_offset),
 )
 

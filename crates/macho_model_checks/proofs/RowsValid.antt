@@ -8,7 +8,7 @@ use Rattle.macho_bytes.specs.Numbers.{le_at, le_bytes, row_bytes}
 use Rattle.macho_bytes.specs.Layouts.{reading}
 use Rattle.macho_model.specs.declared.placed.Counts.{Counts}
 use Rattle.macho_model.specs.Commands.{header_of, commands_from, commands_of, commands_end}
-use Rattle.macho_model.specs.Objects.{segment_of, num_sections, section_place, section_at, section_bytes, symtab_of, num_symbols}
+use Rattle.macho_model.specs.Objects.{num_sections, section_place, section_at, section_bytes, symtab_of, num_symbols}
 use Rattle.macho_model.specs.Objects.{symbol_place, symbol_at, strings_of, symbol_name, relocation_place, relocation_at}
 use Rattle.macho_model.specs.ExportLists.{plain_entries, all_entries, entries_of}
 use Rattle.macho_model.specs.Links.{Link, Object, sections_of, carried_of, template_exponent, placed_exponent}
@@ -91,7 +91,7 @@ valid_links =
     ∷ []
 
 valid_link_verdicts : AllByRecursion (λ l. valid_verdict l counts_a ≡ verdict_but (λ q. false)) valid_links
-unfolding valid_verdict header_of commands_from commands_of commands_end segment_of num_sections section_place section_at section_bytes
+unfolding valid_verdict header_of commands_from commands_of commands_end num_sections section_place section_at section_bytes
     symtab_of num_symbols symbol_place symbol_at strings_of symbol_name relocation_place relocation_at sections_of carried_of
     template_exponent placed_exponent symbols_of strong_of weak_of commons_of greatest_of libraries_with definition_of chosen_commons
     initializer_sections unwind_sections uses_of imports_of libraries_needed target_of target_of_relocation slots_of stubs_of
@@ -159,7 +159,7 @@ valid_changes =
 
 -- what the tests say of each change
 valid_verdicts : AllByRecursion (λ c. valid_verdict c.link c.counts ≡ verdict_but (is_part c.part)) valid_changes
-unfolding valid_verdict header_of commands_from commands_of commands_end segment_of num_sections section_place section_at section_bytes
+unfolding valid_verdict header_of commands_from commands_of commands_end num_sections section_place section_at section_bytes
     symtab_of num_symbols symbol_place symbol_at strings_of symbol_name relocation_place relocation_at sections_of carried_of
     template_exponent placed_exponent symbols_of strong_of weak_of commons_of greatest_of libraries_with definition_of chosen_commons
     initializer_sections unwind_sections uses_of imports_of libraries_needed target_of target_of_relocation slots_of stubs_of
@@ -182,7 +182,7 @@ abbrev pub undefined : Link
 undefined = executable_of (Object calls_nothing ∷ [])
 
 undefined_verdict : valid_verdict undefined counts_a ≡ verdict_but (λ q. is_part Used q || is_part Supported q)
-unfolding valid_verdict header_of commands_from commands_of commands_end segment_of num_sections section_place section_at section_bytes
+unfolding valid_verdict header_of commands_from commands_of commands_end num_sections section_place section_at section_bytes
     symtab_of num_symbols symbol_place symbol_at strings_of symbol_name relocation_place relocation_at sections_of carried_of
     template_exponent placed_exponent symbols_of strong_of weak_of commons_of greatest_of libraries_with definition_of chosen_commons
     initializer_sections unwind_sections uses_of imports_of libraries_needed target_of target_of_relocation slots_of stubs_of

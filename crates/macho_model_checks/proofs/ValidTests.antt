@@ -12,6 +12,7 @@ use Rattle.std.proofs.lemmas.Bool.{leb-true, le-leb, cases_lt}
 use Rattle.std.proofs.lemmas.List.{get_or_default}
 use Rattle.std.proofs.lemmas.List.Elements.{All-contains, All-filter, Contains-get_or, filter_passes}
 use Rattle.std.proofs.lemmas.Slice.Eq.{bytes_eq-Decides}
+use Rattle.macho_records.specs.Symbols.{is_global}
 use Rattle.macho_model.specs.declared.rules.UnwindRule.{UnwindRule}
 use Rattle.macho_model.specs.declared.rules.UnwindRule.TheVariants.{U1, U2, U3, U4, U5, U6, U7, U8}
 use Rattle.macho_model.specs.declared.targets.Limit.{Limit}
@@ -20,7 +21,6 @@ use Rattle.macho_model.specs.declared.placed.Counts.{Counts}
 use Rattle.macho_model.specs.ExportLists.{plain_entries}
 use Rattle.macho_model.specs.Links.{Link, SectionId, section_id, header_at, carried_of}
 use Rattle.macho_model.specs.Lists.{IsNumber}
-use Rattle.macho_model.specs.Symbols.{is_global}
 use Rattle.macho_model.specs.Placement.{Placed}
 use Rattle.macho_model.specs.Values.{fits_signed}
 use Rattle.macho_model.specs.Resolution.{SymbolId, symbols_of, entry_at, name_at, has_name, is_strong, strong_of, definition_of}
@@ -35,8 +35,8 @@ use Rattle.macho_model.specs.Faults.{LinkFault, DuplicateSymbol, UndefinedSymbol
 use Rattle.macho_model.specs.Faults.{BadUnwind, UnsupportedRelocation, OverlappingFields, BindAddend, FixupPlace, TooMany, ImageTooLarge}
 use Rattle.macho_model.specs.Faults.{RebaseTarget, RelocationRange, BadName, names_symbol, entry_is_defined, IsBadEntry, IsBadInitializer}
 use Rattle.macho_model.specs.Faults.{FaultStands, kept_placement}
-use Rattle.macho_model.specs.Valid.{VALID_SUM, field_fits, IsValid}
-use Rattle.macho_model_checks.specs.ValidParts.{ValidPart, ValidKeeps}
+use Rattle.macho_model.specs.Valid.{field_fits, IsValid}
+use Rattle.macho_model_checks.specs.ValidParts.{VALID_SUM, ValidPart, ValidKeeps}
 use Rattle.macho_model_checks.specs.ValidParts.{Single, Used, Listed, Begun, Supported, NonOverlapping, Fitting, Initializers, Slots, AtSlots}
 use Rattle.macho_model_checks.specs.ValidParts.{Whole, Unwind, Limits, Sum}
 use Rattle.macho_model.proofs.EachBelow.{each_below, not_false, true_or_false, and_right, or_second, same_number, other_number, all_pass, pass_all}

@@ -1,12 +1,12 @@
 -- The parts of validity: what a link keeps where no refusal stands, each field fits and the sum is small. Each is said of the link alone,
 -- beside the refusals, so that a refusal which stands too often, or not often enough, is seen.
-use Rattle.std.specs.Prelude.{◌≡◌, ℕ, ◌+◌, ◌*◌, ◌%◌, ◌<◌, ◌≤◌, ◌==◌, ◌⊎◌, true, false, List, length, Some, All, Contains, is_some}
+use Rattle.std.specs.Prelude.{◌≡◌, ℕ, ◌+◌, ◌*◌, ◌%◌, ◌<◌, ◌≤◌, ◌==◌, ◌⊎◌, true, false, List, length, Some, All, Contains, is_some, ◌^◌}
+use Rattle.macho_records.specs.Symbols.{is_global}
 use Rattle.macho_model.specs.declared.rules.UnwindRule.{UnwindRule}
 use Rattle.macho_model.specs.declared.targets.Limit.{Limit}
 use Rattle.macho_model.specs.declared.placed.Counts.{Counts}
 use Rattle.macho_model.specs.ExportLists.{plain_entries}
 use Rattle.macho_model.specs.Links.{Link, SectionId, header_at, carried_of}
-use Rattle.macho_model.specs.Symbols.{is_global}
 use Rattle.macho_model.specs.Resolution.{SymbolId, entry_at, name_at, strong_of, definition_of}
 use Rattle.macho_model.specs.Needs.{Use, uses_of, symbol_used, initializer_sections, unwind_sections, relocation_in, POINTER_SIZE}
 use Rattle.macho_model.specs.Fields.{fields_of}
@@ -16,7 +16,11 @@ use Rattle.macho_model.specs.Rows.{is_supported, share_byte, are_pair}
 use Rattle.macho_model.specs.Consumed.{initializer_section_fits, initializer_slot_fits, entry_count, whole_entries, keeps}
 use Rattle.macho_model.specs.Limits.{limited}
 use Rattle.macho_model.specs.Faults.{names_symbol, entry_is_defined}
-use Rattle.macho_model.specs.Valid.{VALID_SUM, field_fits}
+use Rattle.macho_model.specs.Valid.{field_fits}
+
+-- the greatest written sum of a valid link
+abbrev pub VALID_SUM : ℕ
+VALID_SUM = 64 * 2 ^ 20
 
 -- The parts of validity.
 pub data ValidPart : Type 0 where

@@ -3,7 +3,7 @@
 -- A command that fails its test is one of those that are to pass it. The segments named `__TEXT` are those of their
 -- commands, so there are as many, and so are the fixup tables.
 use Rattle.std.proofs.Common.{◌≡◌, ℕ, ◌≤◌, Bool, true, List, length, map, sym, ap, subst, ◌∙◌, arith, All, inl, inr}
-use Rattle.std.proofs.lemmas.List.{get_or-map, length-map}
+use Rattle.std.proofs.lemmas.List.{length-map}
 use Rattle.std.proofs.lemmas.List.Elements.{All-map}
 use Rattle.macho_records.specs.declared.header.SegmentCommand.{SegmentCommand}
 use Rattle.macho_model.specs.declared.rules.LoadRule.{LoadRule}
@@ -14,11 +14,12 @@ use Rattle.macho_model.specs.Commands.{Command, commands_of, command_fits}
 use Rattle.macho_model.specs.Grammar.{EachCommand, CommandFails}
 use Rattle.macho_model.specs.Segments.{TEXT}
 use Rattle.macho_model.specs.Images.{segments_named, table_of_command, tables_of}
-use Rattle.macho_model.specs.LoadRules.{needed_in_image, segment_in, text_holds_commands, table_fits}
-use Rattle.macho_model.specs.Loader.{text_commands, fixup_commands, NeighbourFails, TextIsNotOne, SecondTable, IsAccepted, ImageBreaks}
+use Rattle.macho_model.specs.LoadRules.{needed_in_image, protections_fit, file_part_inside, segment_is_paged, segment_ends, begins_behind, text_holds_commands, table_fits}
+use Rattle.macho_model.specs.Loader.{segment_in, text_commands, fixup_commands, NeighbourFails, TextIsNotOne, SecondTable, IsAccepted, ImageBreaks}
 use Rattle.macho_memory_walks.specs.Readings.{listed}
 use Rattle.macho_model_walks.specs.Tests.{test_of}
 use Rattle.macho_model.proofs.EachBelow.{true_or_false}
+use Rattle.macho_model.proofs.SegmentTests.{of_commands, each_command, next_commands}
 use Rattle.macho_model.specs.Lists.{EachNext}
 use Rattle.macho_memory_walks.proofs.ListedLaws.{all_listed, texts_listed, texts_are}
 
@@ -44,13 +45,6 @@ not_one_text b place (inl (none, at)) one =
     let count = count_of_texts b in let empty = ap (λ (cs : List Command). length cs) none in omega (arith, count, empty, one)
 not_one_text b place (inr (k, c, least, (within, is), told)) one = let count = count_of_texts b in omega (arith, count, least, within, one)
 
--- what holds of each image of a command holds of the commands, and back
-of_commands : {X : Type 0} (f : Command → X) (test : X → Bool) (cs : List Command) → All (λ x. test x ≡ true) (map f cs)
-    → EachCommand cs (λ c. test (f c))
-of_commands f test cs each k d within =
-    let long = length-map cs f in
-    subst (λ x. test x ≡ true) (get_or-map f cs k d (f d) within) (each k (f d) (omega (arith, within, long)))
-
 -- a second fixup table
 two_tables : (b : List ℕ) (place : ℕ) → SecondTable b place → length (tables_of b) ≤ 1 → ⊥
 unfolding tables_of
@@ -63,11 +57,11 @@ unfolding tables_of
 breaks_not_accepted b L1 place h a = true_or_false _ a.l1 h.1
 breaks_not_accepted b L2 place (inl h) a = true_or_false _ a.l2.0 h.1
 breaks_not_accepted b L2 place (inr h) a = fails_not_each (commands_of b) place (command_fits (needed_in_image b) b) h a.l2.1
-breaks_not_accepted b L3 place h a = fails_not_each _ place _ h a.l3
-breaks_not_accepted b L4 place h a = fails_not_each _ place _ h a.l4
-breaks_not_accepted b L5 place h a = fails_not_each _ place _ h a.l5
-breaks_not_accepted b L6 place (inl h) a = fails_not_each _ place _ h a.l6.0
-breaks_not_accepted b L6 place (inr h) a = neighbours_fail _ place _ h a.l6.1
+breaks_not_accepted b L3 place h a = fails_not_each _ place _ h (each_command b protections_fit a.l3)
+breaks_not_accepted b L4 place h a = fails_not_each _ place _ h (each_command b (file_part_inside b) a.l4)
+breaks_not_accepted b L5 place h a = fails_not_each _ place _ h (each_command b segment_is_paged a.l5)
+breaks_not_accepted b L6 place (inl h) a = fails_not_each _ place _ h (each_command b segment_ends a.l6.0)
+breaks_not_accepted b L6 place (inr h) a = neighbours_fail _ place _ h (next_commands b begins_behind a.l6.1)
 breaks_not_accepted b L7 place (inl h) a = not_one_text b place h a.l7.0
 breaks_not_accepted b L7 place (inr h) a =
     fails_not_each (text_commands b) place (λ c. text_holds_commands b (segment_in b c)) h

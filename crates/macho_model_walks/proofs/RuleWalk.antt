@@ -5,7 +5,6 @@
 -- one fixup table, which are told by the commands with the numbers 0 and 1.
 use Rattle.std.proofs.Common.{◌≡◌, ℕ, ◌+◌, ◌<◌, ◌≤◌, true, false, List, [], ◌∷◌, length, get_or, refl, sym, ap, subst, ◌∙◌, arith, inl}
 use Rattle.std.proofs.Common.{inr, map}
-use Rattle.std.specs.Prelude.{Contains}
 use Rattle.std.specs.List.{list_all}
 use Rattle.std.proofs.lemmas.List.{get_or_default, length-map}
 use Rattle.std.proofs.lemmas.List.Folds.{list_all_at}
@@ -16,7 +15,7 @@ use Rattle.macho_records.specs.declared.constants.TheConstants.{LC_SEGMENT_64}
 use Rattle.macho_model.specs.Commands.{Command, command_at, header_of, numbered}
 use Rattle.macho_model.specs.Grammar.{EachCommand}
 use Rattle.macho_model.specs.LoadRules.{begins_behind, import_fits}
-use Rattle.macho_model.specs.Loader.{text_commands, fixup_commands, NeighbourFails, TextIsNotOne, SecondTable, ImportFails, import_count}
+use Rattle.macho_model.specs.Loader.{segment_in, text_commands, fixup_commands, NeighbourFails, TextIsNotOne, SecondTable, ImportFails, import_count}
 use Rattle.macho_memory_walks.specs.Readings.{listed, IsNth, table_there}
 use Rattle.macho_model_walks.specs.Tests.{list_of, test_of}
 use Rattle.macho_memory_walks.specs.steps.Walks.{chain_segment_at}
@@ -42,12 +41,12 @@ each_by_number b what pass k d lt =
     (pass k (omega (arith, lt, few_listed_of (list_of what) b)) there.0 there.1)
 
 pub neighbours_by_number : (b : List ℕ) → ((k : ℕ) → k < (header_of b).ncmds → NeighbourPasses b k)
-    → EachNext (λ c d. begins_behind b c d ≡ true) (numbered LC_SEGMENT_64 b)
+    → EachNext (λ c d. begins_behind (segment_in b c) (segment_in b d) ≡ true) (numbered LC_SEGMENT_64 b)
 unfolding listed
 neighbours_by_number b pass k c d (before, at_k) (lt, at_next) = listed_neighbours lt at_k at_next
   where
     listed_neighbours : k + 1 < length (listed list.Segments b) → get_or (listed list.Segments b) k c ≡ c
-        → get_or (listed list.Segments b) (k + 1) d ≡ d → begins_behind b c d ≡ true
+        → get_or (listed list.Segments b) (k + 1) d ≡ d → begins_behind (segment_in b c) (segment_in b d) ≡ true
     listed_neighbours within at_first at_second =
         let first = nth_exists list.Segments b k (omega (arith, within)) in
         let second = nth_exists list.Segments b (k + 1) within in
@@ -57,7 +56,8 @@ neighbours_by_number b pass k c d (before, at_k) (lt, at_next) = listed_neighbou
         (pass k (omega (arith, within, few_listed_of list.Segments b)) first.0 second.0 first.1 second.1)
 
 pub neighbour_fails : (b : List ℕ) (number place next : ℕ) → IsNth list.Segments b number place → IsNth list.Segments b (number + 1) next
-    → begins_behind b (command_at b place) (command_at b next) ≡ false → NeighbourFails (numbered LC_SEGMENT_64 b) next (begins_behind b)
+    → begins_behind (segment_in b (command_at b place)) (segment_in b (command_at b next)) ≡ false
+    → NeighbourFails (numbered LC_SEGMENT_64 b) next (λ c d. begins_behind (segment_in b c) (segment_in b d))
 unfolding listed
 neighbour_fails b number place next first second fails =
     (number, command_at b place, command_at b next, (first.within, first.is), (second.within, second.is), refl, fails)

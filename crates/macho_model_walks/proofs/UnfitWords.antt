@@ -4,24 +4,23 @@
 -- and it is one of finitely many. All that it leads to are itself and what its steps lead to, whatever segment they are
 -- read in; so where it fits and those fit, all fit. The words of the page's chain are those that its start leads to.
 use Rattle.std.proofs.Common.{◌≡◌, ℕ, ◌+◌, ◌*◌, ◌-◌, ◌^◌, ◌<◌, ◌≤◌, nat_le, Bool, true, false, List, length, slice_index, refl, sym, ap}
-use Rattle.std.proofs.Common.{subst, ◌∙◌, arith, inl, inr}
+use Rattle.std.proofs.Common.{subst, ◌∙◌, arith, inl, inr, All}
 use Rattle.std.proofs.lemmas.Bool.{leb-true, cases_lt}
 use Rattle.macho_memory_walks.specs.declared.walk.Listed.TheVariants as list
-use Rattle.macho_model.specs.Commands.{command_at, header_of, numbered}
-use Rattle.macho_model.specs.Grammar.{EachCommand}
-use Rattle.macho_model.specs.Images.{NO_START}
+use Rattle.macho_model.specs.Commands.{command_at, header_of}
+use Rattle.macho_model.specs.Images.{segments_of, NO_START}
 use Rattle.macho_model.specs.Segments.{SEGMENT_PAGE}
-use Rattle.macho_model.specs.LoadRules.{segment_in, file_part_inside}
+use Rattle.macho_model.specs.LoadRules.{file_part_inside}
 use Rattle.macho_records.specs.declared.header.SegmentCommand.{SegmentCommand}
-use Rattle.macho_records.specs.declared.constants.TheConstants.{LC_SEGMENT_64}
 use Rattle.macho_model.specs.Chain.{next_of, STRIDE, OnPageChain, chain_segment, chain_segments}
-use Rattle.macho_model.specs.Loader.{WordFits, WordFails}
+use Rattle.macho_model.specs.Loader.{segment_in, WordFits, WordFails}
 use Rattle.macho_memory_walks.specs.Readings.{listed, IsNth, segment_there, StepIn, starts_of}
 use Rattle.macho_memory_walks.specs.steps.Walks.{Leads, chain_segment_at}
 use Rattle.macho_memory_walks.specs.steps.Walks as walks
 use Rattle.macho_model_walks.specs.steps.WordTests.{word_fits_test, address_in, UnfitFrom, FitFrom, UnfitOnPage, FitOnPage, FitOnNth}
 use Rattle.macho_model_walks.specs.steps.WordTests.{EachWordFits}
 use Rattle.macho_model.proofs.EachBelow.{true_or_false, and_left}
+use Rattle.macho_model.proofs.SegmentTests.{each_command}
 use Rattle.macho_model_walks.proofs.WordFitting.{word_fits, fits_word}
 use Rattle.macho_memory_walks.proofs.NumberedWalk.{nth_number}
 use Rattle.macho_memory_walks.proofs.WordWalk.{step_leads, step_of_word, page_chain_found, page_chain_none, from_start}
@@ -125,10 +124,12 @@ each_word b fit number s page a is on =
     (fit number (omega (arith, there.1.within, few_listed_of list.Segments b)) there.0 there.1 page a) on
 
 -- a rule that each segment's command keeps, of the one at a place
-pub kept_at : (b : List ℕ) (number place : ℕ) → EachCommand (numbered LC_SEGMENT_64 b) (file_part_inside b) → IsNth list.Segments b number place
-    → file_part_inside b (command_at b place) ≡ true
+pub kept_at : (b : List ℕ) (number place : ℕ) → All (λ s. file_part_inside b s ≡ true) (segments_of b)
+    → IsNth list.Segments b number place → file_part_inside b (segment_in b (command_at b place)) ≡ true
 unfolding listed
-kept_at b number place each nth = subst (λ c. file_part_inside b c ≡ true) nth.is (each number (command_at b place) nth.within)
+kept_at b number place each nth =
+    subst (λ c. file_part_inside b (segment_in b c) ≡ true) nth.is
+    (each_command b (file_part_inside b) each number (command_at b place) nth.within)
 
 -- the same at the address that is read
 pub test_at : (b : List ℕ) (number place page offset address : ℕ) (t r : Bool) → address ≡ (segment_in b (command_at b place)).vmaddr
@@ -157,7 +158,7 @@ one_fits b number place page offset i before here k n within step =
     ]
 
 -- the file bytes of a segment begin inside the file
-pub begins_inside : (b : List ℕ) (place : ℕ) → file_part_inside b (command_at b place) ≡ true
+pub begins_inside : (b : List ℕ) (place : ℕ) → file_part_inside b (segment_in b (command_at b place)) ≡ true
     → (segment_in b (command_at b place)).fileoff ≤ length b
 begins_inside b place h =
     let s = segment_in b (command_at b place) in

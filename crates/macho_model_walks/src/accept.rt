@@ -1,10 +1,8 @@
 //! The first rule of the loader that an image breaks, by asking each rule in turn: plain and slow.
-ghost use Rattle.std.specs.Prelude.{◌≡◌, OnOk, OnErr, IfErr};
-ghost use Rattle.macho_records.specs.declared.constants.TheConstants.{LC_SEGMENT_64};
-ghost use Rattle.macho_model.specs.Grammar.{EachCommand};
+ghost use Rattle.std.specs.Prelude.{◌≡◌, true, All, OnOk, OnErr, IfErr};
+ghost use Rattle.macho_model.specs.Images.{segments_of};
 ghost use Rattle.macho_model.specs.LoadRules.{file_part_inside};
 ghost use Rattle.macho_model.specs.Loader.{IsAccepted, ImageBreaks};
-ghost use Rattle.macho_model.specs.Commands.{numbered};
 ghost use Rattle.macho_model_walks.specs.steps.Asked.{LoadKeeps};
 
 use crate::loader_rules::{
@@ -181,7 +179,7 @@ fn check_imports(bytes: &[u8]) -> Result<(), LoadFault>
 
 /// Whether the chain words fit.
 fn check_words(bytes: &[u8]) -> Result<(), LoadFault>
-    requires { EachCommand (numbered LC_SEGMENT_64 bytes.now) (file_part_inside bytes.now) }
+    requires { All (λ s. file_part_inside bytes.now s ≡ true) (segments_of bytes.now) }
     ensures ok { OnOk result (LoadKeeps bytes.now LoadRule.L10) }
     ensures why { IfErr result (λ f. ImageBreaks bytes.now f.rule f.place) }
 {

@@ -5,7 +5,7 @@ ghost use Rattle.std.specs.Prelude.{◌≡◌, ◌≤◌, ◌<◌, ℕ, length, 
 ghost use Rattle.macho_records.specs.declared.constants.TheConstants.{LC_SEGMENT_64};
 ghost use Rattle.macho_model.specs.Grammar.{EachCommand};
 ghost use Rattle.macho_model.specs.LoadRules.{begins_behind};
-ghost use Rattle.macho_model.specs.Loader.{text_commands, fixup_commands, TextIsNotOne, SecondTable, ImportFails};
+ghost use Rattle.macho_model.specs.Loader.{segment_in, text_commands, fixup_commands, TextIsNotOne, SecondTable, ImportFails};
 ghost use Rattle.macho_model.specs.Lists.{EachNext};
 ghost use Rattle.macho_model.specs.Commands.{command_at, numbered};
 ghost use Rattle.macho_memory_walks.specs.Readings.{listed, table_there};
@@ -121,7 +121,8 @@ fn overlapping(bytes: &[u8], number: u32) -> Option<u64>
 /// The place of the first segment that does not begin behind the end of the one before it.
 pub(crate) fn first_overlapping(bytes: &[u8]) -> Option<u64>
     ensures found { (place : ℕ) → result ≡ Some place → BeginsBefore bytes.now place }
-    ensures only { result ≡ None → EachNext (λ c d. begins_behind bytes.now c d ≡ true) (numbered LC_SEGMENT_64 bytes.now) }
+    ensures only { result ≡ None
+        → EachNext (λ c d. begins_behind (segment_in bytes.now c) (segment_in bytes.now d) ≡ true) (numbered LC_SEGMENT_64 bytes.now) }
 {
     for number in 0..count_of(bytes) {
         if let Some(place) = overlapping(bytes, number) {

@@ -6,7 +6,8 @@ ghost use Rattle.macho_records.specs.Layouts.{segment_command};
 ghost use Rattle.macho_model.specs.Commands.{command_at, command_fits, commands_end};
 ghost use Rattle.macho_model.specs.ObjectRules.{commands_inside};
 ghost use Rattle.macho_model.specs.Segments.{loaded_protection_of};
-ghost use Rattle.macho_model.specs.LoadRules.{image_head_fits, needed_in_image, segment_in, protections_fit, file_part_inside, segment_is_paged, segment_ends, begins_behind, text_holds_commands};
+ghost use Rattle.macho_model.specs.LoadRules.{image_head_fits, needed_in_image, protections_fit, file_part_inside, segment_is_paged, segment_ends, begins_behind, text_holds_commands};
+ghost use Rattle.macho_model.specs.Loader.{segment_in};
 
 use macho_memory_walks::{is_segment_named, segment_at, u32_from};
 use macho_model::SEGMENT_PAGE;
@@ -85,7 +86,7 @@ fn wanted_protection(bytes: &[u8], place: u64) -> u32
 
 /// Whether a segment has the protections of its name.
 pub fn protections_are_right(bytes: &[u8], place: u64) -> bool
-    ensures { result ≡ protections_fit bytes.now (command_at bytes.now place) }
+    ensures { result ≡ protections_fit (segment_in bytes.now (command_at bytes.now place)) }
 {
     let segment = segment_at(bytes, place);
     let wanted = wanted_protection(bytes, place);
@@ -94,7 +95,7 @@ pub fn protections_are_right(bytes: &[u8], place: u64) -> bool
 
 /// Whether a segment's file bytes stand inside the file, and are at most its bytes in memory.
 pub fn file_bytes_are_inside(bytes: &[u8], place: u64) -> bool
-    ensures { result ≡ file_part_inside bytes.now (command_at bytes.now place) }
+    ensures { result ≡ file_part_inside bytes.now (segment_in bytes.now (command_at bytes.now place)) }
 {
     let segment = segment_at(bytes, place);
     let length = bytes.len() as u64;
@@ -105,7 +106,7 @@ pub fn file_bytes_are_inside(bytes: &[u8], place: u64) -> bool
 
 /// Whether a segment is made of whole pages.
 pub fn is_paged(bytes: &[u8], place: u64) -> bool
-    ensures { result ≡ segment_is_paged bytes.now (command_at bytes.now place) }
+    ensures { result ≡ segment_is_paged (segment_in bytes.now (command_at bytes.now place)) }
 {
     let segment = segment_at(bytes, place);
     segment.address % SEGMENT_PAGE == 0
@@ -115,7 +116,7 @@ pub fn is_paged(bytes: &[u8], place: u64) -> bool
 
 /// Whether a segment ends at 2^64 at most.
 pub fn ends_below(bytes: &[u8], place: u64) -> bool
-    ensures { result ≡ segment_ends bytes.now (command_at bytes.now place) }
+    ensures { result ≡ segment_ends (segment_in bytes.now (command_at bytes.now place)) }
 {
     let segment = segment_at(bytes, place);
     segment.size == 0 || segment.address <= u64::MAX - (segment.size - 1)
@@ -123,7 +124,7 @@ pub fn ends_below(bytes: &[u8], place: u64) -> bool
 
 /// Whether a segment begins where another one ends, or behind.
 pub fn follows(bytes: &[u8], place: u64, next: u64) -> bool
-    ensures { result ≡ begins_behind bytes.now (command_at bytes.now place) (command_at bytes.now next) }
+    ensures { result ≡ begins_behind (segment_in bytes.now (command_at bytes.now place)) (segment_in bytes.now (command_at bytes.now next)) }
 {
     let segment = segment_at(bytes, place);
     let behind = segment_at(bytes, next);

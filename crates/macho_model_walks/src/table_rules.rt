@@ -3,7 +3,8 @@
 ghost use Rattle.std.specs.Prelude.{◌≡◌, nat_le, length, drop};
 ghost use Rattle.macho_model.specs.ObjectRules.{has_nul};
 ghost use Rattle.macho_model.specs.Images.{base_of, table_names, libraries_of, segments_of};
-ghost use Rattle.macho_model.specs.LoadRules.{segment_address, starts_known, starts_fit, starts_all_fit, header_known, parts_inside, table_fits, import_fits};
+ghost use Rattle.macho_model.specs.LoadRules.{segment_address, starts_fit, table_fits, import_fits};
+ghost use Rattle.macho_model_walks.specs.Tests.{starts_known, starts_all_fit, header_known, parts_inside};
 ghost use Rattle.macho_memory_walks.specs.Readings.{listed, table_there};
 
 use macho_memory_walks::{
@@ -47,8 +48,7 @@ pub fn starts_are_right(bytes: &[u8], place: u64, number: u32, base: u64, addres
     let offset = offset_of_starts(bytes, place, number);
     let end = table.starts as u64 + offset as u64 + 22;
     offset == 0
-        || (end <= table.size
-            && end + 2 * count_of_pages(bytes, place, number) as u64 <= table.size
+        || (end + 2 * count_of_pages(bytes, place, number) as u64 <= table.size
             && starts_are_known(bytes, place, number, base, address))
 }
 
@@ -114,8 +114,7 @@ pub fn parts_are_inside(bytes: &[u8], place: u64) -> bool
     let count = count_of_starts(bytes, place);
     let has_segments = has_segments(bytes, count);
     let entry = entry_size(table.imports_format);
-    table.starts as u64 + 4 <= table.size
-        && table.starts as u64 + 4 + 4 * count as u64 <= table.size
+    table.starts as u64 + 4 + 4 * count as u64 <= table.size
         && has_segments
         && table.imports as u64 + entry * table.imports_count as u64 <= table.size
         && table.symbols as u64 <= table.size

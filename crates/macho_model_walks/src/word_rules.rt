@@ -1,13 +1,11 @@
 //! Whether the words of the chains fit: the loader's last rule, asked of each word that a page's start leads to.
-ghost use Rattle.std.specs.Prelude.{◌≡◌, ◌≤◌, ◌<◌, ◌+◌, ◌*◌, ℕ, true, false, length, Some, None};
+ghost use Rattle.std.specs.Prelude.{◌≡◌, ◌≤◌, ◌<◌, ◌+◌, ◌*◌, ℕ, true, false, length, All, Some, None};
 ghost use Rattle.std.specs.List.{list_all};
-ghost use Rattle.macho_records.specs.declared.constants.TheConstants.{LC_SEGMENT_64};
 ghost use Rattle.macho_model.specs.LoadRules.{file_part_inside};
-ghost use Rattle.macho_model.specs.Images.{tables_of};
+ghost use Rattle.macho_model.specs.Images.{segments_of, tables_of};
 ghost use Rattle.macho_model.specs.Chain.{chain_segments};
-ghost use Rattle.macho_model.specs.Loader.{import_count, WordFails};
-ghost use Rattle.macho_model.specs.Grammar.{EachCommand};
-ghost use Rattle.macho_model.specs.Commands.{command_at, numbered};
+ghost use Rattle.macho_model.specs.Loader.{segment_in, import_count, WordFails};
+ghost use Rattle.macho_model.specs.Commands.{command_at};
 ghost use Rattle.macho_memory_walks.specs.Readings.{IsNth, segment_there, starts_of};
 ghost use Rattle.macho_model_walks.specs.Tests.{page_holds};
 ghost use Rattle.macho_memory_walks.specs.steps.Walks.{chain_segment_at};
@@ -123,7 +121,7 @@ fn unfit_on_page(bytes: &[u8], number: u32, place: u64, page: u16) -> Option<u64
 /// The file offset of the first word of a segment's chains that does not fit.
 fn unfit_on_segment(bytes: &[u8], number: u32, place: u64) -> Option<u64>
     requires nth { IsNth list.Segments bytes.now number place }
-    requires inside { file_part_inside bytes.now (command_at bytes.now place) ≡ true }
+    requires inside { file_part_inside bytes.now (segment_in bytes.now (command_at bytes.now place)) ≡ true }
     ensures found { (x : ℕ) → result ≡ Some x → WordFails bytes.now x }
     ensures only { result ≡ None → (page : ℕ) → FitOnPage bytes.now number place page }
 {
@@ -138,7 +136,7 @@ fn unfit_on_segment(bytes: &[u8], number: u32, place: u64) -> Option<u64>
 
 /// The same of the segment with a number.
 fn unfit_on_nth(bytes: &[u8], number: u32) -> Option<u64>
-    requires { EachCommand (numbered LC_SEGMENT_64 bytes.now) (file_part_inside bytes.now) }
+    requires { All (λ s. file_part_inside bytes.now s ≡ true) (segments_of bytes.now) }
     ensures found { (x : ℕ) → result ≡ Some x → WordFails bytes.now x }
     ensures only { result ≡ None → FitOnNth bytes.now number }
 {
@@ -150,7 +148,7 @@ fn unfit_on_nth(bytes: &[u8], number: u32) -> Option<u64>
 
 /// The file offset of the first chain word that does not fit.
 pub(crate) fn first_unfit_word(bytes: &[u8]) -> Option<u64>
-    requires { EachCommand (numbered LC_SEGMENT_64 bytes.now) (file_part_inside bytes.now) }
+    requires { All (λ s. file_part_inside bytes.now s ≡ true) (segments_of bytes.now) }
     ensures found { (x : ℕ) → result ≡ Some x → WordFails bytes.now x }
     ensures only { result ≡ None → EachWordFits bytes.now }
 {

@@ -1,21 +1,21 @@
 -- What the rules of an object or of a library say of its symbols' entries: names begin inside the string table, and
 -- commons are small. Each is one rule, asked of one symbol.
-use Rattle.std.proofs.Common.{◌≡◌, ℕ, ◌<◌, ◌≤◌, ◌^◌, Bool, true, false, List, length, arith, length-drop, slice_range, ◌&&◌, ◌||◌, not, nat_le, nat_lt, subst, ◌+◌, ◌-◌, if◌then◌else◌, Some, None, refl, ap, ◌∙◌, sym, []}
+use Rattle.std.proofs.Common.{◌≡◌, ℕ, ◌==◌, ◌<◌, ◌≤◌, ◌^◌, Bool, true, false, List, length, drop, arith, length-drop, slice_range, ◌&&◌, ◌||◌, not, nat_le, nat_lt, subst, ◌+◌, ◌-◌, if◌then◌else◌, Some, None, refl, ap, ◌∙◌, sym, []}
 use Rattle.macho_records.specs.declared.header.SectionHeader.{SectionHeader}
 use Rattle.macho_object.specs.Links.{is_carried}
 use Rattle.macho_object.specs.Objects.{section_at, symbol_name}
 use Rattle.macho_object.specs.Views.{FileBytes, of_symbol_section, section_index_of, of_section}
 use Rattle.macho_records.specs.declared.symbols.SymtabEntry.{SymtabEntry}
-use Rattle.macho_records.specs.Symbols.{is_weak_of, is_hidden_of}
+use Rattle.macho_records.specs.Symbols.{is_weak_of, is_hidden_of, has_type, is_global, is_stab_of}
 use Rattle.macho_names.specs.declared.notes.Sort.{Sort}
 use Rattle.macho_names.specs.Kept.{in_carried, kept_name, sort_of, number_of, value_of, row_of_symbol}
 use Rattle.macho_names.specs.steps.Notes.{IsString, string_at}
 use Rattle.macho_names.specs.declared.notes.Name.{Name}
 use Rattle.std.proofs.lemmas.Bool.Decides.{nat_tests}
 use Rattle.macho_records.specs.Symbols.{is_common_of, common_size_of}
+use Rattle.macho_records.specs.declared.constants.TheConstants.{N_ABS, N_SECT}
 use Rattle.macho_object.specs.Objects.{num_sections, num_symbols, symbol_at, strings_of}
-use Rattle.macho_object.specs.ObjectRules.{name_ends}
-use Rattle.macho_object.specs.Symbols.{is_global, is_in_section, is_absolute}
+use Rattle.macho_object.specs.ObjectRules.{has_nul}
 use Rattle.macho_object.specs.Grammar.{IsFile}
 use Rattle.macho_object.proofs.ObjectLaws.{object_keeps, dylib_keeps}
 
@@ -24,6 +24,11 @@ pub commons_are_small : (dyn : Bool) (b : List ℕ) (k : ℕ) → IsFile dyn b �
     → is_common_of (symbol_at b k) ≡ true → common_size_of (symbol_at b k) < 2 ^ 64
 commons_are_small true b k whole object among common = cc
 commons_are_small false b k whole object among common = grind (arith, nat_tests, (object_keeps whole).o14 k among)
+
+-- a symbol's name begins in the string table, and a NUL ends it there, by the rule on names
+abbrev name_ends : List ℕ → ℕ → Bool
+name_ends b k =
+    is_stab_of (symbol_at b k) || ((symbol_at b k).n_strx == 0) || has_nul (drop (symbol_at b k).n_strx (strings_of b))
 
 ends : (b : List ℕ) (k : ℕ) → name_ends b k ≡ true → is_global (symbol_at b k) ≡ true → (symbol_at b k).n_strx ≤ length (strings_of b)
 ends b k named global = grind (arith, nat_tests, length-drop {A = ℕ})
@@ -35,19 +40,19 @@ names_begin_inside true b k whole among global = ends b k ((dylib_keeps whole).o
 names_begin_inside false b k whole among global = ends b k ((object_keeps whole).o9 k among) global
 
 -- and so does that of a defined one
-begins : (b : List ℕ) (k : ℕ) → name_ends b k ≡ true → (is_in_section (symbol_at b k) || is_absolute (symbol_at b k)) ≡ true
+begins : (b : List ℕ) (k : ℕ) → name_ends b k ≡ true → (has_type N_SECT (symbol_at b k) || has_type N_ABS (symbol_at b k)) ≡ true
     → (symbol_at b k).n_strx ≤ length (strings_of b)
 begins b k named defined = grind (arith, nat_tests, length-drop {A = ℕ})
 
 pub defined_begins_inside : (f : FileBytes) (k : ℕ) (e : SymtabEntry) (t : Bool) → IsFile f.is_dynamic f.bytes → f.is_dynamic ≡ true
-    → k < num_symbols f.bytes → e ≡ symbol_at f.bytes k → t ≡ (is_in_section e || is_absolute e) → t ≡ true
+    → k < num_symbols f.bytes → e ≡ symbol_at f.bytes k → t ≡ (has_type N_SECT e || has_type N_ABS e) → t ≡ true
     → e.n_strx ≤ length (strings_of f.bytes)
 defined_begins_inside f k e t whole library among is tells holds =
     let kept : IsFile true f.bytes = subst (λ (d : Bool). IsFile d f.bytes) library whole in
-    let defined : (is_in_section e || is_absolute e) ≡ true = sym tells ∙ holds in
+    let defined : (has_type N_SECT e || has_type N_ABS e) ≡ true = sym tells ∙ holds in
     subst (λ (s : SymtabEntry). s.n_strx ≤ length (strings_of f.bytes)) (sym is)
     (begins f.bytes k ((dylib_keeps kept).o9.0 k among)
-    (subst (λ (s : SymtabEntry). (is_in_section s || is_absolute s) ≡ true) is defined))
+    (subst (λ (s : SymtabEntry). (has_type N_SECT s || has_type N_ABS s) ≡ true) is defined))
 
 -- what an answer that is there says
 pub some_if : {X : Type 0} (test : Bool) (x y : X) → Some x ≡ (if test then Some y else None) → (test ≡ true) × (x ≡ y)
@@ -87,7 +92,7 @@ section_is_there f k section object whole among found none =
     let which = some_if _ _ _ found in
     let inside = both _ _ (both _ _ which.0).1 in
     let past : nat_lt section (num_sections f.bytes) ≡ false = rw object at (none_if _ _ none) in
-    beside (is_in_section (symbol_at f.bytes k)) (symbol_at f.bytes k).n_sect section (num_sections f.bytes)
+    beside (has_type N_SECT (symbol_at f.bytes k)) (symbol_at f.bytes k).n_sect section (num_sections f.bytes)
     ((object_keeps kept).o5.0 k among) inside.1 which.1 past
 
 chosen : (strings : List ℕ) (global : Bool) (at : ℕ)

@@ -3,8 +3,8 @@
 use Rattle.std.specs.Prelude.{◌≡◌, ℕ, ◌-◌, ◌&&◌, ◌||◌, not, if◌then◌else◌, Bool, true, false, List, [], ◌++◌, map, filter, Option, Some, None}
 use Rattle.std.specs.List.{range_with_len}
 use Rattle.macho_records.specs.declared.symbols.SymtabEntry.{SymtabEntry}
-use Rattle.macho_records.specs.Symbols.{is_common_of, common_exponent_of, is_external_of, is_hidden_of, is_weak_of}
-use Rattle.macho_object.specs.Symbols.{is_absolute, is_in_section, is_global}
+use Rattle.macho_records.specs.Symbols.{is_common_of, common_exponent_of, is_hidden_of, is_weak_of, has_type, is_global}
+use Rattle.macho_records.specs.declared.constants.TheConstants.{N_ABS, N_SECT}
 use Rattle.macho_object.specs.Objects.{num_symbols, symbol_at, symbol_name, section_at, install_name_of}
 use Rattle.macho_object.specs.Links.{Input, Object, Dylib, Stub, StubReading, is_carried}
 use Rattle.macho_stub.specs.declared.library.DefinedStubLibrary.{DefinedStubLibrary}
@@ -32,11 +32,11 @@ pub record FileRows : Type 0 where
 
 -- a symbol of an object stands in a carried section
 abbrev pub in_carried : List ℕ → SymtabEntry → Bool
-in_carried b e = is_in_section e && is_carried (section_at b (e.n_sect - 1))
+in_carried b e = has_type N_SECT e && is_carried (section_at b (e.n_sect - 1))
 
 abbrev pub sort_of : List ℕ → SymtabEntry → Sort
 sort_of b e =
-    if in_carried b e then Section else if is_absolute e then Absolute else if is_common_of e then Common else Nowhere
+    if in_carried b e then Section else if has_type N_ABS e then Absolute else if is_common_of e then Common else Nowhere
 
 abbrev pub number_of : List ℕ → SymtabEntry → Sort → ℕ
 number_of b e Section = e.n_sect - 1
@@ -74,7 +74,7 @@ offered_row name = record { name = name; sort = Offered; number = 0; value = 0; 
 -- a symbol of a dynamic library is offered: it is visible, and defined
 abbrev pub is_offered : List ℕ → ℕ → Bool
 is_offered b k =
-    is_external_of (symbol_at b k) && not (is_hidden_of (symbol_at b k)) && (is_in_section (symbol_at b k) || is_absolute (symbol_at b k))
+    is_global (symbol_at b k) && not (is_hidden_of (symbol_at b k)) && (has_type N_SECT (symbol_at b k) || has_type N_ABS (symbol_at b k))
 
 -- what is kept of each kind of input
 unfoldable pub rows_of_object : List ℕ → List Row

@@ -3,8 +3,9 @@
 //! A note holds a place and a length in these bytes. Those of an object or of a dynamic library are its string table, which stays
 //! in the input: names that share bytes there share them here. The names of a stub are joined into one text.
 ghost use Rattle.std.specs.Prelude.{◌≡◌, ℕ, List, ◌+◌, ◌^◌, ◌<◌, ◌||◌, true, false, map, IfOk, OnOk, IfSome, is_some, is_none, ◌++◌, slice_range, length, get_or};
+ghost use Rattle.macho_records.specs.Symbols.{has_type};
+ghost use Rattle.macho_records.specs.declared.constants.TheConstants.{N_ABS, N_SECT};
 ghost use Rattle.macho_object.specs.Objects.{num_symbols, strings_of, symbol_name};
-ghost use Rattle.macho_object.specs.Symbols.{is_in_section, is_absolute};
 ghost use Rattle.macho_stub_lines.specs.Lists.{texts};
 ghost use Rattle.macho_names.specs.Kept.{Row, kept_object, kept_dylib, kept_stub, reading_of, rows_of_object, rows_of_dylib, offered_row, is_offered, no_row};
 ghost use Rattle.macho_names.specs.Events.{library_text};
@@ -13,7 +14,7 @@ ghost use Rattle.macho_names.specs.Notes.{AreEnds, CommonFits, row_in, named_row
 ghost use Rattle.macho_names.specs.Texts.{bytes_of};
 
 use crate::ends::block_ends;
-use crate::kinds::{is_absolute, is_in_section};
+use crate::kinds::{is_absolute, is_global, is_in_section};
 use crate::notes::{Name, Note, Sort, name_at, note_of};
 use macho_object::File;
 use macho_records::SymtabEntry;
@@ -93,7 +94,7 @@ fn offered_note(file: &File<'_>, ends: &[u32], index: u32) -> Option<Note>
 {
     let symbol = file.symbol(index)?;
     let _whole = file.is_dynamic();
-    if symbol.is_local() || symbol.is_hidden() || !is_defined(symbol) {
+    if !is_global(symbol) || symbol.is_hidden() || !is_defined(symbol) {
         return None;
     }
     let name = name_at(file.strings(), ends, symbol.n_strx);
@@ -102,7 +103,7 @@ fn offered_note(file: &File<'_>, ends: &[u32], index: u32) -> Option<Note>
 
 /// Whether a symbol is defined: in a section, or as a value of its own.
 fn is_defined(symbol: SymtabEntry) -> bool
-    ensures { result ≡ is_in_section symbol || is_absolute symbol }
+    ensures { result ≡ has_type N_SECT symbol || has_type N_ABS symbol }
 {
     is_in_section(symbol) || is_absolute(symbol)
 }

@@ -1,7 +1,7 @@
 //! What kind of symbol an entry of a symbol table is. Debugging entries are of no kind.
 ghost use Rattle.std.specs.Prelude.{◌≡◌};
-ghost use Rattle.macho_records.specs.Symbols.{is_common_of};
-ghost use Rattle.macho_object.specs.Symbols.{is_global, is_absolute, is_in_section};
+ghost use Rattle.macho_records.specs.Symbols.{is_common_of, has_type, is_global};
+ghost use Rattle.macho_records.specs.declared.constants.TheConstants.{N_ABS, N_SECT};
 
 use macho_records::{N_SECT, N_STAB, N_TYPE, SymtabEntry};
 
@@ -14,14 +14,14 @@ pub fn is_global(symbol: SymtabEntry) -> bool
 
 /// Whether a symbol is defined in a section.
 pub(crate) fn is_in_section(symbol: SymtabEntry) -> bool
-    ensures { result ≡ is_in_section symbol }
+    ensures { result ≡ has_type N_SECT symbol }
 {
     symbol.n_type & N_STAB == 0 && symbol.n_type & N_TYPE == N_SECT
 }
 
 /// Whether a symbol has a value of its own.
 pub fn is_absolute(symbol: SymtabEntry) -> bool
-    ensures { result ≡ is_absolute symbol }
+    ensures { result ≡ has_type N_ABS symbol }
 {
     symbol.n_type & N_STAB == 0 && symbol.is_absolute()
 }

@@ -5,8 +5,7 @@
 //!
 //!     name 1, 5 bytes   sort Section   number 0   value 16   global, not weak, not hidden
 ghost use Rattle.std.specs.Prelude.{◌≡◌, ◌+◌, ◌^◌, ◌<◌, ◌≤◌, true, false, ◌==◌, length, if◌then◌else◌};
-ghost use Rattle.macho_records.specs.Symbols.{is_common_of, common_of, common_size_of, common_exponent_of};
-ghost use Rattle.macho_object.specs.Symbols.{is_global};
+ghost use Rattle.macho_records.specs.Symbols.{is_common_of, common_of, common_size_of, common_exponent_of, is_global};
 ghost use Rattle.macho_object.specs.Objects.{num_symbols, strings_of, symbol_at};
 ghost use Rattle.macho_names.specs.Kept.{in_carried, sort_of, number_of, value_of, row_of_symbol};
 ghost use Rattle.macho_names.specs.Events.{strength_of, size_of_common};

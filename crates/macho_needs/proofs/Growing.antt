@@ -5,10 +5,10 @@ use Rattle.std.specs.List.{filter_map, list_any, cons_option}
 use Rattle.std.specs.Str.{bytes_eq}
 use Rattle.std.proofs.lemmas.List.Elements.{filter-append, filter_map-append}
 use Rattle.std.proofs.lemmas.Slice.Eq.{bytes_eq-Decides}
+use Rattle.macho_records.specs.Symbols.{is_global}
 use Rattle.indexmap.specs.IndexSet.{insert_key}
 use Rattle.macho_model.specs.Links.{Link}
 use Rattle.macho_model.specs.Resolution.{SymbolId, entry_at, name_at}
-use Rattle.macho_model.specs.Symbols.{is_global}
 use Rattle.macho_model.specs.Needs.{Use, name_used, global_name, is_imported, distinct}
 use Rattle.macho_model.specs.Targets.{same_target, slot_of_use, stub_of_use}
 use Rattle.macho_model.specs.Fixups.{same_entry}

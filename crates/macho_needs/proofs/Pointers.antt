@@ -8,9 +8,10 @@ use Rattle.macho_records.specs.declared.constants.TheConstants.{ARM64_RELOC_ADDE
 use Rattle.macho_model.specs.Links.{Input, Link, SectionId}
 use Rattle.macho_model.specs.Resolution.{SymbolId}
 use Rattle.macho_model.specs.Needs.{Use, relocation_in, section_named, symbol_of_relocation, symbol_used, name_used, global_name}
-use Rattle.macho_model.specs.Targets.{same_target, slot_of_use, stub_of_use, target_of_symbol, target_of_section, target_of_relocation, target_with}
+use Rattle.macho_model.specs.Targets.{same_target, slot_of_use, stub_of_use, target_of_relocation, target_with}
 use Rattle.macho_model.specs.Fixups.{same_entry}
 use Rattle.macho_model.specs.Consumed.{is_plain_pointer}
+use Rattle.macho_model.proofs.Words.{target_of_symbol, target_of_section}
 use Rattle.macho_names.specs.Kept.{Keeps}
 use Rattle.macho_symbols.specs.Kept.{ResolvedRows, IsResolved, symbol_id}
 use Rattle.macho_symbols.specs.Told.{IsDefined, noting}

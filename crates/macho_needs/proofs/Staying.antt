@@ -7,12 +7,12 @@ use Rattle.std.specs.Str.{bytes_eq}
 use Rattle.std.proofs.lemmas.List.Folds.{list_any-append}
 use Rattle.std.proofs.lemmas.List.Elements.{filter-append, filter_map-append}
 use Rattle.std.proofs.lemmas.Slice.Eq.{bytes_eq-Decides}
+use Rattle.macho_records.specs.Symbols.{is_global}
 use Rattle.indexmap.specs.IndexSet.{insert_key}
 use Rattle.macho_model.specs.declared.targets.Target.TheVariants as target
 use Rattle.macho_model.specs.Links.{Link}
 use Rattle.macho_model.specs.Resolution.{SymbolId, Definition, Symbol, Library, ImageBase, entry_at, name_at, definition_of}
-use Rattle.macho_model.specs.Symbols.{is_global}
-use Rattle.macho_model.specs.Needs.{Use, uses_of, name_used, global_name, is_imported, is_library, imports_of, import_number, distinct}
+use Rattle.macho_model.specs.Needs.{Use, uses_of, name_used, global_name, is_imported, is_library, imports_of, distinct}
 use Rattle.macho_model.specs.Targets.{target_with, target_of, definition_target}
 use Rattle.macho_layout.proofs.Distinct.{distinct_push, place_put, place_new, longer_put}
 use Rattle.macho_parts.specs.Noted.{imports_in}
@@ -56,14 +56,14 @@ stays {X} same d p xs (y ∷ ys) inside =
 
 -- the number of an imported name, before its use and in the end
 pub number_stays : (l : Link) (us : List Use) (u : Use) (name : List ℕ) → IsNext l us u → name_used l u ≡ Some name → is_imported l name ≡ true
-    → import_number (imports_in l us) name ≡ import_number (imports_of l) name
+    → position_or_len (bytes_eq name) (imports_in l us) ≡ position_or_len (bytes_eq name) (imports_of l)
 unfolding imports_in imports_of with_name
 number_stays l us u name next used imported =
     let names : List Use → List (List ℕ) = λ vs. filter (is_imported l) (filter_map (name_used l) vs) in
     let after : imports_in l (us ++ u ∷ []) ≡ insert_key bytes_eq (imports_in l us) name
     = imports_more l us u ∙ ap (with_name l (imports_in l us)) used ∙ ap (λ b. if b then insert_key bytes_eq (imports_in l us) name else imports_in l us) imported in
     let itself : bytes_eq name name ≡ true = (bytes_eq-Decides name name).1 refl in
-    let before : import_number (imports_in l (us ++ u ∷ [])) name ≡ import_number (imports_in l us) name
+    let before : position_or_len (bytes_eq name) (imports_in l (us ++ u ∷ [])) ≡ position_or_len (bytes_eq name) (imports_in l us)
     = ap (position_or_len (bytes_eq name)) after ∙ place_new (bytes_eq name) (list_any (bytes_eq name) (imports_in l us)) (imports_in l us) name itself in
     let inside : position_or_len (bytes_eq name) (imports_in l (us ++ u ∷ [])) < length (imports_in l (us ++ u ∷ []))
     = subst (λ (ns : List (List ℕ)). position_or_len (bytes_eq name) ns < length ns) (sym after) (put_inside bytes_eq bytes_eq-Decides (imports_in l us) name) in

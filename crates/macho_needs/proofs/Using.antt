@@ -13,11 +13,12 @@ use Rattle.macho_model.proofs.ObjectLaws.{object_keeps}
 use Rattle.macho_model.specs.Links.{Input, Link, SectionId, object_of}
 use Rattle.macho_model.specs.Resolution.{SymbolId, definition_of}
 use Rattle.macho_model.specs.Needs.{Use, ByRelocation, uses_of, relocation_in, section_named, symbol_of_relocation, symbol_used, global_name}
-use Rattle.macho_model.specs.Targets.{slot_of_use, stub_of_use, same_target, slot_of_relocation, stub_of_relocation, target_of, target_of_symbol, target_of_section, target_of_relocation, target_with}
-use Rattle.macho_model.specs.Fields.{field_of, width_of, subtrahend_of, addend_of}
+use Rattle.macho_model.specs.Targets.{slot_of_use, stub_of_use, same_target, slot_of_relocation, stub_of_relocation, target_of, target_of_relocation, target_with}
+use Rattle.macho_model.specs.Fields.{field_of, width_of, addend_of}
 use Rattle.macho_model.specs.Fixups.{same_entry, own_entry}
 use Rattle.macho_model.specs.Values.{is_pointer}
 use Rattle.macho_model.specs.Faults as model
+use Rattle.macho_model.proofs.Words.{target_of_symbol, target_of_section, subtrahend_of}
 use Rattle.macho_object.specs.Views.{FileBytes}
 use Rattle.macho_names.specs.declared.fault.SymbolFault.{SymbolFault}
 use Rattle.macho_names.specs.declared.fault.SymbolFault.TheVariants.{DuplicateSymbol, UndefinedSymbol, ExportListMissing, OutOfMemory}

@@ -12,9 +12,10 @@ use Rattle.macho_model.specs.Resolution.{definition_of, name_at}
 use Rattle.macho_model.specs.ExportLists.{plain_entries}
 use Rattle.macho_model.specs.Needs.{Use, ByRelocation, ByInitializer, ByPersonality, ByName, uses_of, carried_uses, initializer_uses, initializer_sections, personality_uses, unwind_sections, is_imported, imports_of, relocation_in, relocations_of, relocations_at, distinct, POINTER_SIZE, UNWIND_ENTRY_SIZE, PERSONALITY_PLACE}
 use Rattle.macho_model.specs.Targets.{same_target, slot_of_use, stub_of_use, slots_of, stubs_of, target_of_relocation}
-use Rattle.macho_model.specs.Fields.{Field, field_of, fields_of, is_prefix_type, addend_of, subtrahend_of, width_of}
+use Rattle.macho_model.specs.Fields.{Field, field_of, fields_of, is_prefix_type, addend_of, width_of}
 use Rattle.macho_model.specs.Fixups.{same_entry, own_entry, own_entries}
 use Rattle.macho_model.specs.Values.{is_pointer}
+use Rattle.macho_model.proofs.Words.{subtrahend_of}
 use Rattle.macho_symbols.specs.Kept.{IsResolved}
 use Rattle.macho_parts.specs.Noted.{imports_in, slots_in, stubs_in}
 use Rattle.macho_needs.specs.declared.needs.Needs.{Needs}

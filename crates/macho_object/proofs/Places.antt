@@ -13,7 +13,7 @@ use Rattle.macho_records.specs.CommandLayouts.{dylib_command}
 use Rattle.macho_records.specs.declared.constants.TheConstants.{LC_SYMTAB}
 use Rattle.macho_model.specs.Lists.{IsNumber, of_first}
 use Rattle.macho_model.specs.Commands.{Command, command_at, commands_of, commands_from, commands_end, numbered, header_of, command_fits, place_of}
-use Rattle.macho_model.specs.Objects.{num_sections, segment_of, section_place}
+use Rattle.macho_model.specs.Objects.{num_sections, section_place}
 use Rattle.macho_model.specs.ObjectRules.{head_fits, tables_inside}
 use Rattle.macho_model.specs.Grammar.{Breaks}
 use Rattle.macho_model.specs.declared.rules.ObjectRule.TheVariants.{O3, O4}
@@ -130,7 +130,7 @@ breaks_symtab true b t place s not = ((s.inside, s.each), inr (not_one (numbered
 -- each section's header stands in the segment's command
 pub sections_stand : (dyn : Bool) (b : List ℕ) (p : Places) (n k : ℕ) → HasCommands dyn b p → n ≡ section_count dyn b → k < n
     → SectionStands b p.main k
-unfolding num_sections segment_of section_place
+unfolding num_sections section_place
 sections_stand false b p n k h is lt =
     let place : place_of 25 b ≡ p.main = ap (of_first 0 (λ (c : Command). c.at)) h.main_only in
     let count : n ≡ (reading segment_command b p.main).nsects = is ∙ ap (λ (at : ℕ). (reading segment_command b at).nsects) place in

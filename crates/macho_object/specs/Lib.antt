@@ -5,5 +5,4 @@ pub use Rattle.macho_model.specs.Objects
 pub use Rattle.macho_model.specs.ObjectRules
 pub use Rattle.macho_model.specs.Grammar
 pub mod steps
-pub use Rattle.macho_model.specs.Symbols
 pub use Rattle.macho_model.specs.Links

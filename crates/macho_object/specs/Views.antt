@@ -1,10 +1,12 @@
 -- What a view of an object or of a dynamic library shows: the bytes and their kind. All that its accessors answer is
 -- what the grammar reads in these bytes.
 use Rattle.std.specs.Prelude.{◌≡◌, ℕ, ◌-◌, ◌<◌, nat_lt, ◌&&◌, not, if◌then◌else◌, Bool, true, false, List, Option, Some, None}
+use Rattle.std.specs.Str.{bytes_eq}
+use Rattle.macho_records.specs.Sections.{section_name_of}
 use Rattle.macho_records.specs.declared.symbols.SymtabEntry.{SymtabEntry}
 use Rattle.macho_records.specs.RelocationInfo.{RelocationInfo}
-use Rattle.macho_records.specs.Symbols.{is_stab_of}
-use Rattle.macho_model.specs.Symbols.{is_in_section, has_section_name}
+use Rattle.macho_records.specs.Symbols.{is_stab_of, has_type}
+use Rattle.macho_records.specs.declared.constants.TheConstants.{N_SECT}
 use Rattle.macho_model.specs.Objects.{num_sections, section_at, num_symbols, symbol_at, symbol_name, relocation_at, install_name_of}
 
 -- A file as its view shows it: its bytes, and whether they are read as a dynamic library.
@@ -37,7 +39,7 @@ symbol_name_of f k =
 -- an answer about the section that an object's symbol is defined in
 abbrev pub of_symbol_section : {X : Type 0} → FileBytes → ℕ → X → Option X
 of_symbol_section f k answer =
-    if not f.is_dynamic && (nat_lt k (num_symbols f.bytes) && is_in_section (symbol_at f.bytes k)) then Some answer else None
+    if not f.is_dynamic && (nat_lt k (num_symbols f.bytes) && has_type N_SECT (symbol_at f.bytes k)) then Some answer else None
 
 -- that section, counted from 0
 abbrev pub section_index_of : FileBytes → ℕ → ℕ
@@ -50,10 +52,10 @@ symbol_offset_of f k = (symbol_at f.bytes k).n_value - (section_at f.bytes (sect
 -- the first section of a name, where there is one
 abbrev pub IsFirstNamed : FileBytes → List ℕ → Option ℕ → Type 0
 IsFirstNamed f name None =
-    (j : ℕ) → j < section_count f.is_dynamic f.bytes → has_section_name name (section_at f.bytes j) ≡ false
+    (j : ℕ) → j < section_count f.is_dynamic f.bytes → bytes_eq (section_name_of (section_at f.bytes j)) name ≡ false
 IsFirstNamed f name (Some k) =
-    (k < section_count f.is_dynamic f.bytes) × (has_section_name name (section_at f.bytes k) ≡ true)
-    × ((j : ℕ) → j < k → has_section_name name (section_at f.bytes j) ≡ false)
+    (k < section_count f.is_dynamic f.bytes) × (bytes_eq (section_name_of (section_at f.bytes k)) name ≡ true)
+    × ((j : ℕ) → j < k → bytes_eq (section_name_of (section_at f.bytes j)) name ≡ false)
 
 -- a relocation of a section, where it is there
 abbrev pub relocation_of : RelocationBytes → ℕ → Option RelocationInfo

@@ -102,7 +102,7 @@ fn read_symtab(input: &[u8], is_dynamic: bool, places: Places) -> Result<SymtabC
 }
 
 /// How many sections are read: those of an object's segment, none of a library.
-#[tactic(auto, unfolding(macho_model::specs::Objects::num_sections, macho_model::specs::Objects::segment_of))]
+#[tactic(auto, unfolding(macho_model::specs::Objects::num_sections))]
 fn count_sections(input: &[u8], is_dynamic: bool, places: Places) -> u32
     requires { HasCommands is_dynamic input.now places }
     ensures { result ≡ section_count is_dynamic input.now }

@@ -110,10 +110,11 @@ impl<'data> Model for RelocationList<'data> {
 
     ghost use Rattle.std.specs.Prelude.{◌≡◌, true};
     ghost use Rattle.macho_model.specs.Objects.{section_at};
-    ghost use Rattle.macho_model.specs.ObjectRules.{relocations_inside};
+    ghost use Rattle.macho_model.specs.ObjectRules.{section_keeps};
+    ghost use Rattle.macho_model.specs.declared.rules.ObjectRule.TheVariants.{O10};
 
     ghost invariant = { λ l. (l.header ≡ section_at l.input.now l.section)
-        × (relocations_inside l.input.now l.section ≡ true) };
+        × (section_keeps l.input.now O10 (section_at l.input.now l.section) ≡ true) };
 }
 
 impl RelocationList<'_> {

@@ -4,7 +4,6 @@ ghost use Rattle.macho_model.specs.Objects.{section_at, section_bytes, section_p
 ghost use Rattle.macho_model.specs.ObjectRules.{is_thread_local};
 ghost use Rattle.macho_model.specs.Grammar.{ObjectBreaks};
 ghost use Rattle.macho_model.specs.Links.{is_carried};
-ghost use Rattle.macho_model.specs.Symbols.{is_in_segment};
 ghost use Rattle.macho_records.specs.Sections.{is_zerofill, type_of};
 ghost use Rattle.macho_object.specs.steps.Outlines.{IsOutlined};
 ghost use Rattle.macho_object.specs.steps.Checks.{SectionFits, SectionsFit, SectionBreaks};

@@ -1,9 +1,9 @@
 //! Symbols: their entries and names.
 ghost use Rattle.std.specs.Prelude.{◌≡◌, ◌-◌, ◌<◌, true, false};
+ghost use Rattle.macho_model.specs.steps.RecordTests.{name_ends};
 ghost use Rattle.macho_model.specs.Objects.{num_symbols, section_at, symbol_at, symbol_place, strings_of, symbol_name};
-ghost use Rattle.macho_model.specs.ObjectRules.{name_ends};
-ghost use Rattle.macho_model.specs.Symbols.{is_in_section};
-ghost use Rattle.macho_records.specs.Symbols.{is_stab_of};
+ghost use Rattle.macho_records.specs.Symbols.{is_stab_of, has_type};
+ghost use Rattle.macho_records.specs.declared.constants.TheConstants.{N_SECT};
 ghost use Rattle.macho_object.specs.steps.Outlines.{IsOutlined};
 ghost use Rattle.macho_object.specs.steps.Checks.{AddressFits};
 
@@ -64,7 +64,7 @@ impl<'data> Outline<'data> {
         requires outlined { IsOutlined self.now }
         requires object { self.now.is_dynamic ≡ false }
         requires among { index < num_symbols self.now.input.now }
-        requires defined { is_in_section (symbol_at self.now.input.now index) ≡ true }
+        requires defined { has_type N_SECT (symbol_at self.now.input.now index) ≡ true }
         requires fits { AddressFits self.now.input.now index }
         ensures { result ≡ (symbol_at self.now.input.now index).n_value
             - (section_at self.now.input.now ((symbol_at self.now.input.now index).n_sect - 1)).addr }
@@ -84,7 +84,7 @@ pub(crate) fn is_stab(symbol: SymtabEntry) -> bool
 
 /// Whether it is defined in a section.
 pub(crate) fn is_in_section(symbol: SymtabEntry) -> bool
-    ensures { result ≡ is_in_section symbol }
+    ensures { result ≡ has_type N_SECT symbol }
 {
     !is_stab(symbol) && symbol.n_type & N_TYPE == N_SECT
 }

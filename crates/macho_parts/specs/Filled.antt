@@ -1,6 +1,6 @@
 -- When the bytes of a carried section are filled: its input's bytes, with each relocated field set for its target and addend.
 -- Fields that the loader writes are left to it.
-use Rattle.std.specs.Prelude.{◌≡◌, ℕ, ◌+◌, ◌<◌, ◌≤◌, false, List, length, slice_index, slice_range, All, Contains, is_some}
+use Rattle.std.specs.Prelude.{◌≡◌, ℕ, ◌+◌, ◌<◌, ◌≤◌, false, List, length, slice_index, slice_range, All, is_some}
 use Rattle.std.specs.FinMap.{empty}
 use Rattle.macho_bytes.specs.Numbers.{le_at}
 use Rattle.macho_model.specs.declared.placed.PlacedSection.{PlacedSection}
@@ -8,19 +8,20 @@ use Rattle.macho_model.specs.declared.placed.Stub.{Stub}
 use Rattle.macho_model.specs.declared.targets.Target.TheVariants as target
 use Rattle.macho_model.specs.Objects.{section_bytes}
 use Rattle.macho_model.specs.Links.{Link, object_of, header_at}
-use Rattle.macho_model.specs.Fields.{Field, fields_of}
+use Rattle.macho_model.specs.Fields.{Field, fields_of, content_of}
 use Rattle.macho_model.specs.Meaning.{GoesThrough}
 use Rattle.macho_model.specs.Values.{needs_fixup}
 use Rattle.macho_model.specs.WrittenSum.{STUB_SIZE}
 use Rattle.macho_model.specs.Placement.{Placed, id_of}
 use Rattle.macho_model.specs.Addresses.{offset_in_file}
-use Rattle.macho_model.specs.Stands.{Says, seen_in, kind_of, IsOutsideField, SlotAt}
+use Rattle.macho_model.specs.Stands.{Says, kind_of, IsOutsideField, SlotAt}
 
 -- a field in a section's bytes says its target and addend, before any slide; one that the loader writes says nothing yet
 abbrev pub FieldIsSet : Link → Placed → PlacedSection → List ℕ → Field → Type 0
 FieldIsSet l p q text f =
     needs_fixup l (id_of q) f ≡ false
-    → Says l p 0 empty (id_of q) f (seen_in l 0 q f (le_at f.width text f.offset)) (kind_of f.type (is_some f.subtrahend))
+    → Says l p 0 empty (id_of q) f (q.address + f.offset + 0) (le_at f.width text f.offset) (content_of l (id_of q) f.relocation)
+    (kind_of f.type (is_some f.subtrahend))
 
 -- THE bytes of a placed section.
 pub record IsFilled (l : Link) (p : Placed) (q : PlacedSection) (text : List ℕ) : Type 0 where

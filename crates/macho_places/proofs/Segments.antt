@@ -10,8 +10,8 @@ use Rattle.std.proofs.lemmas.List.{get_or_default}
 use Rattle.macho_model.specs.declared.placed.PlacedSegment.{PlacedSegment}
 use Rattle.macho_model.specs.Placement.{Placed}
 use Rattle.macho_model.specs.Lists.{of_first}
-use Rattle.macho_model.specs.Addresses.{has_in_file, offset_in_file}
-use Rattle.macho_places.specs.steps.Segments.{HaveNot}
+use Rattle.macho_model.specs.Addresses.{offset_in_file}
+use Rattle.macho_places.specs.steps.Segments.{HaveNot, has_in_file}
 
 abbrev pub offset_by : ℕ → PlacedSegment → ℕ
 offset_by a s = s.file_offset + (a - s.address)

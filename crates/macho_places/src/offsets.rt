@@ -1,7 +1,8 @@
 //! Places in the file.
 ghost use Rattle.std.specs.Prelude.{◌≡◌, ◌%◌, ◌^◌, ◌<◌};
+ghost use Rattle.macho_places.specs.steps.Segments.{has_in_file};
 ghost use Rattle.macho_model.specs.Placement.{Placed};
-ghost use Rattle.macho_model.specs.Addresses.{has_in_file, offset_in_file};
+ghost use Rattle.macho_model.specs.Addresses.{offset_in_file};
 
 use macho_model::PlacedSegment;
 

@@ -17,7 +17,7 @@ use Rattle.macho_records.specs.declared.constants.TheConstants.{S_THREAD_LOCAL_R
 use Rattle.macho_model.specs.declared.placed.Counts.{Counts}
 use Rattle.macho_model.specs.Links.{Link}
 use Rattle.macho_model.specs.Targets.{slots_of, stubs_of}
-use Rattle.macho_model.specs.Segments.{TEXT, DATA_CONST, DATA, COMMON, OutputKey, same_key, common_key, output_keys_of, list_if}
+use Rattle.macho_model.specs.Segments.{TEXT, DATA_CONST, DATA, OutputKey, same_key, common_key, output_keys_of, list_if}
 use Rattle.macho_model.specs.Placement.{Placed}
 use Rattle.macho_model.specs.OutputSections.{OutputSection, InitOffsets, UnwindInfo, Stubs, Slots, merged_in, is_zeros, is_code}
 use Rattle.macho_model.specs.OutputSections.{flags_of_key, sections_of_text, sections_of_data, sections_of_other, output_sections_in}

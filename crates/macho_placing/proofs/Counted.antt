@@ -11,11 +11,12 @@ use Rattle.std.proofs.lemmas.List.{get_or-map, get_or_past, length-map, length-a
 use Rattle.std.proofs.lemmas.List.Elements.{All-nil, All-cons, All-head, All-tail, All-append, All-contains, All-contains_itself}
 use Rattle.std.proofs.lemmas.List.FromFn.{length-map-range_with_len, get_or-map-range_with_len}
 use Rattle.std.proofs.lemmas.List.Sums.{sum_by-cons}
+use Rattle.macho_records.specs.Sections.{segment_name_of}
 use Rattle.macho_model.specs.declared.placed.Counts.{Counts}
 use Rattle.macho_model.specs.declared.placed.PlacedSegment.{PlacedSegment}
 use Rattle.macho_model.specs.Links.{Link, SectionId, header_at, carried_of}
 use Rattle.macho_model.specs.Resolution.{chosen_commons}
-use Rattle.macho_model.specs.Segments.{DATA, segment_name, has_section_in, key_of, same_key, list_if, one_if}
+use Rattle.macho_model.specs.Segments.{DATA, has_section_in, key_of, same_key, list_if, one_if}
 use Rattle.macho_model.specs.Placement.{Placed, head_size as model_head}
 use Rattle.macho_cells.specs.declared.place.Cell.{Cell}
 use Rattle.macho_cells.specs.declared.place.PlacedCell.{PlacedCell}
@@ -91,7 +92,7 @@ module _ (l : Link) (p : Planning) (counts : Counts) (q : Placed) (plan : IsPlan
         let is : output_at p k ≡ output_key l s
         = ap (λ (ns : List OutputName). get_or ns k COMMON_NAME) (outputs_are l p plan) ∙ get_or-map (output_key l)
         (outputs_once l) k d COMMON_NAME (omega (arith, inside, long)) in (
-          segment_name l s,
+          segment_name_of (header_at l s),
           ap (λ (o : OutputName). o.segment) is ∙ segment_key_is l s,
           name_twice
               (header_at l s).segname,

@@ -21,7 +21,7 @@ use Rattle.macho_model.specs.declared.placed.PlacedSection.{PlacedSection}
 use Rattle.macho_model.specs.declared.placed.PlacedCommon.{PlacedCommon}
 use Rattle.macho_model.specs.declared.placed.Range64.{Range64}
 use Rattle.macho_model.specs.Links.{Link, SectionId, header_at, carried_of, is_template, is_carried}
-use Rattle.macho_model.specs.Segments.{TEXT, DATA, segment_name}
+use Rattle.macho_model.specs.Segments.{TEXT, DATA}
 use Rattle.macho_model.specs.Placement.{Placed, Span, AreApart, id_of, section_span, common_span, slot_span, stub_span, range_span}
 use Rattle.macho_model.specs.Placement.{head_span, linkedit_span, linkedit_ranges, spans_with, HoldsSpan, TemplateHolds}
 use Rattle.macho_model.specs.Placement.{template_sections, other_sections}

@@ -9,7 +9,7 @@ use Rattle.std.proofs.lemmas.Bool.{false≢true, and_parts, not-true, cases_lt}
 use Rattle.std.proofs.lemmas.Nat.{pow_pos}
 use Rattle.std.proofs.lemmas.Slice.Eq.{bytes_eq-Decides}
 use Rattle.std.proofs.lemmas.List.Elements.{All-contains, All-from_recursion, Contains-push, filter_passes}
-use Rattle.macho_records.specs.Sections.{is_zerofill, is_zerofill_type}
+use Rattle.macho_records.specs.Sections.{is_zerofill, is_zerofill_type, segment_name_of}
 use Rattle.macho_records.specs.Symbols.{common_exponent_of, common_size_of}
 use Rattle.macho_records.specs.Segments.{text_of}
 use Rattle.macho_model.specs.declared.placed.Counts.{Counts}
@@ -23,7 +23,7 @@ use Rattle.macho_model.specs.declared.placed.Stub.{Stub}
 use Rattle.macho_model.specs.Lists.{IsNumber}
 use Rattle.macho_model.specs.Links.{Link, SectionId, header_at, carried_of, sections_of, is_carried, placed_exponent}
 use Rattle.macho_model.specs.Resolution.{entry_at}
-use Rattle.macho_model.specs.Segments.{TEXT, DATA_CONST, DATA, segment_name, list_if, one_if}
+use Rattle.macho_model.specs.Segments.{TEXT, DATA_CONST, DATA, list_if, one_if}
 use Rattle.macho_model.specs.Placement.{Placed, Span, id_of, common_of, section_span, common_span, slot_span, stub_span, range_span}
 use Rattle.macho_model.specs.Placement.{is_segment_named, LiesIn, LiesInNamed, SectionLies, TableLies, RangeLies, linkedit_ranges}
 use Rattle.macho_model.specs.Placement.{IsAligned, IsInSegment}
@@ -209,7 +209,7 @@ module _ (l : Link) (p : Planning) (counts : Counts) (q : Placed) (plan : IsPlan
 
   section_lies : (s : PlacedSection) (m : PlacedMember) → SectionAt l p h.starts s m → StandsM m → SectionLies l q s
   section_lies s m at stand =
-      let n : List ℕ = segment_name l (id_of s) in
+      let n : List ℕ = segment_name_of (header_at l (id_of s)) in
       let there = section_there l p counts q plan fits h s m at in
       let name = name_twice (header_at l (id_of s)).segname in
       let rank = home_rank l p counts q plan fits h m.member.cell n (section_segment l p counts q plan fits h s m at) name there in

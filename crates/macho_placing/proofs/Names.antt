@@ -17,11 +17,12 @@ use Rattle.std.proofs.lemmas.List.Sums.{position_or_len_is, prefix_len_is, prefi
 use Rattle.macho_bytes.specs.Texts.{name_of}
 use Rattle.macho_records.specs.declared.segments.SegmentName.{SegmentName}
 use Rattle.macho_records.specs.Segments.{name_field}
+use Rattle.macho_records.specs.Sections.{segment_name_of}
 use Rattle.macho_model.specs.Links.{Link, SectionId, header_at, carried_of}
 use Rattle.macho_model.specs.Resolution.{chosen_commons}
 use Rattle.macho_model.specs.Targets.{slots_of}
 use Rattle.macho_model.specs.Needs.{distinct}
-use Rattle.macho_model.specs.Segments.{PAGEZERO, TEXT, DATA_CONST, DATA, LINKEDIT, segment_name, is_known_segment, other_segments}
+use Rattle.macho_model.specs.Segments.{PAGEZERO, TEXT, DATA_CONST, DATA, LINKEDIT, is_known_segment, other_segments}
 use Rattle.macho_model.specs.Segments.{has_section_in, segment_names_of, segment_rank, list_if}
 use Rattle.macho_layout.specs.Plans.{Planning, IsPlanOf}
 use Rattle.macho_layout.specs.Keys.{padded}
@@ -51,7 +52,7 @@ name_twice x = sym (name_in_field (name_of x)) ∙ ap name_of (field_twice x) �
     field_twice x = ap (λ (n : List ℕ). n ++ replicate (16 - length n) 0) (cut x)
 
 -- a section's segment in the plan's tables is its name, filled with zeros
-pub segment_key_is : (l : Link) (s : SectionId) → segment_key l s ≡ padded (segment_name l s)
+pub segment_key_is : (l : Link) (s : SectionId) → segment_key l s ≡ padded (segment_name_of (header_at l s))
 segment_key_is l s =
     let x : List ℕ = (header_at l s).segname in
     ap (λ (n : List ℕ). record { 0 = n ++ replicate (16 - length n) 0 })
@@ -96,17 +97,18 @@ unfolding other_segments
 others_are l p plan =
     let mine : filter is_other (section_segments p) ≡ map (segment_key l) (filter (λ s. is_other (segment_key l s)) (segments_once l))
     = ap (filter is_other) (segments_are l p plan) ∙ filter_map_is is_other (segment_key l) (segments_once l) in
-    let theirs : filter (λ name. not (is_known_segment name)) (distinct bytes_eq (map (segment_name l) (carried_of l)))
-    ≡ map (segment_name l) (filter (λ s. not (is_known_segment (segment_name l s))) (segments_once l))
-    = ap (filter (λ name. not (is_known_segment name))) (distinct_map bytes_eq (segment_name l) (carried_of l))
-    ∙ filter_map_is (λ name. not (is_known_segment name)) (segment_name l) (segments_once l) in
-    let same = filter_agree (λ s. is_other (segment_key l s)) (λ s. not (is_known_segment (segment_name l s)))
+    let theirs : filter (λ name. not (is_known_segment name))
+    (distinct bytes_eq (map (λ s. segment_name_of (header_at l s)) (carried_of l)))
+    ≡ map (λ s. segment_name_of (header_at l s)) (filter (λ s. not (is_known_segment (segment_name_of (header_at l s)))) (segments_once l))
+    = ap (filter (λ name. not (is_known_segment name))) (distinct_map bytes_eq (λ s. segment_name_of (header_at l s)) (carried_of l))
+    ∙ filter_map_is (λ name. not (is_known_segment name)) (λ s. segment_name_of (header_at l s)) (segments_once l) in
+    let same = filter_agree (λ s. is_other (segment_key l s)) (λ s. not (is_known_segment (segment_name_of (header_at l s))))
     (λ s. ap (λ (n : List ℕ). not (is_known_segment n)) (twice (header_at l s).segname)) (segments_once l) in
     mine ∙ ap (map (segment_key l)) same
-    ∙ map_agree (segment_key l) (λ s. padded (segment_name l s)) (segment_key_is l)
-    (filter (λ s. not (is_known_segment (segment_name l s))) (segments_once l))
-    ∙ sym (ap (map padded) theirs ∙ map_map padded (segment_name l)
-    (filter (λ s. not (is_known_segment (segment_name l s))) (segments_once l)))
+    ∙ map_agree (segment_key l) (λ s. padded (segment_name_of (header_at l s))) (segment_key_is l)
+    (filter (λ s. not (is_known_segment (segment_name_of (header_at l s)))) (segments_once l))
+    ∙ sym (ap (map padded) theirs ∙ map_map padded (λ s. segment_name_of (header_at l s))
+    (filter (λ s. not (is_known_segment (segment_name_of (header_at l s)))) (segments_once l)))
   where
     map_agree : {X Y : Type 0} (f g : X → Y) → ((x : X) → f x ≡ g x) → (xs : List X) → map f xs ≡ map g xs
     map_agree f g e [] = refl
@@ -164,9 +166,10 @@ bytes_same a = (bytes_eq-Decides a a).1 refl
 pub others_names : (l : Link) → All IsName (other_segments l)
 unfolding other_segments
 others_names l =
-    All-filter (λ name. not (is_known_segment name)) IsName (distinct bytes_eq (map (segment_name l) (carried_of l)))
-    (all_distinct IsName bytes_eq (map (segment_name l) (carried_of l))
-    (All-map IsName (segment_name l) (carried_of l) (λ k d low. name_twice (header_at l (get_or (carried_of l) k d)).segname)))
+    All-filter (λ name. not (is_known_segment name)) IsName (distinct bytes_eq (map (λ s. segment_name_of (header_at l s)) (carried_of l)))
+    (all_distinct IsName bytes_eq (map (λ s. segment_name_of (header_at l s)) (carried_of l))
+    (All-map IsName (λ s. segment_name_of (header_at l s)) (carried_of l)
+    (λ k d low. name_twice (header_at l (get_or (carried_of l) k d)).segname)))
 
 pub flag_names : (P : List ℕ → Type 0) (b : Bool) (n : List ℕ) → P n → All P (list_if b (n ∷ []))
 flag_names P true n h = All-cons P n [] h (All-nil P)
@@ -191,14 +194,15 @@ unfolding other_segments
 others_unknown l =
     All-weaker (λ (n : List ℕ). not (is_known_segment n) ≡ true) (λ (n : List ℕ). is_known_segment n ≡ false)
     (λ n h. not-true (is_known_segment n) h)
-    (filter (λ name. not (is_known_segment name)) (distinct bytes_eq (map (segment_name l) (carried_of l))))
-    (filter_passes (λ name. not (is_known_segment name)) (distinct bytes_eq (map (segment_name l) (carried_of l))))
+    (filter (λ name. not (is_known_segment name)) (distinct bytes_eq (map (λ s. segment_name_of (header_at l s)) (carried_of l))))
+    (filter_passes (λ name. not (is_known_segment name)) (distinct bytes_eq (map (λ s. segment_name_of (header_at l s)) (carried_of l))))
 
 pub others_apart : (l : Link) → AllPairs (λ a b. bytes_eq a b ≡ false) (other_segments l)
 unfolding other_segments
 others_apart l =
     AllPairs-filter (λ a b. bytes_eq a b ≡ false) (λ name. not (is_known_segment name))
-    (distinct bytes_eq (map (segment_name l) (carried_of l))) (distinct_apart bytes_eq (map (segment_name l) (carried_of l)))
+    (distinct bytes_eq (map (λ s. segment_name_of (header_at l s)) (carried_of l)))
+    (distinct_apart bytes_eq (map (λ s. segment_name_of (header_at l s)) (carried_of l)))
 
 abbrev rank_other : Link → List ℕ → ℕ
 rank_other l n = 4 + position_or_len (bytes_eq n) (other_segments l)

@@ -16,12 +16,12 @@ use Rattle.std.proofs.lemmas.List.Sums.{position_or_len_is, passes_at_first}
 use Rattle.macho_records.specs.declared.segments.SegmentName.{SegmentName}
 use Rattle.macho_records.specs.declared.constants.TheConstants.{S_THREAD_LOCAL_REGULAR, S_THREAD_LOCAL_ZEROFILL}
 use Rattle.macho_bytes.specs.Texts.{name_of}
-use Rattle.macho_records.specs.Sections.{is_zerofill_type, has_instructions}
+use Rattle.macho_records.specs.Sections.{is_zerofill_type, has_instructions, segment_name_of}
 use Rattle.macho_model.specs.Links.{Link, SectionId, header_at, carried_of}
 use Rattle.macho_model.specs.Resolution.{chosen_commons}
 use Rattle.macho_model.specs.Targets.{slots_of}
 use Rattle.macho_model.specs.Needs.{distinct}
-use Rattle.macho_model.specs.Segments.{PAGEZERO, TEXT, DATA_CONST, DATA, LINKEDIT, segment_name, is_known_segment, other_segments}
+use Rattle.macho_model.specs.Segments.{PAGEZERO, TEXT, DATA_CONST, DATA, LINKEDIT, is_known_segment, other_segments}
 use Rattle.macho_model.specs.Segments.{has_section_in, segment_rank, list_if}
 use Rattle.macho_layout.specs.declared.spec.OutputName.{OutputName}
 use Rattle.macho_layout.specs.Plans.{Planning, IsPlanOf, MayStand, spec_of}
@@ -144,47 +144,54 @@ data_mapped l is =
     (any_other l DATA)
     (flag_there DATA DATA (has_written l) is refl)
 
-other_mapped : (l : Link) (n : List ℕ) → list_any (λ s. bytes_eq (segment_name l s) n) (carried_of l) ≡ true → is_known_segment n ≡ false
+other_mapped : (l : Link) (n : List ℕ) → list_any (λ s. bytes_eq (segment_name_of (header_at l s)) n) (carried_of l) ≡ true
+    → is_known_segment n ≡ false
     → IsMapped l n
 unfolding other_segments
 other_mapped l n there unknown =
     let t : List ℕ → Bool = λ other. bytes_eq other n in
-    let kept : list_any t (filter (λ name. not (is_known_segment name)) (distinct bytes_eq (map (segment_name l) (carried_of l))))
-    ≡ list_any t (distinct bytes_eq (map (segment_name l) (carried_of l)))
-    = any-filter (λ name. not (is_known_segment name)) t (distinct bytes_eq (map (segment_name l) (carried_of l)))
+    let kept : list_any t (filter (λ name. not (is_known_segment name))
+    (distinct bytes_eq (map (λ s. segment_name_of (header_at l s)) (carried_of l))))
+    ≡ list_any t (distinct bytes_eq (map (λ s. segment_name_of (header_at l s)) (carried_of l)))
+    = any-filter (λ name. not (is_known_segment name)) t (distinct bytes_eq (map (λ s. segment_name_of (header_at l s)) (carried_of l)))
     (λ o out. false_from_ne_true (bytes_eq o n) (λ same. false≢true
     (sym unknown ∙ ap is_known_segment (sym ((bytes_eq-Decides o n).0 same)) ∙ not-false (is_known_segment o) out))) in
     parts l n ∙ fourth_of4 (bytes_eq TEXT n || false) (any_flag n (has_const l) DATA_CONST) (any_flag n (has_written l) DATA)
     (any_other l n) (kept
     ∙ any_distinct bytes_eq t (λ a b same. ap (λ (x : List ℕ). bytes_eq x n) ((bytes_eq-Decides a b).0 same))
-    (map (segment_name l) (carried_of l))
-    ∙ any_map t (segment_name l) (carried_of l) ∙ there)
+    (map (λ s. segment_name_of (header_at l s)) (carried_of l))
+    ∙ any_map t (λ s. segment_name_of (header_at l s)) (carried_of l) ∙ there)
 
 none_of5 : (a b c d e : Bool) → a ≡ false → b ≡ false → c ≡ false → d ≡ false → e ≡ false → (a || b || c || d || e) ≡ false
 none_of5 a b c d e x y z u v = or_from (a || b || c || d) e (or_from (a || b || c) d (or_from (a || b) c (or_from a b x y) z) u) v
 
 -- a carried section's segment is mapped
-pub section_mapped : (l : Link) (s : SectionId) → Contains (carried_of l) s → MayStand (spec_of l s) → IsMapped l (segment_name l s)
+pub section_mapped : (l : Link) (s : SectionId) → Contains (carried_of l) s → MayStand (spec_of l s)
+    → IsMapped l (segment_name_of (header_at l s))
 section_mapped l s there may =
-    let n : List ℕ = segment_name l s in
-    let in_link : (m : List ℕ) → bytes_eq (segment_name l s) m ≡ true → has_section_in l m ≡ true
-    = λ m same. list_any_at (λ s. bytes_eq (segment_name l s) m) (carried_of l) there.0 s there.1
-    (ap (λ (x : SectionId). bytes_eq (segment_name l x) m) there.2 ∙ same) in
+    let n : List ℕ = segment_name_of (header_at l s) in
+    let in_link : (m : List ℕ) → bytes_eq (segment_name_of (header_at l s)) m ≡ true → has_section_in l m ≡ true
+    = λ m same. list_any_at (λ s. bytes_eq (segment_name_of (header_at l s)) m) (carried_of l) there.0 s there.1
+    (ap (λ (x : SectionId). bytes_eq (segment_name_of (header_at l x)) m) there.2 ∙ same) in
     let e = name_in_field (header_at l s).segname in
-    let zero : bytes_eq (segment_name l s) PAGEZERO ≡ false = ap (λ (x : List ℕ). bytes_eq x PAGEZERO) (sym e) ∙ may.not_zero_page in
-    let last : bytes_eq (segment_name l s) LINKEDIT ≡ false = ap (λ (x : List ℕ). bytes_eq x LINKEDIT) (sym e) ∙ may.not_tables in
-    elim (cases_Bool (bytes_eq (segment_name l s) TEXT)) [
-      | inl text ↦ subst (IsMapped l) (sym ((bytes_eq-Decides (segment_name l s) TEXT).0 text)) (text_mapped l)
-      | inr not_text ↦ elim (cases_Bool (bytes_eq (segment_name l s) DATA_CONST)) [
-        | inl const ↦ subst (IsMapped l) (sym ((bytes_eq-Decides (segment_name l s) DATA_CONST).0 const))
+    let zero : bytes_eq (segment_name_of (header_at l s)) PAGEZERO ≡ false = ap (λ (x : List ℕ). bytes_eq x PAGEZERO) (sym e)
+    ∙ may.not_zero_page in
+    let last : bytes_eq (segment_name_of (header_at l s)) LINKEDIT ≡ false = ap (λ (x : List ℕ). bytes_eq x LINKEDIT) (sym e)
+    ∙ may.not_tables in
+    elim (cases_Bool (bytes_eq (segment_name_of (header_at l s)) TEXT)) [
+      | inl text ↦ subst (IsMapped l) (sym ((bytes_eq-Decides (segment_name_of (header_at l s)) TEXT).0 text)) (text_mapped l)
+      | inr not_text ↦ elim (cases_Bool (bytes_eq (segment_name_of (header_at l s)) DATA_CONST)) [
+        | inl const ↦ subst (IsMapped l) (sym ((bytes_eq-Decides (segment_name_of (header_at l s)) DATA_CONST).0 const))
             (const_mapped l (or_left (has_section_in l DATA_CONST) (not (length (slots_of l) == 0)) (in_link DATA_CONST const)))
-        | inr not_const ↦ elim (cases_Bool (bytes_eq (segment_name l s) DATA)) [
-          | inl written ↦ subst (IsMapped l) (sym ((bytes_eq-Decides (segment_name l s) DATA).0 written))
+        | inr not_const ↦ elim (cases_Bool (bytes_eq (segment_name_of (header_at l s)) DATA)) [
+          | inl written ↦ subst (IsMapped l) (sym ((bytes_eq-Decides (segment_name_of (header_at l s)) DATA).0 written))
               (data_mapped l (or_left (has_section_in l DATA) (not (length (chosen_commons l) == 0)) (in_link DATA written)))
-          | inr not_data ↦ other_mapped l (segment_name l s) (in_link (segment_name l s) (bytes_same (segment_name l s)))
-              (none_of5 (bytes_eq (segment_name l s) PAGEZERO) (bytes_eq (segment_name l s) TEXT) (bytes_eq (segment_name l s) DATA_CONST)
-              (bytes_eq (segment_name l s) DATA)
-              (bytes_eq (segment_name l s) LINKEDIT) zero not_text not_const not_data last)
+          | inr not_data ↦ other_mapped l (segment_name_of (header_at l s))
+              (in_link (segment_name_of (header_at l s)) (bytes_same (segment_name_of (header_at l s))))
+              (none_of5 (bytes_eq (segment_name_of (header_at l s)) PAGEZERO) (bytes_eq (segment_name_of (header_at l s)) TEXT)
+              (bytes_eq (segment_name_of (header_at l s)) DATA_CONST)
+              (bytes_eq (segment_name_of (header_at l s)) DATA)
+              (bytes_eq (segment_name_of (header_at l s)) LINKEDIT) zero not_text not_const not_data last)
         ]
       ]
     ]

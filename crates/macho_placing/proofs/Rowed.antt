@@ -9,6 +9,7 @@ use Rattle.std.proofs.lemmas.Bool.{false≢true, cases_lt, cases_eq, eqb-true, e
 use Rattle.std.proofs.lemmas.Bool.Decides.{same_from_decides}
 use Rattle.std.proofs.lemmas.Slice.Eq.{bytes_eq-Decides}
 use Rattle.std.proofs.lemmas.List.{append-nil, map-append, get_or_default}
+use Rattle.std.specs.Prelude.{codes}
 use Rattle.macho_bytes.specs.Texts.{name_of}
 use Rattle.std.proofs.lemmas.Nat.{mul-lt}
 use Rattle.macho_records.specs.Sections.{is_zerofill_type, has_instructions}
@@ -16,7 +17,7 @@ use Rattle.macho_records.specs.declared.constants.TheConstants.{S_THREAD_LOCAL_R
 use Rattle.macho_model.specs.declared.placed.Counts.{Counts}
 use Rattle.macho_model.specs.Links.{Link}
 use Rattle.macho_model.specs.Targets.{slots_of, stubs_of}
-use Rattle.macho_model.specs.Segments.{TEXT, DATA_CONST, DATA, COMMON, OutputKey, same_key, common_key, output_keys_of, list_if}
+use Rattle.macho_model.specs.Segments.{TEXT, DATA_CONST, DATA, OutputKey, same_key, common_key, output_keys_of, list_if}
 use Rattle.macho_model.specs.Placement.{Placed}
 use Rattle.macho_model.specs.OutputSections.{OutputSection, InitOffsets, UnwindInfo, Stubs, Slots, merged_in, is_zeros, is_code}
 use Rattle.macho_model.specs.OutputSections.{flags_of_key, sections_of_text, sections_of_data, sections_of_other, output_sections_in}
@@ -85,11 +86,12 @@ module _ (l : Link) (p : Planning) (counts : Counts) (q : Placed) (plan : IsPlan
       else if same_key common_key key then 7 else 8)
   data_is key facts segment =
       let common : same_output (key_name key) COMMON_NAME ≡ same_key common_key key
-      = ap (λ (b : Bool). b && (same_segment (padded key.name) (padded COMMON) && (key.type == 1))) (fields_agree key.segment DATA)
-      ∙ ap (λ (b : Bool). bytes_eq (name_of key.segment) DATA && (b && (key.type == 1))) (fields_agree key.name COMMON)
-      ∙ ap (λ (n : List ℕ). bytes_eq n DATA && (bytes_eq (name_of key.name) COMMON && (key.type == 1))) facts.is_key.segment
-      ∙ ap (λ (n : List ℕ). bytes_eq key.segment DATA && (bytes_eq n COMMON && (key.type == 1))) facts.is_key.name
-      ∙ and_group (bytes_eq key.segment DATA) (bytes_eq key.name COMMON) (key.type == 1) ∙ key_turn key common_key in
+      = ap (λ (b : Bool). b && (same_segment (padded key.name) (padded (codes "__common")) && (key.type == 1)))
+      (fields_agree key.segment DATA)
+      ∙ ap (λ (b : Bool). bytes_eq (name_of key.segment) DATA && (b && (key.type == 1))) (fields_agree key.name (codes "__common"))
+      ∙ ap (λ (n : List ℕ). bytes_eq n DATA && (bytes_eq (name_of key.name) (codes "__common") && (key.type == 1))) facts.is_key.segment
+      ∙ ap (λ (n : List ℕ). bytes_eq key.segment DATA && (bytes_eq n (codes "__common") && (key.type == 1))) facts.is_key.name
+      ∙ and_group (bytes_eq key.segment DATA) (bytes_eq key.name (codes "__common")) (key.type == 1) ∙ key_turn key common_key in
       ap (λ (s : List ℕ). class_of (record { segment = padded s; name = padded key.name; kind = key.type }) (flags_at key)) segment
       ∙ ap (λ (b : Bool). if not (is_zeros key) then (if key.type == S_THREAD_LOCAL_REGULAR then 5 else 4) else if key.type ==
       S_THREAD_LOCAL_ZEROFILL then 6 else if b then 7 else 8)

@@ -11,12 +11,13 @@ use Rattle.std.proofs.lemmas.List.Elements.{All-nil, All-cons, All-append, All-s
 use Rattle.std.proofs.lemmas.List.Folds.{list_any_at}
 use Rattle.std.proofs.lemmas.List.FromFn.{length-map-range_with_len, get_or-map-range_with_len}
 use Rattle.std.proofs.lemmas.List.Sums.{passes_at_first, prefix_len-le-length}
+use Rattle.macho_records.specs.Sections.{segment_name_of}
 use Rattle.macho_model.specs.declared.placed.Counts.{Counts}
 use Rattle.macho_model.specs.declared.placed.PlacedSection.{PlacedSection}
 use Rattle.macho_model.specs.declared.placed.PlacedCommon.{PlacedCommon}
 use Rattle.macho_model.specs.Links.{Link, SectionId, header_at, carried_of}
 use Rattle.macho_model.specs.Resolution.{chosen_commons}
-use Rattle.macho_model.specs.Segments.{DATA, segment_name, has_section_in, key_of, same_key}
+use Rattle.macho_model.specs.Segments.{DATA, has_section_in, key_of, same_key}
 use Rattle.macho_model.specs.Placement.{Placed, id_of}
 use Rattle.macho_cells.specs.declared.members.Member.{Member}
 use Rattle.macho_cells.specs.declared.members.PlacedMember.{PlacedMember}
@@ -171,11 +172,12 @@ module _ (l : Link) (p : Planning) (counts : Counts) (q : Placed) (plan : IsPlan
       (λ (x : Member). x.cell) at.member in
       (omega (arith, cell, o.0, extents_many), ap (output_at p) cell ∙ o.1)
 
-  pub section_there : (s : PlacedSection) (m : PlacedMember) → SectionAt l p h.starts s m → IsMapped l (segment_name l (id_of s))
+  pub section_there : (s : PlacedSection) (m : PlacedMember) → SectionAt l p h.starts s m
+      → IsMapped l (segment_name_of (header_at l (id_of s)))
   section_there s m at = section_mapped l (id_of s) at.carried at.may
 
   pub section_segment : (s : PlacedSection) (m : PlacedMember) → SectionAt l p h.starts s m → (output_at p m.member.cell).segment ≡ padded
-      (segment_name l (id_of s))
+      (segment_name_of (header_at l (id_of s)))
   section_segment s m at = ap (λ (o : OutputName). o.segment) (section_cell s m at).1 ∙ segment_key_is l (id_of s)
 
   -- the commons' cell
@@ -200,7 +202,7 @@ module _ (l : Link) (p : Planning) (counts : Counts) (q : Placed) (plan : IsPlan
       (omega (arith, low, length-take (length p.sections) h.members)) in
       let at = all k d low in
       let cell = ap (λ (m : PlacedMember). m.member.cell) here in
-      subst MemberStands (sym here) (member_stands (segment_name l (id_of at.0)) k d short
+      subst MemberStands (sym here) (member_stands (segment_name_of (header_at l (id_of at.0))) k d short
       (omega (arith, cell, (section_cell at.0 _ at.1).0))
       (ap (λ (n : ℕ). (output_at p n).segment) (sym cell) ∙ section_segment at.0 _ at.1) (name_twice (header_at l (id_of at.0)).segname)
       (section_there at.0 _ at.1))

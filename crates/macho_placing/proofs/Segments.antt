@@ -14,7 +14,7 @@ use Rattle.std.proofs.lemmas.List.Elements.{All-nil, All-cons, All-head, All-tai
 use Rattle.macho_bytes.specs.Numbers.{rounded_up}
 use Rattle.macho_bytes.specs.Texts.{name_of}
 use Rattle.macho_records.specs.declared.segments.SegmentName.{SegmentName}
-use Rattle.macho_records.specs.Segments.{name_field, text_of, bytes_of}
+use Rattle.macho_records.specs.Segments.{name_field, text_of}
 use Rattle.macho_model.specs.declared.placed.Counts.{Counts}
 use Rattle.macho_model.specs.declared.placed.PlacedSegment.{PlacedSegment}
 use Rattle.macho_model.specs.Lists.{IsNumber, EachNext}
@@ -174,9 +174,10 @@ module _ (l : Link) (p : Planning) (counts : Counts) (q : Placed) (plan : IsPlan
       sym (map_map text_of (λ (s : PlacedSegment). s.name) q.segments) ∙ ap (map text_of) names_are ∙ map_map text_of padded
       (segment_names_of l) ∙ map_whole (segment_names_of l) names_whole
 
-  pub fields_are : map (λ (s : PlacedSegment). bytes_of s.name) q.segments ≡ map name_field (segment_names_of l)
+  pub fields_are : map (λ (s : PlacedSegment). s.name.0) q.segments ≡ map name_field (segment_names_of l)
   fields_are =
-      sym (map_map bytes_of (λ (s : PlacedSegment). s.name) q.segments) ∙ ap (map bytes_of) names_are ∙ map_map bytes_of padded
+      sym (map_map (λ (n : SegmentName). n.0) (λ (s : PlacedSegment). s.name) q.segments) ∙ ap (map (λ (n : SegmentName). n.0)) names_are
+      ∙ map_map (λ (n : SegmentName). n.0) padded
       (segment_names_of l)
 
   base_whole : base_of p % SEGMENT_PAGE ≡ 0

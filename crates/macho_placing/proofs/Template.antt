@@ -17,13 +17,13 @@ use Rattle.std.proofs.lemmas.List.FromFn.{length-map-range_with_len, get_or-map-
 use Rattle.std.proofs.lemmas.List.Kept.{AllPairs-filter}
 use Rattle.macho_records.specs.declared.constants.TheConstants.{S_THREAD_LOCAL_REGULAR, S_THREAD_LOCAL_ZEROFILL, S_THREAD_LOCAL_VARIABLES}
 use Rattle.macho_records.specs.declared.segments.SegmentName.{SegmentName}
-use Rattle.macho_records.specs.Sections.{is_template_type, is_zerofill_type, has_instructions, type_of}
+use Rattle.macho_records.specs.Sections.{is_template_type, is_zerofill_type, has_instructions, type_of, segment_name_of}
 use Rattle.macho_model.specs.declared.placed.Counts.{Counts}
 use Rattle.macho_model.specs.declared.placed.PlacedSection.{PlacedSection}
 use Rattle.macho_model.specs.declared.placed.PlacedCommon.{PlacedCommon}
 use Rattle.macho_model.specs.declared.placed.Range64.{Range64}
 use Rattle.macho_model.specs.Links.{Link, SectionId, header_at, carried_of, is_template, is_carried}
-use Rattle.macho_model.specs.Segments.{TEXT, DATA, segment_name}
+use Rattle.macho_model.specs.Segments.{TEXT, DATA}
 use Rattle.macho_model.specs.Placement.{Placed, Span, AreApart, id_of, section_span, common_span, slot_span, stub_span, range_span}
 use Rattle.macho_model.specs.Placement.{head_span, linkedit_span, linkedit_ranges, spans_with, HoldsSpan, TemplateHolds}
 use Rattle.macho_model.specs.Placement.{template_sections, other_sections}
@@ -204,7 +204,7 @@ module _ (l : Link) (p : Planning) (counts : Counts) (q : Placed) (plan : IsPlan
       (and_parts (is_carried (header_at l (id_of s))) (is_template_type (type_of (header_at l (id_of s)))) template).1 in
       let local = at.may.thread_local (or_left (is_template_type (type_of (header_at l (id_of s))))
       (type_of (header_at l (id_of s)) == S_THREAD_LOCAL_VARIABLES) type) in
-      let name : segment_name l (id_of s) ≡ DATA = sym (name_in_field (header_at l (id_of s)).segname) ∙
+      let name : segment_name_of (header_at l (id_of s)) ≡ DATA = sym (name_in_field (header_at l (id_of s)).segname) ∙
       (bytes_eq-Decides _ DATA).0 local in
       let segment : (output_at p m.member.cell).segment ≡ padded DATA = section_segment l p counts q plan fits h s m at ∙ ap padded name in
       let class : is_template_class ((home_of m).rank % 9) ≡ true

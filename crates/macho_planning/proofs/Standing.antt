@@ -4,12 +4,12 @@
 -- rules of objects. The
 -- name in a plan is that of the header, filled with zeros.
 use Rattle.std.proofs.Common.{◌≡◌, ℕ, ◌||◌, ◌<◌, not, Bool, true, false, List, refl, ap, ◌∙◌, leb-true, ltb-true}
-use Rattle.std.specs.Prelude.{codes, nat_lt, Some, None, if◌then◌else◌}
+use Rattle.std.specs.Prelude.{nat_lt, Some, None, if◌then◌else◌}
 use Rattle.std.specs.Str.{bytes_eq}
-use Rattle.macho_model.proofs.EachBelow.{and_left}
+use Rattle.macho_model.proofs.Carried.{segment_of_carried}
 use Rattle.macho_bytes.specs.Texts.{name_of}
-use Rattle.macho_records.specs.Segments.{is_name, name_field}
-use Rattle.macho_records.specs.Sections.{should_exclude_of, is_debug_of, is_indirect_type, type_of, segment_name_of}
+use Rattle.macho_records.specs.Segments.{name_field}
+use Rattle.macho_records.specs.Sections.{type_of, segment_name_of}
 use Rattle.macho_records.specs.declared.header.SectionHeader.{SectionHeader}
 use Rattle.macho_model.specs.Objects.{section_at, num_sections}
 use Rattle.macho_model.specs.ObjectRules.{is_thread_local}
@@ -22,24 +22,10 @@ use Rattle.macho_layout.specs.Plans.{MayStand}
 use Rattle.macho_layout.proofs.Named.{name_in_field}
 use Rattle.macho_planning.specs.Sections.{spec_for, KeepsRules}
 
--- an excluded section's segment is none of these
-not_excluded : (h : SectionHeader) → is_carried h ≡ true
-    → (bytes_eq (segment_name_of h) PAGEZERO ≡ false) × (bytes_eq (segment_name_of h) LINKEDIT ≡ false)
-not_excluded h carried =
-    let kept : not (should_exclude_of h) ≡ true = and_left _ _ (and_left _ _ carried) in
-    parts (is_debug_of h) (bytes_eq (segment_name_of h) PAGEZERO) (bytes_eq (segment_name_of h) LINKEDIT)
-    (is_name (codes "__LLVM") (segment_name_of h)) (is_indirect_type (type_of h)) kept
-  where
-    parts : (a b c d e : Bool) → not (a || ((b || c) || d) || e) ≡ true → (b ≡ false) × (c ≡ false)
-    parts true b c d e h = cc
-    parts false true c d e h = cc
-    parts false false true d e h = cc
-    parts false false false d e h = (refl, refl)
-
 pub may_stand : (file section : ℕ) (h : SectionHeader) → KeepsRules h → is_carried h ≡ true → MayStand (spec_for file section h)
 may_stand file section h rules carried =
     let name : name_of (name_field h.segname) ≡ segment_name_of h = name_in_field h.segname in
-    let none = not_excluded h carried in
+    let none = segment_of_carried h carried in
     record {
       not_zero_page = ap (λ (n : List ℕ). bytes_eq n PAGEZERO) name ∙ none.0;
       not_tables = ap (λ (n : List ℕ). bytes_eq n LINKEDIT) name ∙ none.1;

@@ -1,15 +1,13 @@
 -- The sizes of a link that are known before addresses are: of load commands, of the parts that the linker makes, of the
 -- tables of `__LINKEDIT`. Each is what the link asks for, so that the room that is kept is never passed.
-use Rattle.std.specs.Prelude.{◌≡◌, ℕ, ◌+◌, ◌*◌, ◌-◌, ◌^◌, ◌==◌, ◌&&◌, not, if◌then◌else◌, List, [], length, map, filter, sum_by, Option, Some, None, slice_get, option_map}
-use Rattle.macho_bytes.specs.Layouts.{size_of}
-use Rattle.macho_model.specs.HeaderLayouts.{symtab_command}
-use Rattle.macho_model.specs.CommandLayouts.{entry_point_command, uuid_command, build_version_command, build_tool_version, dylinker_command, dylib_command, rpath_command, linkedit_data_command}
-use Rattle.macho_model.specs.Sections.{is_zerofill}
+use Rattle.std.specs.Prelude.{◌≡◌, ℕ, ◌+◌, ◌*◌, ◌-◌, ◌^◌, ◌==◌, ◌&&◌, not, if◌then◌else◌, List, [], length, map, filter, sum_by, option_map}
+use Rattle.std.specs.List.{concat}
+use Rattle.std.specs.Str.{bytes_eq}
+use Rattle.macho_model.specs.Sections.{is_zerofill, segment_name_of}
 use Rattle.macho_model.specs.declared.placed.Counts.{Counts}
 use Rattle.macho_model.specs.declared.targets.Target.{Target}
 use Rattle.macho_model.specs.declared.targets.Target.TheVariants as target
 use Rattle.macho_model.specs.Links.{Link, header_at, carried_of}
-use Rattle.macho_model.specs.Symbols.{is_in_segment}
 use Rattle.macho_model.specs.Resolution.{name_at}
 use Rattle.macho_model.specs.Needs.{imports_of, import_library, libraries_needed, PERSONALITY_PLACE}
 use Rattle.macho_model.specs.Targets.{slot_number, target_of_relocation}
@@ -22,29 +20,18 @@ use Rattle.macho_model.specs.Fixups.{import_entries_of, import_format}
 use Rattle.macho_model.specs.Faults.{last_part}
 use Rattle.macho_model.specs.Made.{initializers_of}
 use Rattle.macho_model.specs.Signature.{identifier_text}
-use Rattle.macho_model.specs.Head.{DYLINKER, path_command_size}
+use Rattle.macho_model.specs.Head.{link_commands}
 use Rattle.macho_model.specs.SymbolTable.{table_symbols}
 use Rattle.macho_model.specs.Told.{ToldExport, ExportsAreTold}
 use Rattle.macho_unwind.specs.UnwindInput.{UnwindInput}
 use Rattle.macho_unwind.specs.Bounds.{unwind_bound_of}
 use Rattle.macho_trie.specs.Exports.{Exported, as_value, as_reexport, REEXPORT}
 use Rattle.macho_promise.specs.TrieSays.{IsTrieText}
+use Rattle.macho_promise.specs.UnwindSays.{relocation_of}
 
--- an executable's entry and dynamic linker, or a library's own name
-abbrev pub own_commands_size : Link → ℕ
-own_commands_size l =
-    if l.executable then size_of entry_point_command + path_command_size (size_of dylinker_command) DYLINKER
-    else path_command_size (size_of dylib_command) l.install_name
-
-abbrev pub versions_size : Option (ℕ × ℕ) → ℕ
-versions_size None = 0
-versions_size (Some versions) = size_of build_version_command + size_of build_tool_version
-
--- the load commands but the segments': fixups, trie and signature have one of the same record each
+-- the load commands but the segments', whatever UUID and entry they say: those of a link, and four of tables, of 16, 16, 24 and 16 bytes
 unfoldable pub commands_size : Link → ℕ
-commands_size l =
-    own_commands_size l + size_of uuid_command + versions_size l.versions + sum_by (path_command_size (size_of dylib_command)) (libraries_needed l)
-    + sum_by (path_command_size (size_of rpath_command)) l.rpaths + 3 * size_of linkedit_data_command + size_of symtab_command
+commands_size l = length (concat (link_commands l [] 0)) + 72
 
 -- the room for longer names that is asked for: 1024 bytes for each path that names a library or is searched
 abbrev pub padding_size : Link → ℕ
@@ -54,23 +41,20 @@ padding_size l = if l.headerpad then 1024 * (length (libraries_needed l) + lengt
 abbrev pub unwind_input : Link → EntryId → UnwindInput
 unwind_input l d = record {
   encoding = (unwind_entry l d.of_section d.entry).encoding;
-  personality =
-      option_map (λ r. slot_number l (target_of_relocation l d.of_section r)) (slice_get (relocations_in_entry l d.of_section d.entry PERSONALITY_PLACE) 0);
+  personality = option_map (λ r. slot_number l (target_of_relocation l d.of_section r)) (relocation_of l d PERSONALITY_PLACE);
   lsda = not (length (relocations_in_entry l d.of_section d.entry LSDA_PLACE) == 0);
 }
 
 -- the starts of functions are at most so far apart: they stand in sections of `__TEXT` with bytes in the file
 abbrev pub text_span : Link → ℕ
-text_span l = sum_by (section_cost l) (filter (λ s. is_in_segment TEXT (header_at l s) && not (is_zerofill (header_at l s))) (carried_of l))
+text_span l =
+    sum_by (section_cost l)
+    (filter (λ s. bytes_eq (segment_name_of (header_at l s)) TEXT && not (is_zerofill (header_at l s))) (carried_of l))
 
 abbrev pub unwind_size : Link → ℕ
 unwind_size l = if length (entries_of_link l) == 0 then 0 else unwind_bound_of (map (unwind_input l) (entries_of_link l)) (text_span l)
 
--- a text with the NUL behind it
-abbrev pub text_size : List ℕ → ℕ
-text_size text = length text + 1
-
--- The sizes of a link whose exports trie has a size. The strings of the symbol table begin with a NUL.
+-- The sizes of a link whose exports trie has a size. Each name has a NUL behind it, and the strings of the symbol table begin with one.
 unfoldable pub counts_with : Link → ℕ → Counts
 counts_with l trie = record {
   commands = commands_size l;
@@ -79,12 +63,16 @@ counts_with l trie = record {
   unwind = unwind_size l;
   imports = length (import_entries_of l);
   import_size = import_entry_size (import_format l);
-  name_bytes = sum_by text_size (imports_of l);
+  name_bytes = sum_by (λ name. length name + 1) (imports_of l);
   trie = trie;
   symbols = length (table_symbols l);
-  strings = 1 + sum_by (λ s. text_size (name_at l s)) (table_symbols l);
+  strings = 1 + sum_by (λ s. length (name_at l s) + 1) (table_symbols l);
   identifier = length (identifier_text (last_part l.output));
 }
+
+-- the bytes of a name with its NUL; no definition above says it by this name, but proofs do
+abbrev pub text_size : List ℕ → ℕ
+text_size text = length text + 1
 
 -- what keeps the place of an exported name in the trie: the greatest address, or the number of its library
 abbrev pub kept_for : Link → List ℕ → Target → Exported

@@ -18,7 +18,7 @@ use Rattle.std.proofs.lemmas.List.Elements.{All-nil, All-cons}
 use Rattle.macho_model.specs.declared.placed.PlacedSegment.{PlacedSegment}
 use Rattle.macho_model.specs.Links.{Link}
 use Rattle.macho_model.specs.Placement.{Placed, Span, AreApart, IsInOrder, Follows}
-use Rattle.macho_model.specs.Addresses.{has_in_file, offset_in_file}
+use Rattle.macho_model.specs.Addresses.{offset_in_file}
 use Rattle.macho_model.specs.Zeros.{in_file}
 use Rattle.macho_model.specs.Lists.{EachNext}
 use Rattle.macho_targets.proofs.Above.{next_follows}
@@ -136,7 +136,7 @@ pub offset_is : (l : Link) (p : Placed) (s : PlacedSegment) (a : ℕ) → IsInOr
 unfolding offset_in_file
 offset_is l p s a order has from to =
     let f : PlacedSegment → ℕ = λ u. u.file_offset + (a - u.address) in
-    let found = first_passes (has_in_file a) f p.segments s has
+    let found = first_passes (λ (t : PlacedSegment). nat_le t.address a && nat_lt a (t.address + t.file_size)) f p.segments s has
     (both_hold _ _ (le-leb s.address a from) (lt-ltb a (s.address + s.file_size) to)) in
     let t : PlacedSegment = found.0 in
     let t_from : t.address ≤ a = leb-true t.address a (and_left _ _ found.2) in

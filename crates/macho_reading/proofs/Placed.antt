@@ -9,6 +9,7 @@ use Rattle.std.specs.List.{flat_map, range_with_len}
 use Rattle.std.proofs.lemmas.Bool.{eqb-true}
 use Rattle.std.proofs.lemmas.Bool.Decides.{nat_tests, Decides-eqb}
 use Rattle.std.proofs.lemmas.List.Elements.{Contains-append_left, Contains-append_right}
+use Rattle.macho_records.specs.Sections.{should_exclude_of}
 use Rattle.macho_structs.specs.declared.relocations.RelocationInfo.{RelocationInfo}
 use Rattle.macho_records.specs.declared.constants.TheConstants.{ARM64_RELOC_ADDEND, ARM64_RELOC_UNSIGNED}
 use Rattle.macho_records.specs.declared.header.SectionHeader.{SectionHeader}
@@ -17,7 +18,7 @@ use Rattle.macho_model.specs.Objects.{num_sections, section_at, relocation_at}
 use Rattle.macho_model.specs.Grammar.{IsObject}
 use Rattle.macho_model.proofs.ObjectLaws.{object_keeps}
 use Rattle.macho_model.specs.ExportLists.{plain_entries}
-use Rattle.macho_model.specs.Links.{Input, Link, SectionId, section_id, object_of, header_at, is_consumed, is_initializers, is_unwind_entries, sections_of, carried_of}
+use Rattle.macho_model.specs.Links.{Input, Link, SectionId, section_id, object_of, header_at, is_initializers, is_unwind_entries, sections_of, carried_of}
 use Rattle.macho_model.specs.Needs.{ByInitializer, ByPersonality, ByName, uses_of, carried_uses, initializer_uses, personality_uses, initializer_sections, unwind_sections, is_imported, relocation_in, relocations_of, relocations_at}
 use Rattle.macho_model.specs.Consumed.{is_plain_pointer}
 use Rattle.macho_names.specs.Kept.{FileRows, Keeps}
@@ -94,7 +95,8 @@ in_walk l Initializers s r there is lt placed =
     let second = flat_map (initializer_uses l) (initializer_sections l) in
     let third = flat_map (personality_uses l) (unwind_sections l) in
     let last = map ByName (filter (is_imported l) (plain_entries l.export_lists)) in
-    let listed = to_filter (λ (t : SectionId). is_consumed (header_at l t) && is_initializers (header_at l t)) (sections_of l) s there is in
+    let listed = to_filter (λ (t : SectionId). not (should_exclude_of (header_at l t)) && is_initializers (header_at l t))
+    (sections_of l) s there is in
     let one = to_joined (initializer_uses l) (initializer_sections l) s (ByInitializer s r) listed (by_initializer l s r lt placed) in
     Contains-append_left ((first ++ second) ++ third) last (ByInitializer s r)
     (Contains-append_left (first ++ second) third (ByInitializer s r) (Contains-append_right first second (ByInitializer s r) one))
@@ -103,7 +105,8 @@ in_walk l Entries s r there is lt placed =
     let second = flat_map (initializer_uses l) (initializer_sections l) in
     let third = flat_map (personality_uses l) (unwind_sections l) in
     let last = map ByName (filter (is_imported l) (plain_entries l.export_lists)) in
-    let listed = to_filter (λ (t : SectionId). is_consumed (header_at l t) && is_unwind_entries (header_at l t)) (sections_of l) s there is in
+    let listed = to_filter (λ (t : SectionId). not (should_exclude_of (header_at l t)) && is_unwind_entries (header_at l t))
+    (sections_of l) s there is in
     let one = to_joined (personality_uses l) (unwind_sections l) s (ByPersonality s r) listed (by_personality l s r lt placed) in
     Contains-append_left ((first ++ second) ++ third) last (ByPersonality s r)
     (Contains-append_right (first ++ second) third (ByPersonality s r) one)

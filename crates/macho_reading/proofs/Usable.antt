@@ -2,7 +2,7 @@
 --
 -- That it is such a pointer is a rule of its section. By the rules of objects the symbol's number is one of the object, and of each
 -- symbol of an object a row is kept. The link that is spoken of here has the inputs of which views and rows of symbols are.
-use Rattle.std.proofs.Common.{◌≡◌, ℕ, ◌+◌, ◌*◌, ◌/◌, ◌^◌, ◌<◌, ◌≤◌, nat_le, nat_lt, ◌&&◌, ◌||◌, ◌==◌, Bool, true, false, List, [], ◌∷◌}
+use Rattle.std.proofs.Common.{◌≡◌, ℕ, ◌+◌, ◌*◌, ◌/◌, ◌^◌, ◌<◌, ◌≤◌, nat_le, nat_lt, ◌&&◌, ◌||◌, ◌==◌, Bool, true, false, List, [], ◌∷◌, not}
 use Rattle.std.proofs.Common.{length, map, get_or, Option, Some, None, is_none, refl, sym, ap, ◌∙◌, subst, arith, All, if◌then◌else◌}
 use Rattle.std.specs.Prelude.{Contains, option_map}
 use Rattle.std.specs.List.{range_with_len, slice_get}
@@ -10,21 +10,22 @@ use Rattle.std.proofs.lemmas.Bool.Decides.{nat_tests, Decides-eqb}
 use Rattle.std.proofs.lemmas.List.{length-map, get_or-map}
 use Rattle.std.proofs.lemmas.List.FromFn.{length-map-range_with_len}
 use Rattle.std.proofs.lemmas.List.Elements.{All-map}
+use Rattle.macho_model.specs.steps.RecordTests.{relocation_number_exists}
+use Rattle.macho_records.specs.Sections.{should_exclude_of}
 use Rattle.macho_object.specs.Views.{FileBytes}
 use Rattle.macho_model.specs.declared.rules.UnwindRule.TheVariants.{U2, U7}
 use Rattle.macho_model.specs.Objects.{num_sections, num_symbols, relocation_at}
-use Rattle.macho_model.specs.ObjectRules.{relocation_number_exists}
 use Rattle.macho_records.specs.declared.constants.TheConstants.{ARM64_RELOC_ADDEND}
-use Rattle.macho_model.specs.Links.{Input, Object, Link, SectionId, no_input, object_bytes, object_of, header_at, is_consumed}
+use Rattle.macho_model.specs.Links.{Input, Object, Link, SectionId, no_input, object_bytes, object_of, header_at}
 use Rattle.macho_model.specs.Links.{is_initializers, is_unwind_entries, sections_of}
 use Rattle.macho_model.specs.Needs.{relocation_in, relocations_of, relocations_at, initializer_sections, unwind_sections, PERSONALITY_PLACE}
-use Rattle.macho_model.specs.Consumed.{entry_count, entries_of_link, is_plain_pointer, initializer_relocation_fits, relocations_in_entry}
-use Rattle.macho_model.specs.Consumed.{unwind_relocation_fits}
+use Rattle.macho_model.specs.Consumed.{entry_count, entries_of_link, is_plain_pointer, relocations_in_entry}
 use Rattle.macho_names.specs.Kept.{FileRows, Keeps, no_file, kept_of, row_of_symbol, rows_of_object}
 use Rattle.macho_symbols.specs.Kept.{ResolvedRows, IsResolved}
 use Rattle.macho_needs.proofs.Using.{link_with}
 use Rattle.macho_promise.specs.UnwindSays.{relocation_of}
 use Rattle.macho_model.specs.Grammar.{ObjectsAreRead}
+use Rattle.macho_model.proofs.Words.{initializer_relocation_fits}
 use Rattle.macho_parts.specs.Views.{object_view, views_of}
 use Rattle.macho_survey.specs.Surveys.{AreOfInputs}
 use Rattle.macho_survey.proofs.Viewing.{view_says, file_inside}
@@ -33,6 +34,7 @@ use Rattle.macho_consumed.specs.Rows.{initializer_row, initializer_rows_in, init
 use Rattle.macho_consumed.specs.Told.{InitializersKeepRules, EntriesKeepRules}
 use Rattle.macho_consumed.proofs.Members.{here, in_filter, to_filter, in_range, all_joined, all_there}
 use Rattle.macho_consumed.proofs.Tests.{left_of, right_of, passes}
+use Rattle.macho_consumed.specs.steps.Entries.{unwind_relocation_fits}
 use Rattle.macho_standing.proofs.Inputs.{section_of_file}
 use Rattle.macho_reading.specs.steps.Rows.{IsWhole, IsSymbolPointer, IsUsable, IsUsableIf, IsUsableEntry}
 
@@ -116,7 +118,8 @@ one_initializer : (l : Link) (symbols : ResolvedRows) (s : SectionId) (slot r : 
     → Contains (relocations_at l s (8 * slot)) r → IsUsable symbols (initializer_row l s r)
 unfolding initializer_sections
 one_initializer l symbols s slot r read keeps rules there below at =
-    let listed = (in_filter (λ (t : SectionId). is_consumed (header_at l t) && is_initializers (header_at l t)) (sections_of l) s there).1 in
+    let listed = (in_filter (λ (t : SectionId). not (should_exclude_of (header_at l t)) && is_initializers (header_at l t))
+    (sections_of l) s there).1 in
     let among = (in_filter (λ (q : ℕ). (relocation_in l s q).r_address == 8 * slot) (relocations_of l s) r at).1 in
     let inside : 8 * slot + 8 ≤ (header_at l s).size = omega (arith, below) in
     let fits = rules.slots s slot there inside in
@@ -147,7 +150,8 @@ one_personality : (l : Link) (symbols : ResolvedRows) (s : SectionId) (e r : ℕ
     → Contains (relocations_in_entry l s e PERSONALITY_PLACE) r → IsSymbolPointer symbols s.file (relocation_in l s r)
 unfolding unwind_sections
 one_personality l symbols s e r read keeps rules there below at =
-    let listed = (in_filter (λ (t : SectionId). is_consumed (header_at l t) && is_unwind_entries (header_at l t)) (sections_of l) s there).1 in
+    let listed = (in_filter (λ (t : SectionId). not (should_exclude_of (header_at l t)) && is_unwind_entries (header_at l t))
+    (sections_of l) s there).1 in
     let among = in_filter (λ (q : ℕ). (relocation_in l s q).r_address == 32 * e + PERSONALITY_PLACE) (relocations_of l s) r at in
     let place = (Decides-eqb (relocation_in l s r).r_address (32 * e + PERSONALITY_PLACE)).0 among.0 in
     let of_entry : ((relocation_in l s r).r_address / 32 == e) ≡ true = (Decides-eqb ((relocation_in l s r).r_address / 32) e).1 (omega (arith, place)) in

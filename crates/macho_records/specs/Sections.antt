@@ -1,20 +1,17 @@
 -- Sections: what the flags and names of a section header say (mach-o/loader.h).
-use Rattle.std.specs.Prelude.{ℕ, ◌+◌, ◌-◌, ◌%◌, ◌==◌, Bool, false, not, ◌&&◌, ◌||◌, List, codes, bit_or, Option, Some, None}
+use Rattle.std.specs.Prelude.{ℕ, ◌+◌, ◌-◌, ◌%◌, ◌==◌, Bool, false, not, ◌&&◌, ◌||◌, List, [], ◌∷◌, codes, bytes_eq, bit_or, Option, Some, None}
+use Rattle.std.specs.List.{list_any}
 use Rattle.macho_bytes.specs.Texts.{name_of}
 use Rattle.macho_records.specs.declared.constants.TheConstants.{S_ZEROFILL, S_GB_ZEROFILL, S_NON_LAZY_SYMBOL_POINTERS, S_LAZY_SYMBOL_POINTERS, S_SYMBOL_STUBS, S_LAZY_DYLIB_SYMBOL_POINTERS, S_THREAD_LOCAL_REGULAR, S_THREAD_LOCAL_ZEROFILL, S_THREAD_LOCAL_VARIABLE_POINTERS, S_ATTR_PURE_INSTRUCTIONS, S_ATTR_SOME_INSTRUCTIONS, S_ATTR_DEBUG}
 use Rattle.macho_records.specs.declared.header.SectionHeader.{SectionHeader}
 use Rattle.macho_records.specs.declared.sections.SectionAttributes.{SectionAttributes}
 use Rattle.macho_records.specs.declared.segments.SegmentName.{SegmentName}
 use Rattle.macho_records.specs.Flags.{has_any}
-use Rattle.macho_records.specs.Segments.{is_name, is_writable_segment, text_of}
-
--- the type of a section: the low byte of its flags
-abbrev pub section_type : ℕ → ℕ
-section_type word = word % 256
+use Rattle.macho_records.specs.Segments.{is_writable_segment, text_of}
 
 -- the attributes of a section: its flags without the type
 abbrev pub attributes_in : ℕ → ℕ
-attributes_in word = word - section_type word
+attributes_in word = word - word % 256
 
 -- zeros that have no bytes in the file
 abbrev pub is_zerofill_type : ℕ → Bool
@@ -23,12 +20,6 @@ is_zerofill_type t = t == S_ZEROFILL || t == S_GB_ZEROFILL || t == S_THREAD_LOCA
 -- the first values of thread-local variables
 abbrev pub is_template_type : ℕ → Bool
 is_template_type t = t == S_THREAD_LOCAL_REGULAR || t == S_THREAD_LOCAL_ZEROFILL
-
--- pointers and stubs that the linker makes itself, through the table of indirect symbols
-abbrev pub is_indirect_type : ℕ → Bool
-is_indirect_type t =
-    t == S_NON_LAZY_SYMBOL_POINTERS || t == S_LAZY_SYMBOL_POINTERS || t == S_SYMBOL_STUBS
-    || t == S_LAZY_DYLIB_SYMBOL_POINTERS || t == S_THREAD_LOCAL_VARIABLE_POINTERS
 
 -- instructions
 abbrev pub has_instructions : ℕ → Bool
@@ -42,8 +33,9 @@ section_name_of s = name_of s.sectname
 abbrev pub segment_name_of : SectionHeader → List ℕ
 segment_name_of s = name_of s.segname
 
+-- the type of a section: the low byte of its flags
 abbrev pub type_of : SectionHeader → ℕ
-type_of s = section_type s.flags
+type_of s = s.flags % 256
 
 abbrev pub is_zerofill : SectionHeader → Bool
 is_zerofill s = is_zerofill_type (type_of s)
@@ -51,20 +43,14 @@ is_zerofill s = is_zerofill_type (type_of s)
 abbrev pub is_writable_of : SectionHeader → Bool
 is_writable_of s = is_writable_segment (segment_name_of s)
 
-abbrev pub is_executable_of : SectionHeader → Bool
-is_executable_of s = has_instructions s.flags
-
--- debug information that isn't compact unwind information
-abbrev pub is_debug_of : SectionHeader → Bool
-is_debug_of s = has_any S_ATTR_DEBUG s.flags && not (is_name (codes "__compact_unwind") (section_name_of s))
-
--- a segment of the linker's own
-abbrev pub is_excluded_segment : List ℕ → Bool
-is_excluded_segment name = is_name (codes "__PAGEZERO") name || is_name (codes "__LINKEDIT") name || is_name (codes "__LLVM") name
-
--- a section of an object that the output does not carry
+-- A section of an object that is left out: debug information other than compact unwind entries; a section in `__PAGEZERO` or `__LINKEDIT`,
+-- which the linker makes, or in `__LLVM` (bitcode); pointers and stubs that the linker makes itself, through the table of indirect symbols.
 abbrev pub should_exclude_of : SectionHeader → Bool
-should_exclude_of s = is_debug_of s || is_excluded_segment (segment_name_of s) || is_indirect_type (type_of s)
+should_exclude_of s =
+    (has_any S_ATTR_DEBUG s.flags && not (bytes_eq (section_name_of s) (codes "__compact_unwind")))
+    || list_any (bytes_eq (segment_name_of s)) (codes "__PAGEZERO" ∷ codes "__LINKEDIT" ∷ codes "__LLVM" ∷ [])
+    || list_any (λ t. type_of s == t)
+    (S_NON_LAZY_SYMBOL_POINTERS ∷ S_LAZY_SYMBOL_POINTERS ∷ S_SYMBOL_STUBS ∷ S_LAZY_DYLIB_SYMBOL_POINTERS ∷ S_THREAD_LOCAL_VARIABLE_POINTERS ∷ [])
 
 -- a section in no segment isn't writable
 abbrev pub is_writable_in : Option SegmentName → Bool
@@ -73,7 +59,7 @@ is_writable_in (Some n) = is_writable_segment (text_of n)
 
 -- the attributes of a section with these flags
 abbrev pub attributes_of : ℕ → Option SegmentName → SectionAttributes
-attributes_of word segment = record { ty = section_type word; attributes = attributes_in word; writable = is_writable_in segment }
+attributes_of word segment = record { ty = word % 256; attributes = attributes_in word; writable = is_writable_in segment }
 
 -- the attributes of both, under the type of the first
 abbrev pub merged : SectionAttributes → SectionAttributes → SectionAttributes

@@ -1,8 +1,7 @@
--- Symbols: what the fields of an entry of the symbol table say (mach-o/nlist.h).
-use Rattle.std.specs.Prelude.{ℕ, ◌^◌, ◌-◌, ◌==◌, nat_eq, Bool, not, ◌&&◌, if◌then◌else◌, List, codes, bit_and, bit_or, Option, Some, None}
-use Rattle.std.specs.List.{starts_with}
+-- Symbols: what the fields of an entry of the symbol table say (mach-o/nlist.h). A debugging entry (stab) has no type, and isn't global.
+use Rattle.std.specs.Prelude.{ℕ, ◌^◌, ◌-◌, ◌==◌, Bool, not, ◌&&◌, if◌then◌else◌, bit_and, bit_or, Option, Some, None}
 use Rattle.macho_bytes.specs.Numbers.{bits, rounded_up}
-use Rattle.macho_records.specs.declared.constants.TheConstants.{N_STAB, N_PEXT, N_TYPE, N_EXT, N_UNDF, N_ABS, N_SECT, N_WEAK_DEF}
+use Rattle.macho_records.specs.declared.constants.TheConstants.{N_STAB, N_PEXT, N_TYPE, N_EXT, N_UNDF, N_WEAK_DEF}
 use Rattle.macho_records.specs.declared.symbols.SymtabEntry.{SymtabEntry}
 use Rattle.macho_records.specs.declared.symbols.CommonSymbol.{CommonSymbol}
 use Rattle.macho_records.specs.declared.symbols.Visibility.{Visibility}
@@ -13,26 +12,13 @@ use Rattle.macho_records.specs.Flags.{has_any}
 abbrev pub is_stab_of : SymtabEntry → Bool
 is_stab_of s = has_any N_STAB s.n_type
 
--- where it is defined: `N_UNDF`, `N_ABS`, `N_SECT` or another
-abbrev pub symbol_type_of : SymtabEntry → ℕ
-symbol_type_of s = bit_and s.n_type N_TYPE
+-- a symbol of a type: `N_UNDF` where it is undefined or a common, `N_ABS` for a value of its own, `N_SECT` in a section
+abbrev pub has_type : ℕ → SymtabEntry → Bool
+has_type type s = not (is_stab_of s) && (bit_and s.n_type N_TYPE == type)
 
-abbrev pub is_undefined_of : SymtabEntry → Bool
-is_undefined_of s = not (is_stab_of s) && symbol_type_of s == N_UNDF
-
-abbrev pub is_absolute_of : SymtabEntry → Bool
-is_absolute_of s = symbol_type_of s == N_ABS
-
--- defined in a section
-abbrev pub is_defined_of : SymtabEntry → Bool
-is_defined_of s = symbol_type_of s == N_SECT
-
--- seen by other files
-abbrev pub is_external_of : SymtabEntry → Bool
-is_external_of s = has_any N_EXT s.n_type
-
-abbrev pub is_local_of : SymtabEntry → Bool
-is_local_of s = not (is_external_of s)
+-- a symbol that other files see
+abbrev pub is_global : SymtabEntry → Bool
+is_global s = not (is_stab_of s) && has_any N_EXT s.n_type
 
 -- seen by this link alone
 abbrev pub is_hidden_of : SymtabEntry → Bool
@@ -47,7 +33,7 @@ visibility_of s = if is_hidden_of s then Hidden else Default
 
 -- a common: undefined, external, and with a size
 abbrev pub is_common_of : SymtabEntry → Bool
-is_common_of s = is_undefined_of s && is_external_of s && not (s.n_value == 0)
+is_common_of s = has_type N_UNDF s && has_any N_EXT s.n_type && not (s.n_value == 0)
 
 -- the alignment of a common, as an exponent of 2: bits 8 to 11 of `n_desc`
 abbrev pub common_exponent_of : SymtabEntry → ℕ
@@ -59,10 +45,6 @@ common_size_of s = rounded_up (2 ^ common_exponent_of s) s.n_value
 
 abbrev pub common_of : SymtabEntry → Option CommonSymbol
 common_of s = if is_common_of s then Some (record { size = common_size_of s; align = common_exponent_of s }) else None
-
--- a label that assemblers make for themselves
-abbrev pub is_default_strippable_of : SymtabEntry → List ℕ → Bool
-is_default_strippable_of s name = is_local_of s && starts_with nat_eq name (codes "ltmp")
 
 -- the symbol with `N_PEXT` set or cleared
 abbrev pub with_hidden_of : SymtabEntry → Bool → SymtabEntry

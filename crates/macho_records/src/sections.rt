@@ -2,9 +2,12 @@
 //!
 //! The flags of a section are its type in the low byte and attributes above (`mach-o/loader.h`): `0x80000400` is
 //! regular and has only instructions.
-ghost use Rattle.std.specs.Prelude.{◌≡◌, true, false, Bool};
+ghost use Rattle.std.specs.Prelude.{◌≡◌, ◌==◌, ◌%◌, ◌&&◌, not, true, false, Bool, List, [], ◌∷◌, codes, bytes_eq};
+ghost use Rattle.std.specs.List.{list_any};
+ghost use Rattle.macho_records.specs.Flags.{has_any};
+ghost use Rattle.macho_records.specs.declared.constants.TheConstants.{S_NON_LAZY_SYMBOL_POINTERS, S_LAZY_SYMBOL_POINTERS, S_SYMBOL_STUBS, S_LAZY_DYLIB_SYMBOL_POINTERS, S_THREAD_LOCAL_VARIABLE_POINTERS, S_ATTR_DEBUG};
 ghost use Rattle.macho_bytes.specs.Texts.{name_of};
-ghost use Rattle.macho_records.specs.Sections.{section_type, is_zerofill, is_zerofill_type, is_template_type, is_indirect_type, is_excluded_segment, is_debug_of, has_instructions, is_writable_of, is_executable_of, should_exclude_of, attributes_of, merged, flags_of};
+ghost use Rattle.macho_records.specs.Sections.{is_zerofill, is_zerofill_type, is_template_type, has_instructions, section_name_of, is_writable_of, should_exclude_of, attributes_of, merged, flags_of};
 
 use crate::constants::{
     S_ATTR_DEBUG, S_ATTR_PURE_INSTRUCTIONS, S_ATTR_SOME_INSTRUCTIONS, S_GB_ZEROFILL,
@@ -71,7 +74,7 @@ impl SectionHeader {
 
     /// Whether it has instructions.
     pub fn is_executable(&self) -> bool
-        ensures { result ≡ is_executable_of self.now }
+        ensures { result ≡ has_instructions self.now.flags }
     {
         has_instructions(self.flags)
     }
@@ -94,14 +97,14 @@ impl SectionHeader {
     }
 
     fn is_debug(&self) -> bool
-        ensures { result ≡ is_debug_of self.now }
+        ensures { result ≡ (has_any S_ATTR_DEBUG self.now.flags && not (bytes_eq (section_name_of self.now) (codes "__compact_unwind"))) }
     {
         self.flags & S_ATTR_DEBUG != 0 && !is_named(&self.sectname, b"__compact_unwind")
     }
 }
 
 fn is_excluded_segment(field: &[u8]) -> bool
-    ensures { result ≡ is_excluded_segment (name_of field.now) }
+    ensures { result ≡ list_any (bytes_eq (name_of field.now)) (codes "__PAGEZERO" ∷ codes "__LINKEDIT" ∷ codes "__LLVM" ∷ []) }
 {
     let name = name_bytes(field);
     name == b"__PAGEZERO".as_slice()
@@ -117,7 +120,9 @@ pub fn is_zerofill_type(typ: u32) -> bool
 }
 
 fn is_indirect_type(typ: u32) -> bool
-    ensures { result ≡ is_indirect_type typ }
+    ensures { result
+        ≡ list_any (λ t. typ == t)
+        (S_NON_LAZY_SYMBOL_POINTERS ∷ S_LAZY_SYMBOL_POINTERS ∷ S_SYMBOL_STUBS ∷ S_LAZY_DYLIB_SYMBOL_POINTERS ∷ S_THREAD_LOCAL_VARIABLE_POINTERS ∷ []) }
 {
     typ == S_NON_LAZY_SYMBOL_POINTERS
         || typ == S_LAZY_SYMBOL_POINTERS
@@ -147,7 +152,7 @@ impl SectionFlags {
 
     /// The type, the low byte.
     pub fn typ(&self) -> u32
-        ensures { result ≡ section_type self.now.0 }
+        ensures { result ≡ self.now.0 % 256 }
     {
         self.0 & SECTION_TYPE
     }

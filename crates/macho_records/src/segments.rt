@@ -3,10 +3,10 @@
 //! A name fills 16 bytes with zeros (`mach-o/loader.h`):
 //!
 //!     5f 5f 4c 49 4e 4b 45 44 49 54 00 00 00 00 00 00   `__LINKEDIT`
-ghost use Rattle.std.specs.Prelude.{◌≡◌, ◌≤◌, true, false, length};
+ghost use Rattle.std.specs.Prelude.{◌≡◌, ◌≤◌, true, false, length, bytes_eq};
 ghost use Rattle.macho_records.specs.Flags.{has_any};
 ghost use Rattle.macho_records.specs.Texts.{ascii_output};
-ghost use Rattle.macho_records.specs.Segments.{bytes_of, text_of, name_field, is_name, is_writable_segment, is_always_kept, order_key_of, segment_def_of};
+ghost use Rattle.macho_records.specs.Segments.{text_of, name_field, is_writable_segment, is_always_kept, order_key_of, segment_def_of};
 
 use crate::constants::{SG_READ_ONLY, VM_PROT_EXECUTE, VM_PROT_READ, VM_PROT_WRITE};
 use crate::names::{is_named, name_bytes, write_bytes};
@@ -33,7 +33,7 @@ impl SegmentName {
     /// The name of at most 16 bytes; bytes from the first NUL on become zero.
     pub fn from_bytes(name: &[u8]) -> SegmentName
         requires { length name.now ≤ 16 }
-        ensures { bytes_of result ≡ name_field name.now }
+        ensures { result.0 ≡ name_field name.now }
     {
         let text = name_bytes(name);
         let mut bytes = [0; 16];
@@ -43,7 +43,7 @@ impl SegmentName {
 
     /// The 16 bytes.
     pub fn into_bytes(self) -> [u8; 16]
-        ensures { result ≡ bytes_of self }
+        ensures { result ≡ self.0 }
     {
         self.0
     }
@@ -56,7 +56,7 @@ impl SegmentName {
     }
 
     fn is(self, name: &[u8]) -> bool
-        ensures { result ≡ is_name name.now (text_of self) }
+        ensures { result ≡ bytes_eq (text_of self) name.now }
     {
         is_named(&self.0, name)
     }

@@ -7,12 +7,15 @@
 //!     01            n_sect
 //!     00 00         n_desc
 //!     00 .. 00      n_value, 8 bytes
-ghost use Rattle.std.specs.Prelude.{◌≡◌, ◌+◌, ◌^◌, ◌<◌, ◌≤◌, ◌==◌, ◌-◌, bit_and, true, false, not, length, IsTrue, if◌then◌else◌};
+ghost use Rattle.std.specs.Prelude.{◌≡◌, ◌+◌, ◌^◌, ◌<◌, ◌≤◌, ◌==◌, ◌-◌, bit_and, true, false, not, length, IsTrue, if◌then◌else◌, ◌&&◌, nat_eq, codes};
+ghost use Rattle.std.specs.List.{starts_with};
 ghost use Rattle.macho_bytes.specs.Numbers.{rounded_up};
 ghost use Rattle.macho_bytes.specs.Texts.{put};
 ghost use Rattle.macho_bytes.specs.Layouts.{read_of, size_of, spelling, ReadsBack};
 ghost use Rattle.macho_records.specs.Layouts.{symtab_command, symtab_entry};
-ghost use Rattle.macho_records.specs.Symbols.{is_stab_of, is_undefined_of, is_absolute_of, is_external_of, is_local_of, is_hidden_of, is_weak_of, visibility_of, is_common_of, common_exponent_of, common_size_of, common_of, is_default_strippable_of, with_hidden_of};
+ghost use Rattle.macho_records.specs.Flags.{has_any};
+ghost use Rattle.macho_records.specs.Symbols.{has_type, is_hidden_of, is_weak_of, visibility_of, is_common_of, common_exponent_of, common_size_of, common_of, with_hidden_of};
+ghost use Rattle.macho_records.specs.declared.constants.TheConstants.{N_UNDF};
 
 use crate::constants::{N_ABS, N_EXT, N_PEXT, N_STAB, N_TYPE, N_UNDF, N_WEAK_DEF};
 use macho_structs::{little_at, put_littles};
@@ -126,21 +129,21 @@ impl SymtabEntry {
 impl SymtabEntry {
     /// Whether it is defined in no section and has no value: no debugging entry, and its type is `N_UNDF`.
     pub fn is_undefined(&self) -> bool
-        ensures { result ≡ is_undefined_of self.now }
+        ensures { result ≡ has_type N_UNDF self.now }
     {
         self.n_type & N_STAB == 0 && self.n_type & N_TYPE == N_UNDF
     }
 
     /// Whether other files do not see it: `N_EXT` is clear.
     pub fn is_local(&self) -> bool
-        ensures { result ≡ is_local_of self.now }
+        ensures { result ≡ not (has_any N_EXT self.now.n_type) }
     {
         self.n_type & N_EXT == 0
     }
 
     /// Whether its value is absolute: its type is `N_ABS`.
     pub fn is_absolute(&self) -> bool
-        ensures { result ≡ is_absolute_of self.now }
+        ensures { result ≡ (bit_and self.now.n_type N_TYPE == N_ABS) }
     {
         self.n_type & N_TYPE == N_ABS
     }
@@ -219,7 +222,7 @@ impl SymtabEntry {
 
     /// Whether the symbol of this name is a label that an assembler made for itself: local, and `ltmp..`.
     pub fn is_default_strippable(&self, name: &[u8]) -> bool
-        ensures { result ≡ is_default_strippable_of self.now name.now }
+        ensures { result ≡ (not (has_any N_EXT self.now.n_type) && starts_with nat_eq name.now (codes "ltmp")) }
     {
         self.is_local() && name.starts_with(b"ltmp")
     }

@@ -26,7 +26,7 @@ use Rattle.macho_signature.specs.Sizes.{signed_by}
 use Rattle.macho_bytes.proofs.Layouts.{length-spelling}
 use Rattle.macho_bytes.proofs.Numbers.{big_is_sound}
 use Rattle.macho_structs.specs.Layouts.{code_directory}
-use Rattle.macho_model.specs.Signature.{directory_for}
+use Rattle.macho_signature.specs.Sizes.{directory_for}
 use Rattle.macho_signature.proofs.Texts.{length-signature, length-identifier}
 use Rattle.macho_commands.proofs.HeadRead.{head_read}
 use Rattle.macho_agreement.specs.Sizes.{AreCounts, counts_with}

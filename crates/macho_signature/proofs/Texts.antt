@@ -11,9 +11,9 @@ use Rattle.macho_bytes.specs.Layouts.{spelling}
 use Rattle.macho_bytes.proofs.Numbers.{length-row_big}
 use Rattle.macho_bytes.proofs.Puts.{put-put, length-put}
 use Rattle.macho_structs.specs.Layouts.{code_directory}
-use Rattle.macho_model.specs.Signature.{Signed, DIRECTORY_PLACE, directory_size, directory_for, identifier_text}
+use Rattle.macho_model.specs.Signature.{Signed, DIRECTORY_PLACE, identifier_text}
 use Rattle.macho_model.specs.Signature.{page_count, page_digests, signature_text}
-use Rattle.macho_signature.specs.Sizes.{identifier_size, digests_offset, signature_size}
+use Rattle.macho_signature.specs.Sizes.{identifier_size, digests_offset, signature_size, directory_size, directory_for}
 use Rattle.macho_signature.proofs.Pages.{length-page_digests}
 
 -- the identifier's bytes
@@ -27,7 +27,7 @@ length-identifier name =
 -- the bytes of the whole text
 pub length-signature : (s : Signed) (b : List ℕ) → length (spelling code_directory (directory_for s)) ≡ 88
     → length (signature_text s b) ≡ signature_size (length s.name) s.limit
-unfolding signature_text
+unfolding signature_text spelling
 length-signature s b directory =
     let head : List ℕ = row_bytes big 4 (0xfade0cc0 ∷ (DIRECTORY_PLACE + directory_size s) ∷ 1 ∷ 0 ∷ DIRECTORY_PLACE ∷ []) in
     let front = head ++ spelling code_directory (directory_for s) in
@@ -50,7 +50,7 @@ pub signature_put : (s : Signed) (b : List ℕ) (size at : ℕ) (digests before 
     → headed ≡ put 0 (row_bytes big 4 (0xfade0cc0 ∷ size ∷ 1 ∷ 0 ∷ DIRECTORY_PLACE ∷ [])) before
     → directed ≡ put DIRECTORY_PLACE (spelling code_directory (directory_for s)) headed → named ≡ put 108 (identifier_text s.name) directed
     → now ≡ put at digests named → now ≡ put 0 (signature_text s b) before
-unfolding signature_text
+unfolding signature_text spelling
 signature_put s b size at digests before headed directed named now directory sized offset room are first second third fourth =
     fourth ∙ ap (put at digests) three
     ∙ put-put 0 at (front ++ directory_text ++ identifier_text s.name) digests before

@@ -1,8 +1,11 @@
 -- How long a signature is, and what one says, by the numbers that are known before its bytes (`cs_blobs.h` of xnu).
-use Rattle.std.specs.Prelude.{ℕ, ◌+◌, ◌*◌}
+use Rattle.std.specs.Prelude.{ℕ, ◌+◌, ◌*◌, if◌then◌else◌, length}
 use Rattle.macho_bytes.specs.Numbers.{rounded_up}
+use Rattle.macho_bytes.specs.Layouts.{size_of}
+use Rattle.macho_structs.specs.Layouts.{code_directory}
+use Rattle.macho_structs.specs.declared.signature.CodeDirectory.{CodeDirectory}
 use Rattle.macho_model.specs.WrittenSum.{SIGNATURE_FIXED, DIGEST_SIZE}
-use Rattle.macho_model.specs.Signature.{Signed, page_count}
+use Rattle.macho_model.specs.Signature.{Signed, page_count, identifier_text}
 use Rattle.macho_signature.specs.declared.signature.Signer.{Signer}
 
 -- the bytes of an identifier, by those of its name: at least one NUL, filled to a multiple of 16
@@ -25,4 +28,35 @@ signed_by signer limit = record {
   text_offset = signer.text_offset;
   text_size = signer.text_size;
   limit = limit;
+}
+
+-- the bytes of a code directory with its identifier and its digests
+abbrev pub directory_size : Signed → ℕ
+directory_size s = size_of code_directory + length (identifier_text s.name) + DIGEST_SIZE * page_count s.limit
+
+-- its magic is `CSMAGIC_CODEDIRECTORY`, its flags `CS_ADHOC` and `CS_LINKER_SIGNED`, an executable's `CS_EXECSEG_MAIN_BINARY`
+abbrev pub directory_for : Signed → CodeDirectory
+directory_for s = record {
+  magic = 0xfade0c02;
+  length = directory_size s;
+  version = 0x20400;
+  flags = 0x20002;
+  hash_offset = size_of code_directory + length (identifier_text s.name);
+  ident_offset = size_of code_directory;
+  special_slots = 0;
+  code_slots = page_count s.limit;
+  code_limit = s.limit;
+  hash_size = DIGEST_SIZE;
+  -- `CS_HASHTYPE_SHA256`, and pages of 2 ^ 12 bytes
+  hash_type = 2;
+  platform = 0;
+  page_exponent = 12;
+  spare = 0;
+  scatter_offset = 0;
+  team_offset = 0;
+  spare2 = 0;
+  code_limit64 = 0;
+  exec_base = s.text_offset;
+  exec_limit = s.text_size;
+  exec_flags = if s.executable then 1 else 0;
 }

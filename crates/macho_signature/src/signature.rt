@@ -4,8 +4,8 @@ ghost use Rattle.macho_bytes.specs.Numbers.{rounded_up, big, row_bytes};
 ghost use Rattle.macho_bytes.specs.Texts.{put, Stands};
 ghost use Rattle.macho_bytes.specs.Layouts.{ReadsBack};
 ghost use Rattle.macho_structs.specs.Layouts.{code_directory};
-ghost use Rattle.macho_model.specs.Signature.{DIRECTORY_PLACE, identifier_text, directory_for, signature_text};
-ghost use Rattle.macho_signature.specs.Sizes.{identifier_size, digests_offset, signature_size, signed_by};
+ghost use Rattle.macho_model.specs.Signature.{DIRECTORY_PLACE, identifier_text, signature_text};
+ghost use Rattle.macho_signature.specs.Sizes.{identifier_size, digests_offset, signature_size, signed_by, directory_for};
 
 use crate::digests::{DIGEST, page_count, sign_again};
 use byteorder::{BigEndian, ByteOrder};

@@ -4,7 +4,7 @@
 -- to a symbol, so it leads where the row's symbol does. The ids of entries are the numbers of the slots of what rows name; in
 -- order they are no more than those of the functions, each taken once.
 use Rattle.std.proofs.Common.{◌≡◌, ℕ, zero, suc, ◌+◌, ◌*◌, ◌/◌, ◌<◌, ◌≤◌, eqb, eq-eqb, ◌&&◌, ◌||◌, ◌==◌, Bool, true, false, Contains, subst}
-use Rattle.std.proofs.Common.{leb-true, inl, inr, List, [], ◌∷◌, ◌++◌, map, length, get_or, take, refl, sym, ap, ◌∙◌, arith, Some, None}
+use Rattle.std.proofs.Common.{leb-true, nat_le, inl, inr, List, [], ◌∷◌, ◌++◌, map, length, get_or, take, refl, sym, ap, ◌∙◌, arith, Some, None}
 use Rattle.std.proofs.Common.{append-nil}
 use Rattle.std.specs.Prelude.{Option, nat_lt, filter}
 use Rattle.std.specs.List.{filter_map, cons_option, flat_map}
@@ -20,7 +20,7 @@ use Rattle.macho_model.specs.Links.{Link, header_at}
 use Rattle.macho_model.specs.Needs.{distinct, relocation_in, PERSONALITY_PLACE}
 use Rattle.macho_model.specs.Targets.{same_target, target_of, target_of_relocation, slot_number, is_defined, is_import}
 use Rattle.macho_layout.proofs.Distinct.{distinct_push}
-use Rattle.macho_model.specs.Consumed.{EntryId, entries_of_link, relocations_in_entry, unwind_relocation_fits, personality_targets}
+use Rattle.macho_model.specs.Consumed.{EntryId, entries_of_link, relocations_in_entry, personality_targets, START_PLACE}
 use Rattle.macho_symbols.specs.Kept.{symbol_id}
 use Rattle.macho_unwind_pages.specs.Entries.{named_by, named_ids, ids_of}
 use Rattle.macho_unwind_pages.specs.Orders.{in_order, put_in_order}
@@ -35,6 +35,7 @@ use Rattle.macho_consumed.proofs.Tests.{left_of, right_of, passes}
 use Rattle.macho_consumed.proofs.Members.{here, later, to_filter, in_filter}
 use Rattle.macho_consumed.proofs.Leading.{pointer_leads}
 use Rattle.macho_consumed.proofs.BoundInputs.{IsInSection, in_section, inputs_told}
+use Rattle.macho_consumed.specs.steps.Entries.{unwind_relocation_fits}
 use Rattle.macho_linkedit.proofs.Members.{in_distinct, in_map, from_map}
 use Rattle.macho_needs.specs.Tables.{with_some}
 use Rattle.macho_needs.proofs.Deciding.{targets_decide}
@@ -88,7 +89,9 @@ personality_leads l d r keeps it c =
 -- there is one at most
 one_personality : (l : Link) (d : EntryId) → EntriesKeepRules l → IsInSection l d
     → length (relocations_in_entry l d.of_section d.entry PERSONALITY_PLACE) ≤ 1
-one_personality l d keeps it = leb-true _ _ (right_of _ _ (left_of _ _ (keeps.unwind d.of_section d.entry U3 it.there it.within)))
+one_personality l d keeps it =
+    leb-true _ _ (left_of _ _ (right_of (nat_le (length (relocations_in_entry l d.of_section d.entry START_PLACE)) 1) _
+    (keeps.unwind d.of_section d.entry U3 it.there it.within)))
 
 -- a row names what its entry's relocation leads to
 personality_row : (l : Link) (d : EntryId) (rs : List ℕ) → relocations_in_entry l d.of_section d.entry PERSONALITY_PLACE ≡ rs

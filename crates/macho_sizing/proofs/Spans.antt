@@ -20,7 +20,6 @@ use Rattle.macho_records.specs.Sections.{is_zerofill, type_of, segment_name_of}
 use Rattle.macho_model.specs.Objects.{num_sections, section_at}
 use Rattle.macho_model.specs.ObjectRules.{is_thread_local}
 use Rattle.macho_model.specs.Segments.{TEXT, DATA}
-use Rattle.macho_model.specs.Symbols.{is_in_segment}
 use Rattle.macho_model.specs.Links.{Link, Input, Object, Dylib, Stub, SectionId, object_bytes, object_of, no_input, header_at}
 use Rattle.macho_model.specs.Links.{sections_of_file, sections_of, is_carried, template_exponent, placed_exponent, carried_of}
 use Rattle.macho_model.specs.WrittenSum.{section_cost as cost_in_link}
@@ -60,7 +59,7 @@ below_less f n k lt =
 
 -- a section of the link in `__TEXT` with bytes in the file
 abbrev pub in_text : Link → SectionId → Bool
-in_text l s = is_in_segment TEXT (header_at l s) && not (is_zerofill (header_at l s))
+in_text l s = bytes_eq (segment_name_of (header_at l s)) TEXT && not (is_zerofill (header_at l s))
 
 abbrev pub carried_in : Link → SectionId → Bool
 carried_in l s = is_carried (header_at l s)
@@ -76,7 +75,7 @@ one_segment name first second =
     bytes_eq-true xs ys e = (bytes_eq-Decides xs ys).0 e
 
 -- a section in `__TEXT` is placed at its own alignment
-own_alignment : (l : Link) (s : SectionId) → KeepsRules (header_at l s) → is_in_segment TEXT (header_at l s) ≡ true
+own_alignment : (l : Link) (s : SectionId) → KeepsRules (header_at l s) → bytes_eq (segment_name_of (header_at l s)) TEXT ≡ true
     → placed_exponent l s ≡ (header_at l s).align
 unfolding placed_exponent
 own_alignment l s rules text = by (is_thread_local (type_of (header_at l s))) refl
@@ -101,9 +100,11 @@ abbrev cost_of : Link → List SectionId → ℕ
 cost_of l ss = sum_by (cost_in_link l) (filter (in_text l) (filter (carried_in l) ss))
 
 one_cost : (l : Link) (s : SectionId) → KeepsRules (header_at l s) → cost_of l (s ∷ []) ≡ span_of (header_at l s)
-one_cost l s rules = by (is_carried (header_at l s)) (is_in_segment TEXT (header_at l s)) (is_zerofill (header_at l s)) refl refl refl
+one_cost l s rules = by (is_carried (header_at l s)) (bytes_eq (segment_name_of (header_at l s)) TEXT) (is_zerofill (header_at l s))
+    refl refl refl
   where
-    by : (a b z : Bool) → is_carried (header_at l s) ≡ a → is_in_segment TEXT (header_at l s) ≡ b → is_zerofill (header_at l s) ≡ z
+    by : (a b z : Bool) → is_carried (header_at l s) ≡ a → bytes_eq (segment_name_of (header_at l s)) TEXT ≡ b
+        → is_zerofill (header_at l s) ≡ z
         → cost_of l (s ∷ []) ≡ span_of (header_at l s)
     by false b z e f g = rw e (sym (span_other (header_at l s) (rw e refl)))
     by true false z e f g = rw (e, f) (sym (span_other (header_at l s) (rw (e, f) refl)))

@@ -13,26 +13,24 @@ use Rattle.std.proofs.lemmas.List.{get_or-map, length-map, get_or_default}
 use Rattle.std.proofs.lemmas.List.Elements.{All-contains, All-same, All-cons, All-nil}
 use Rattle.std.proofs.lemmas.List.FromFn.{length-enumerate_from, get_or-enumerate_from}
 use Rattle.macho_bytes.specs.Texts.{name_of}
-use Rattle.macho_records.specs.Sections.{is_zerofill}
+use Rattle.macho_records.specs.Sections.{is_zerofill, segment_name_of}
 use Rattle.macho_records.specs.Segments.{text_of}
 use Rattle.macho_records.specs.declared.header.SegmentCommand.{SegmentCommand}
-use Rattle.macho_records.specs.declared.constants.TheConstants.{LC_SEGMENT_64}
 use Rattle.macho_model.specs.declared.placed.Counts.{Counts}
 use Rattle.macho_model.specs.declared.placed.PlacedSegment.{PlacedSegment}
 use Rattle.macho_model.specs.declared.placed.Slot.{Slot}
 use Rattle.macho_model.specs.declared.targets.Target.{Target}
 use Rattle.macho_model.specs.declared.targets.Target.TheVariants as target
 use Rattle.macho_model.specs.Lists.{IsNumber}
-use Rattle.macho_model.specs.Commands.{Command, numbered}
 use Rattle.macho_model.specs.Links.{Link, header_at, carried_of}
 use Rattle.macho_model.specs.Targets.{is_import}
 use Rattle.macho_model.specs.Fields.{Field, fields_of}
-use Rattle.macho_model.specs.Segments.{DATA, DATA_CONST, segment_name, may_hold_pointers, loaded_protection_of}
+use Rattle.macho_model.specs.Segments.{DATA, DATA_CONST, may_hold_pointers, loaded_protection_of}
 use Rattle.macho_model.specs.Placement.{Placed, id_of, section_span, slot_span, LiesIn, LiesInNamed, SectionLies}
 use Rattle.macho_model.specs.Images.{segments_of, Table, tables_of, fixups_header}
 use Rattle.macho_model.specs.Chain.{ChainSegment, chain_segment, chain_segments, IsFileWord, OnPageChain}
 use Rattle.macho_model.specs.Needs.{POINTER_SIZE}
-use Rattle.macho_model.specs.LoadRules.{segment_in, protections_fit, table_fits, import_fits}
+use Rattle.macho_model.specs.LoadRules.{protections_fit, table_fits, import_fits}
 use Rattle.macho_model.specs.Loader.{is_bind, ordinal_of, is_writable, import_count, WordFits}
 use Rattle.macho_model.specs.Fixups.{has_room, import_entries_of}
 use Rattle.macho_model.specs.Agreement.{SegmentPlace, place_by_command, place_told, SegmentsAgree}
@@ -117,18 +115,12 @@ placed_as b p number s agree is =
     }
 
 -- a segment has the protection of its name, and one of these names may be written to
-protected : (b : List ℕ) (number : ℕ) (s : SegmentCommand) → All (λ (c : Command). protections_fit b c ≡ true) (numbered LC_SEGMENT_64 b)
+protected : (b : List ℕ) (number : ℕ) (s : SegmentCommand) → All (λ x. protections_fit x ≡ true) (segments_of b)
     → IsNumber (segments_of b) number s → s.initprot ≡ loaded_protection_of (name_of s.segname)
-unfolding segments_of
 protected b number s all is =
-    let none : Command = record { at = 0; number = 0; size = 0 } in
-    let lt : number < length (numbered LC_SEGMENT_64 b) = omega (arith, is.0, length-map (numbered LC_SEGMENT_64 b) (segment_in b)) in
-    let c : Command = get_or (numbered LC_SEGMENT_64 b) number none in
-    let same : segment_in b c ≡ s = sym (get_or-map (segment_in b) (numbered LC_SEGMENT_64 b) number none s lt) ∙ is.1 in
-    let fits = eqb-true (segment_in b c).initprot (loaded_protection_of (name_of (segment_in b c).segname))
-    (and_parts ((segment_in b c).maxprot == loaded_protection_of (name_of (segment_in b c).segname))
-    ((segment_in b c).initprot == loaded_protection_of (name_of (segment_in b c).segname)) (all number none lt)).1 in
-    subst (λ (x : SegmentCommand). x.initprot ≡ loaded_protection_of (name_of x.segname)) same fits
+    let fits : protections_fit s ≡ true = subst (λ (x : SegmentCommand). protections_fit x ≡ true) is.1 (all number s is.0) in
+    eqb-true s.initprot (loaded_protection_of (name_of s.segname))
+    (and_parts (s.maxprot == loaded_protection_of (name_of s.segname)) (s.initprot == loaded_protection_of (name_of s.segname)) fits).1
 
 writable : (s : SegmentCommand) → s.initprot ≡ loaded_protection_of (name_of s.segname)
     → (name_of s.segname ≡ DATA) ⊎ (name_of s.segname ≡ DATA_CONST)
@@ -164,13 +156,14 @@ in_written l counts uuid b p h _ (asked.IsFixupOf.slot s one) =
 in_written l counts uuid b p h _ (asked.IsFixupOf.pointer q f one field needs) =
     let carried = placed_is_carried l p q h.placed.whole_list one in
     let lies = All-contains (SectionLies l p) p.sections q h.placed.in_segment.sections one in
-    let name : text_of lies.0.name ≡ segment_name l (id_of q) = same_bytes (text_of lies.0.name) (segment_name l (id_of q)) lies.2 in
+    let name : text_of lies.0.name ≡ segment_name_of (header_at l (id_of q)) =
+    same_bytes (text_of lies.0.name) (segment_name_of (header_at l (id_of q))) lies.2 in
     let inside = pointer_inside l p q f h.placed.whole_list h.leads one field needs in
     let in_part = (subst (λ (t : Bool). LiesIn t (section_span l q) lies.0) (filled carried inside) lies.3) in
     record {
       segment = lies.0;
       one = (q.segment, lies.1.0, lies.1.1);
-      named = elim (holds_pointers (segment_name l (id_of q)) (h.sound.places (id_of q) f carried field needs))
+      named = elim (holds_pointers (segment_name_of (header_at l (id_of q))) (h.sound.places (id_of q) f carried field needs))
           [ inl is ↦ inl (name ∙ is) | inr is ↦ inr (name ∙ is) ];
       from = omega (arith, in_part.from);
       to = omega (arith, in_part.to, inside);
@@ -226,7 +219,7 @@ fixup_ordinal l counts uuid b p h _ (asked.IsFixupOf.pointer q f one field needs
 
 -- the tenth rule
 word_fits : ChainsAreTold → (l : Link) (counts : Counts) (uuid b : List ℕ) (p : Placed) → IsLed l counts uuid b p
-    → All (λ (c : Command). protections_fit b c ≡ true) (numbered LC_SEGMENT_64 b) → (number : ℕ) (s : SegmentCommand) (page a : ℕ)
+    → All (λ x. protections_fit x ≡ true) (segments_of b) → (number : ℕ) (s : SegmentCommand) (page a : ℕ)
     → IsNumber (segments_of b) number s → OnPageChain (chain_segments b) b (chain_segment b (number, s)) page a → WordFits b s page a
 word_fits told l counts uuid b p h protections number s page a is on =
     record {

@@ -24,7 +24,7 @@ use Rattle.macho_model.specs.declared.placed.Stub.{Stub}
 use Rattle.macho_model.specs.Objects.{section_bytes}
 use Rattle.macho_model.specs.Links.{Link, object_of, header_at}
 use Rattle.macho_model.specs.Needs.{relocation_in}
-use Rattle.macho_model.specs.Fields.{Field, fields_of}
+use Rattle.macho_model.specs.Fields.{Field, fields_of, content_of}
 use Rattle.macho_model.specs.Segments.{PAGEZERO, TEXT, DATA, SEGMENT_PAGE}
 use Rattle.macho_model.specs.WrittenSum.{STUB_SIZE}
 use Rattle.macho_model.specs.Placement.{Placed, Span, id_of, section_span, common_span, stub_span, slot_span, is_segment_named, LiesIn}
@@ -32,7 +32,7 @@ use Rattle.macho_model.specs.Placement.{LiesInNamed, SectionLies}
 use Rattle.macho_model.specs.Addresses.{offset_in_file}
 use Rattle.macho_model.specs.Memory.{Choice, BindsAll, Holds, HoldsNumber}
 use Rattle.macho_model.specs.HeldLaws.{IsFree}
-use Rattle.macho_model.specs.Stands.{IsOutsideField, kind_of, Says, seen_in, Denotes, SectionStands, CommonStands, StubStands}
+use Rattle.macho_model.specs.Stands.{IsOutsideField, kind_of, Says, Denotes, SectionStands, CommonStands, StubStands}
 use Rattle.macho_model.specs.Values.{needs_fixup}
 use Rattle.macho_parts.specs.Filled.{FieldIsSet, bytes_in_file}
 use Rattle.macho_standing.specs.Composed.{SectionIsWritten, StubIsWritten}
@@ -203,7 +203,8 @@ plain_denotes rests l counts b p ready joined q f one written field plain some =
       held = number_held rests.memory.numbers b seg.segment 0 empty (q.address + f.offset) f.width seg.back (omega (arith, seg.from))
           (omega (arith, to, inside))
           (field_free l counts b p q f ready joined one field plain);
-      says = subst (λ (w : ℕ). Says l p 0 empty (id_of q) f (seen_in l 0 q f w) (kind_of f.type (is_some f.subtrahend))) word
+      says = subst (λ (w : ℕ). Says l p 0 empty (id_of q) f (q.address + f.offset + 0) w (content_of l (id_of q) f.relocation)
+          (kind_of f.type (is_some f.subtrahend))) word
           (All-contains (FieldIsSet l p q (bytes_in_file b p q.address (header_at l (id_of q)).size))
           (fields_of l (id_of q)) f filled.set field plain);
     }

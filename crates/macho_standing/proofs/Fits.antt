@@ -17,8 +17,10 @@ use Rattle.macho_model.specs.Needs.{relocation_in}
 use Rattle.macho_model.specs.Targets.{target_of_relocation, is_defined, is_import}
 use Rattle.macho_model.specs.Fields.{Field, field_of, fields_of, is_prefix_type, has_subtrahend, is_difference, content_of}
 use Rattle.macho_model.specs.Words.{is_adrp, is_branch}
-use Rattle.macho_model.specs.Rows.{has_form, begins_pair, is_none, difference_fits, pointer_fits, may_be_called, defined_or_import}
-use Rattle.macho_model.specs.Rows.{takes_offset, load_fits, is_supported}
+use Rattle.macho_model.specs.Rows.{has_form, begins_pair, is_none, difference_fits, pointer_fits, defined_or_import}
+use Rattle.macho_model.specs.Supported.{may_be_called}
+use Rattle.macho_model.specs.Rows.{is_supported}
+use Rattle.macho_model.specs.Supported.{takes_offset, load_fits}
 use Rattle.macho_model.specs.SlideLaws.{targets_move, subtrahend_moves}
 use Rattle.macho_model.specs.Stands.{Kind, Pointer, Difference, Branch, Page, Offset, SlotPage, SlotOffset, SlotDistance, kind_of}
 use Rattle.macho_model.specs.Stands.{is_template_offset}

@@ -2,22 +2,22 @@
 --
 -- An address in the file part of a placed segment has one place in the file: as far from the segment's as the address is from the
 -- segment's, since segments share no address. What no word covers there is held in memory, at every slide; and zeros behind.
-use Rattle.std.proofs.Common.{◌≡◌, ℕ, ◌+◌, ◌-◌, ◌<◌, ◌≤◌, ◌&&◌, ◌||◌, not, true, false, nat_le, nat_lt, List, length, slice_range}
+use Rattle.std.proofs.Common.{◌≡◌, ℕ, ◌+◌, ◌-◌, ◌<◌, ◌≤◌, ◌&&◌, true, false, nat_le, nat_lt, List, length, slice_range}
 use Rattle.std.proofs.Common.{slice_index, sym, ap, subst, ◌∙◌, arith, inl, inr}
 use Rattle.std.specs.Prelude.{Contains, AllPairs}
-use Rattle.std.proofs.lemmas.Bool.{and_parts, and_from, or_parts, le-leb, lt-ltb, leb-true, ltb-true, not-true}
+use Rattle.std.proofs.lemmas.Bool.{and_parts, and_from, le-leb, lt-ltb, leb-true, ltb-true}
 use Rattle.std.proofs.lemmas.List.Edits.{length-between, get_or-between}
 use Rattle.std.proofs.lemmas.List.Elements.{All-contains}
 use Rattle.macho_bytes.specs.Numbers.{le_at}
 use Rattle.macho_bytes.specs.Texts.{Stands}
 use Rattle.macho_records.specs.Segments.{text_of}
-use Rattle.macho_records.specs.Sections.{should_exclude_of, is_debug_of, is_excluded_segment, is_indirect_type, segment_name_of, type_of}
-use Rattle.macho_records.specs.declared.header.SectionHeader.{SectionHeader}
+use Rattle.macho_records.specs.Sections.{segment_name_of}
 use Rattle.macho_model.specs.declared.placed.PlacedSegment.{PlacedSegment}
-use Rattle.macho_model.specs.Links.{Link, SectionId, header_at, is_carried, is_initializers, is_unwind_entries, sections_of, carried_of}
-use Rattle.macho_model.specs.Segments.{PAGEZERO, segment_name}
+use Rattle.macho_model.specs.Links.{Link, SectionId, header_at, is_carried, sections_of, carried_of}
+use Rattle.macho_model.specs.Segments.{PAGEZERO}
 use Rattle.macho_model.specs.Placement.{Placed, is_segment_named}
-use Rattle.macho_model.specs.Addresses.{has_in_file, offset_in_file}
+use Rattle.macho_model.specs.Addresses.{offset_in_file}
+use Rattle.macho_model.proofs.Carried.{segment_of_carried}
 use Rattle.macho_model.specs.Memory.{Choice, Holds, HoldsNumber}
 use Rattle.macho_model.specs.HeldLaws.{IsFree, TextsAreHeld, ZerosAreHeld, NumbersAreHeld}
 use Rattle.macho_fixups.specs.declared.run.FixupSegment.{FixupSegment}
@@ -58,7 +58,8 @@ unfolding offset_in_file
 place_in_file p s a order one from to =
     let passes = and_from (nat_le s.address a) (nat_lt a (s.address + s.file_size)) (le-leb s.address a from)
     (lt-ltb a (s.address + s.file_size) to) in
-    let r = first_passing (has_in_file a) (λ (t : PlacedSegment). t.file_offset + (a - t.address)) p.segments s one passes in
+    let r = first_passing (λ (t : PlacedSegment). nat_le t.address a && nat_lt a (t.address + t.file_size))
+    (λ (t : PlacedSegment). t.file_offset + (a - t.address)) p.segments s one passes in
     let both = and_parts (nat_le r.0.address a) (nat_lt a (r.0.address + r.0.file_size)) r.2 in
     let same = one_segment p s r.0 a order one r.1 from to (leb-true r.0.address a both.0)
     (ltb-true a (r.0.address + r.0.file_size) both.1) in
@@ -130,20 +131,9 @@ pub carried_header : (l : Link) (s : SectionId) → Contains (carried_of l) s �
 unfolding carried_of
 carried_header l s one = (of_filter (λ t. is_carried (header_at l t)) (sections_of l) s one).1
 
-not_excluded : (h : SectionHeader) → is_carried h ≡ true → should_exclude_of h ≡ false
-not_excluded h carried =
-    not-true (should_exclude_of h) (and_parts (not (should_exclude_of h)) (not (is_initializers h))
-    (and_parts (not (should_exclude_of h) && not (is_initializers h)) (not (is_unwind_entries h)) carried).0).0
-
-excluded_parts : (h : SectionHeader) → should_exclude_of h ≡ false → is_excluded_segment (segment_name_of h) ≡ false
-excluded_parts h none =
-    (or_parts (is_debug_of h) (is_excluded_segment (segment_name_of h))
-    (or_parts (is_debug_of h || is_excluded_segment (segment_name_of h)) (is_indirect_type (type_of h)) none).0).1
-
 pub section_is_mapped : (l : Link) (id : SectionId) (s : PlacedSegment) → Contains (carried_of l) id
-    → is_segment_named (segment_name l id) s ≡ true
+    → is_segment_named (segment_name_of (header_at l id)) s ≡ true
     → ((x y : List ℕ) → bytes_eq x y ≡ true → x ≡ y) → is_segment_named PAGEZERO s ≡ false
 section_is_mapped l id s one named equal =
-    let none = excluded_parts (header_at l id) (not_excluded (header_at l id) (carried_header l id one)) in
-    let zero = (or_parts (bytes_eq (segment_name l id) PAGEZERO) _ (or_parts (bytes_eq (segment_name l id) PAGEZERO || _) _ none).0).0 in
-    ap (λ (n : List ℕ). bytes_eq n PAGEZERO) (equal (text_of s.name) (segment_name l id) named) ∙ zero
+    ap (λ (n : List ℕ). bytes_eq n PAGEZERO) (equal (text_of s.name) (segment_name_of (header_at l id)) named)
+    ∙ (segment_of_carried (header_at l id) (carried_header l id one)).0

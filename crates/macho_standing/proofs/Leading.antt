@@ -10,17 +10,17 @@ use Rattle.std.specs.List.{flat_map, filter_map, list_all, range_with_len}
 use Rattle.std.proofs.lemmas.Bool.{cases_Bool, cases_eq, and_parts, or_cases, or_parts, or_right, eqb-true, ne_eqb, leb-true, true≢false}
 use Rattle.std.proofs.lemmas.List.Elements.{All-contains_itself, Contains-append_left, Contains-append_cases}
 use Rattle.std.proofs.lemmas.List.FromFn.{length-range_with_len, get_or-range_with_len}
-use Rattle.macho_records.specs.Sections.{is_zerofill}
+use Rattle.macho_records.specs.Sections.{is_zerofill, should_exclude_of}
 use Rattle.macho_records.specs.declared.constants.TheConstants.{ARM64_RELOC_ADDEND, ARM64_RELOC_POINTER_TO_GOT, ARM64_RELOC_SUBTRACTOR}
 use Rattle.macho_model.specs.declared.targets.Target.{Target}
 use Rattle.macho_model.specs.declared.targets.Target.TheVariants as target
 use Rattle.macho_model.specs.ExportLists.{plain_entries}
-use Rattle.macho_model.specs.Links.{Link, SectionId, header_at, is_carried, is_consumed, is_unwind_entries, sections_of, carried_of}
+use Rattle.macho_model.specs.Links.{Link, SectionId, header_at, is_carried, is_unwind_entries, sections_of, carried_of}
 use Rattle.macho_model.specs.Needs.{Use, ByRelocation, ByInitializer, ByPersonality, ByName, uses_of, distinct, is_imported, relocation_in}
 use Rattle.macho_model.specs.Needs.{section_named, symbol_of_relocation, relocations_of, relocations_at, carried_uses, initializer_uses}
 use Rattle.macho_model.specs.Needs.{personality_uses, initializer_sections, unwind_sections, UNWIND_ENTRY_SIZE, PERSONALITY_PLACE}
-use Rattle.macho_model.specs.Targets.{is_import, is_defined, same_target, goes_by_slot, slot_of_use, slots_of, target_of_symbol}
-use Rattle.macho_model.specs.Targets.{target_of_section, target_of_relocation}
+use Rattle.macho_model.specs.Targets.{is_import, is_defined, same_target, goes_by_slot, slot_of_use, slots_of}
+use Rattle.macho_model.specs.Targets.{target_of_relocation}
 use Rattle.macho_model.specs.Fields.{Field, field_of, fields_of, is_prefix_type}
 use Rattle.macho_model.specs.Rows.{is_none, has_form, defined_or_import, is_supported}
 use Rattle.macho_model.specs.Consumed.{entry_count, relocations_in_entry}
@@ -29,6 +29,7 @@ use Rattle.macho_model.specs.Supported.{RelocationsAreSupported}
 use Rattle.macho_model.specs.Values.{is_absolute_target, needs_fixup}
 use Rattle.macho_standing.specs.Leads.{HasPlace, TargetsLead, PersonalitiesFit}
 use Rattle.macho_model.specs.Grammar.{ObjectsAreRead}
+use Rattle.macho_model.proofs.Words.{target_of_symbol, target_of_section}
 use Rattle.macho_standing.proofs.Members.{of_map, in_map, in_flat_map, of_flat_map, of_filter, of_filter_map, in_none, front_or_rest}
 use Rattle.macho_standing.proofs.Distinct.{of_distinct}
 use Rattle.macho_standing.proofs.Fits.{field_number, field_fits_in, fixed_pointer}
@@ -159,7 +160,7 @@ in_numbers n k (i, lt, at) =
 pub unwind_section : (l : Link) (s : SectionId) → ObjectsAreRead l → Contains (unwind_sections l) s → IsSectionOf l s
 unfolding unwind_sections
 unwind_section l s inputs one =
-    section_of_file l s inputs (of_filter (λ (t : SectionId). is_consumed (header_at l t) && is_unwind_entries (header_at l t))
+    section_of_file l s inputs (of_filter (λ (t : SectionId). not (should_exclude_of (header_at l t)) && is_unwind_entries (header_at l t))
     (sections_of l) s one).0
 
 -- a relocation that names a symbol is no addend

@@ -16,7 +16,7 @@ use Rattle.macho_model.specs.Links.{Link, Input, Object, Dylib, Stub, no_input}
 use Rattle.macho_model.specs.Resolution.{Definition, Symbol, Library, ImageBase, first_or, strong_of, weak_of, greatest_of, libraries_with, library_of_input}
 use Rattle.macho_model.specs.Resolution.{offers, definition_of, DSO_HANDLE, library_name}
 use Rattle.macho_model.specs.Needs.{distinct, imports_of, is_imported, is_library, library_file, import_library}
-use Rattle.macho_model.specs.Needs.{is_needed, libraries_needed, uses_of, name_used}
+use Rattle.macho_model.specs.Needs.{libraries_needed, uses_of, name_used}
 use Rattle.macho_model.specs.Exports.{library_number}
 use Rattle.macho_standing.proofs.Members.{at_front, front_or_rest, in_none, in_filter, of_filter, of_map, in_filter_map}
 use Rattle.macho_standing.proofs.Distinct.{in_distinct, of_distinct, first_within, first_is}
@@ -109,11 +109,11 @@ some_passes {X} p (y ∷ xs) x h passes = elim (front_or_rest y xs x h) [
 pub library_is_needed : (l : Link) (name : List ℕ) → Contains (imports_of l) name → Contains (libraries_needed l) (import_library l name)
 unfolding libraries_needed
 library_is_needed l name one =
-    in_filter (λ (library : List ℕ). not l.dead_strip_dylibs || is_needed l library)
+    in_filter (λ (library : List ℕ). not l.dead_strip_dylibs || list_any (λ name. bytes_eq (import_library l name) library) (imports_of l))
     (distinct bytes_eq (filter_map library_of_input l.inputs))
     (import_library l name)
     (in_distinct bytes_eq same_bytes (filter_map library_of_input l.inputs) (import_library l name) among)
-    (or_right (not l.dead_strip_dylibs) (is_needed l (import_library l name))
+    (or_right (not l.dead_strip_dylibs) (list_any (λ other. bytes_eq (import_library l other) (import_library l name)) (imports_of l))
     (some_passes (λ (n : List ℕ). bytes_eq (import_library l n) (import_library l name)) (imports_of l) name one
     (itself (import_library l name))))
   where

@@ -7,7 +7,6 @@ use Rattle.std.specs.Prelude.{Contains}
 use Rattle.std.proofs.lemmas.Bool.{and_parts, eqb-true}
 use Rattle.std.specs.Int.Bits.{xor_self, xor_add_and, or_add_and}
 use Rattle.std.proofs.lemmas.Nat.{and_mask, and_mod, or_mod}
-use Rattle.macho_records.specs.Sections.{section_type}
 use Rattle.macho_model.specs.Links.{Link, SectionId, header_at, carried_of}
 use Rattle.macho_model.specs.Segments.{OutputKey, same_key, key_of}
 use Rattle.macho_model.specs.OutputSections.{KEPT_FLAGS, members_of, flags_of_key}
@@ -29,7 +28,7 @@ kept : (n : ℕ) → bit_and n KEPT_FLAGS % 256 ≡ n % 256
 kept n = and_mod n KEPT_FLAGS 8 ∙ and_mask (n % 256) 8 ∙ omega arith
 
 -- THE type
-pub type_is : (l : Link) (key : OutputKey) → key.type < 256 → section_type (flags_of_key l key) ≡ key.type
+pub type_is : (l : Link) (key : OutputKey) → key.type < 256 → flags_of_key l key % 256 ≡ key.type
 type_is l key small =
     kept (fold bit_or key.type (map (λ s. (header_at l s).flags) (members_of l key)))
     ∙ joined key.type key.type (members_of l key) (λ s. (header_at l s).flags) (omega arith) (λ s there.

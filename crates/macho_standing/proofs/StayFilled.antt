@@ -18,7 +18,7 @@ use Rattle.macho_model.specs.declared.placed.PlacedSegment.{PlacedSegment}
 use Rattle.macho_model.specs.declared.placed.PlacedSection.{PlacedSection}
 use Rattle.macho_model.specs.declared.placed.Stub.{Stub}
 use Rattle.macho_model.specs.Links.{Link, header_at}
-use Rattle.macho_model.specs.Fields.{Field, fields_of}
+use Rattle.macho_model.specs.Fields.{Field, fields_of, content_of}
 use Rattle.macho_model.specs.Segments.{TEXT}
 use Rattle.macho_model.specs.WrittenSum.{STUB_SIZE}
 use Rattle.macho_model.specs.Placement.{Placed, id_of, section_span, stub_span, LiesIn, LiesInNamed, SectionLies}
@@ -26,7 +26,7 @@ use Rattle.macho_model.specs.Addresses.{offset_in_file}
 use Rattle.macho_model.specs.Needs.{POINTER_SIZE}
 use Rattle.macho_model.specs.Fixups.{IsFixupPlace}
 use Rattle.macho_model.specs.Meaning.{GoesThrough}
-use Rattle.macho_model.specs.Stands.{IsOutsideField, Says, seen_in, kind_of}
+use Rattle.macho_model.specs.Stands.{IsOutsideField, Says, kind_of}
 use Rattle.macho_model.specs.Values.{needs_fixup}
 use Rattle.macho_fixups.specs.declared.run.Fixup.{Fixup}
 use Rattle.macho_fixups.specs.Laws.{BytesStay}
@@ -159,7 +159,8 @@ sections_stay_filled stay l counts p fixups before now q link w one some filled 
         little_is_local.alike f.width (bytes_in_file before p q.address (header_at l (id_of q)).size)
         (bytes_in_file now p q.address (header_at l (id_of q)).size)
         f.offset f.offset (λ k within. sym (field_byte f field plain k within)) in
-        subst (λ (word : ℕ). Says l p 0 empty (id_of q) f (seen_in l 0 q f word) (kind_of f.type (is_some f.subtrahend))) same
+        subst (λ (word : ℕ). Says l p 0 empty (id_of q) f (q.address + f.offset + 0) word (content_of l (id_of q) f.relocation)
+        (kind_of f.type (is_some f.subtrahend))) same
         (was plain)
 
 -- THE stub stays set.

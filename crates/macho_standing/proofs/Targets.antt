@@ -8,12 +8,13 @@ use Rattle.std.proofs.Common.{map, filter, refl, sym, ap, subst, ◌∙◌, arit
 use Rattle.std.specs.Prelude.{Contains}
 use Rattle.std.specs.List.{position_or_len, filter_map}
 use Rattle.std.specs.Str.{bytes_eq}
+use Rattle.macho_model.specs.ObjectRules.{has_section}
 use Rattle.std.proofs.lemmas.Bool.{cases_Bool, and_parts, and_from, eq-eqb, leb-true, ltb-true, true≢false}
-use Rattle.macho_records.specs.Symbols.{is_common_of, is_external_of, is_stab_of, is_undefined_of}
-use Rattle.macho_records.specs.declared.constants.TheConstants.{ARM64_RELOC_ADDEND}
+use Rattle.macho_records.specs.Symbols.{is_common_of, is_stab_of, has_type, is_global}
+use Rattle.macho_records.specs.declared.constants.TheConstants.{ARM64_RELOC_ADDEND, N_ABS, N_SECT, N_UNDF, N_EXT}
+use Rattle.macho_records.specs.Flags.{has_any}
 use Rattle.macho_model.specs.declared.targets.Target.{Target}
 use Rattle.macho_model.specs.declared.targets.Target.TheVariants as target
-use Rattle.macho_model.specs.Symbols.{is_absolute, is_in_section, is_global, is_local}
 use Rattle.macho_model.specs.Objects.{num_sections, num_symbols}
 use Rattle.macho_model.specs.Links.{Link, SectionId, section_id, object_of, header_at, is_carried, sections_of, carried_of}
 use Rattle.macho_model.specs.Resolution.{SymbolId, Definition, Symbol, Library, ImageBase, first_or, entry_at, name_at, same_symbol}
@@ -22,12 +23,13 @@ use Rattle.macho_model.specs.Resolution.{commons_of, greatest_of, libraries_with
 use Rattle.macho_model.specs.Resolution.{chosen_commons}
 use Rattle.macho_model.specs.Needs.{Use, uses_of, imports_of, is_imported, is_library, name_used, global_name, relocation_in, section_named}
 use Rattle.macho_model.specs.Needs.{symbol_of_relocation}
-use Rattle.macho_model.specs.Targets.{place_of_symbol, own_target, definition_target, target_with, target_of, target_of_symbol}
-use Rattle.macho_model.specs.Targets.{target_of_section, target_of_relocation}
+use Rattle.macho_model.specs.Targets.{own_target, definition_target, target_with, target_of}
+use Rattle.macho_model.specs.Targets.{target_of_relocation}
 use Rattle.macho_model.specs.Rows.{is_none}
 use Rattle.macho_model.specs.Values.{is_absolute_target}
 use Rattle.macho_standing.specs.Leads.{HasPlace}
 use Rattle.macho_model.specs.Grammar.{ObjectsAreRead}
+use Rattle.macho_model.proofs.Words.{place_of_symbol, target_of_symbol, target_of_section}
 use Rattle.macho_standing.proofs.Members.{in_filter, of_filter, in_filter_map, at_front}
 use Rattle.macho_standing.proofs.Distinct.{in_distinct, first_within}
 use Rattle.macho_standing.proofs.Libraries.{same_bytes, itself}
@@ -51,14 +53,15 @@ place_has : (l : Link) (t : SymbolId) → ObjectsAreRead l → Contains (symbols
     → HasPlace l (place_of_symbol l t)
 place_has l t inputs one stands =
     let h = symbol_of_file l t inputs one in
-    let both = and_parts (is_in_section (entry_at l t)) (is_carried (header_at l (section_of_symbol l t))) stands in
-    let exists = and_parts (nat_le 1 (entry_at l t).n_sect) (nat_le (entry_at l t).n_sect (num_sections (object_of l t.file)))
-    (tested (is_in_section (entry_at l t)) _ both.0 (h.file.object.o5.0 t.symbol h.within)) in
+    let both = and_parts (has_type N_SECT (entry_at l t)) (is_carried (header_at l (section_of_symbol l t))) stands in
+    let numbered = tested (has_type N_SECT (entry_at l t)) _ both.0 (h.file.object.o5.0 t.symbol h.within) in
+    let exists = and_parts (nat_le 1 (entry_at l t).n_sect) (nat_le (entry_at l t).n_sect (num_sections (object_of l t.file))) numbered in
     let low = leb-true 1 (entry_at l t).n_sect exists.0 in
     let high = leb-true (entry_at l t).n_sect (num_sections (object_of l t.file)) exists.1 in
     let value = and_parts (nat_le (header_at l (section_of_symbol l t)).addr (entry_at l t).n_value)
     (nat_le (entry_at l t).n_value ((header_at l (section_of_symbol l t)).addr + (header_at l (section_of_symbol l t)).size))
-    (tested (is_in_section (entry_at l t)) _ both.0 (h.file.object.o8 t.symbol h.within)) in
+    (tested (has_type N_SECT (entry_at l t) && has_section (object_of l t.file) (entry_at l t).n_sect) _
+    (and_from (has_type N_SECT (entry_at l t)) _ both.0 numbered) (h.file.object.o8 t.symbol h.within)) in
     let end = leb-true (entry_at l t).n_value ((header_at l (section_of_symbol l t)).addr + (header_at l (section_of_symbol l t)).size)
     value.1 in
     (carried_listed l t.file ((entry_at l t).n_sect - 1) h.file (omega (arith, low, high)) both.1, omega (arith, end))
@@ -73,17 +76,17 @@ own_has l t inputs one chosen some moves =
       | inl stands ↦
           let same : own_target l t ≡ place_of_symbol l t = first (stands_in_carried l t) (place_of_symbol l t) _ stands in
           subst (HasPlace l) (sym same) (place_has l t inputs one stands)
-      | inr other ↦ elim (cases_Bool (is_absolute (entry_at l t))) [
+      | inr other ↦ elim (cases_Bool (has_type N_ABS (entry_at l t))) [
         | inl absolute ↦
             let same : own_target l t ≡ target.Absolute (entry_at l t).n_value =
             second (stands_in_carried l t) (place_of_symbol l t) _ other
-            ∙ first (is_absolute (entry_at l t)) (target.Absolute (entry_at l t).n_value) _ absolute in
+            ∙ first (has_type N_ABS (entry_at l t)) (target.Absolute (entry_at l t).n_value) _ absolute in
             absurd (true≢false (sym (ap is_absolute_target same) ∙ moves))
         | inr relative ↦ elim (cases_Bool (is_common_of (entry_at l t))) [
           | inl common ↦
               let same : own_target l t ≡ target.Common (position_or_len (same_symbol t) (chosen_commons l)) =
               second (stands_in_carried l t) (place_of_symbol l t) _ other
-              ∙ second (is_absolute (entry_at l t)) (target.Absolute (entry_at l t).n_value) _ relative
+              ∙ second (has_type N_ABS (entry_at l t)) (target.Absolute (entry_at l t).n_value) _ relative
               ∙ first (is_common_of (entry_at l t)) (target.Common (position_or_len (same_symbol t) (chosen_commons l))) target.None
               common in
               subst (HasPlace l) (sym same) (first_within (same_symbol t) (chosen_commons l) t (chosen common)
@@ -91,7 +94,7 @@ own_has l t inputs one chosen some moves =
           | inr none ↦
               let same : own_target l t ≡ target.None =
               second (stands_in_carried l t) (place_of_symbol l t) _ other
-              ∙ second (is_absolute (entry_at l t)) (target.Absolute (entry_at l t).n_value) _ relative
+              ∙ second (has_type N_ABS (entry_at l t)) (target.Absolute (entry_at l t).n_value) _ relative
               ∙ second (is_common_of (entry_at l t)) (target.Common (position_or_len (same_symbol t) (chosen_commons l))) target.None
               none in
               absurd (true≢false (sym (ap is_none same) ∙ some))
@@ -146,10 +149,10 @@ unfolding chosen_commons
 common_chosen l name t defined common =
     let d = symbol_defines l name t defined in
     let named : name_at l t ≡ name = same_bytes (name_at l t) name d.1 in
-    let parts = and_parts (is_undefined_of (entry_at l t)) (is_external_of (entry_at l t))
-    (and_parts (is_undefined_of (entry_at l t) && is_external_of (entry_at l t)) _ common).0 in
+    let parts = and_parts (has_type N_UNDF (entry_at l t)) (has_any N_EXT (entry_at l t).n_type)
+    (and_parts (has_type N_UNDF (entry_at l t) && has_any N_EXT (entry_at l t).n_type) _ common).0 in
     let global : is_global (entry_at l t) ≡ true =
-    and_from (not (is_stab_of (entry_at l t))) (is_external_of (entry_at l t))
+    and_from (not (is_stab_of (entry_at l t))) (has_any N_EXT (entry_at l t).n_type)
     (and_parts (not (is_stab_of (entry_at l t))) _ parts.0).0 parts.1 in
     let definition : definition_of l (name_at l t) ≡ Some (Symbol t) = ap (definition_of l) named ∙ defined in
     let self : is_symbol t (definition_of l (name_at l t)) ≡ true =
@@ -196,20 +199,12 @@ symbol_has l s inputs one used some moves =
           (definition_has l (name_at l s) inputs (used (name_at l s) named) (definition_of l (name_at l s)) refl
           (sym (ap is_none same) ∙ some)
           (sym (ap is_absolute_target same) ∙ moves))
-      | inr other ↦ elim (cases_Bool (is_local (entry_at l s) && (stands_in_carried l s || is_absolute (entry_at l s)))) [
-        | inl local ↦
-            let same : target_with l (imports_of l) s ≡ own_target l s =
-            second (is_global (entry_at l s)) (definition_target l (imports_of l) (name_at l s) (definition_of l (name_at l s))) _ other
-            ∙ first (is_local (entry_at l s) && (stands_in_carried l s || is_absolute (entry_at l s))) (own_target l s) target.None local in
-            subst (HasPlace l) (sym same)
-            (own_has l s inputs one (λ common. absurd (true≢false (sym (global_common common) ∙ other))) (sym (ap is_none same) ∙ some)
-            (sym (ap is_absolute_target same) ∙ moves))
-        | inr none ↦
-            let same : target_with l (imports_of l) s ≡ target.None =
-            second (is_global (entry_at l s)) (definition_target l (imports_of l) (name_at l s) (definition_of l (name_at l s))) _ other
-            ∙ second (is_local (entry_at l s) && (stands_in_carried l s || is_absolute (entry_at l s))) (own_target l s) target.None none in
-            absurd (true≢false (sym (ap is_none same) ∙ some))
-      ]
+      | inr other ↦
+          let same : target_with l (imports_of l) s ≡ own_target l s =
+          second (is_global (entry_at l s)) (definition_target l (imports_of l) (name_at l s) (definition_of l (name_at l s))) _ other in
+          subst (HasPlace l) (sym same)
+          (own_has l s inputs one (λ common. absurd (true≢false (sym (global_common common) ∙ other))) (sym (ap is_none same) ∙ some)
+          (sym (ap is_absolute_target same) ∙ moves))
     ]
   where
     first : (b : Bool) (x y : Target) → b ≡ true → (if b then x else y) ≡ x
@@ -220,9 +215,9 @@ symbol_has l s inputs one used some moves =
 
     global_common : is_common_of (entry_at l s) ≡ true → is_global (entry_at l s) ≡ true
     global_common common =
-        let parts = and_parts (is_undefined_of (entry_at l s)) (is_external_of (entry_at l s))
-        (and_parts (is_undefined_of (entry_at l s) && is_external_of (entry_at l s)) (not ((entry_at l s).n_value == 0)) common).0 in
-        and_from (not (is_stab_of (entry_at l s))) (is_external_of (entry_at l s))
+        let parts = and_parts (has_type N_UNDF (entry_at l s)) (has_any N_EXT (entry_at l s).n_type)
+        (and_parts (has_type N_UNDF (entry_at l s) && has_any N_EXT (entry_at l s).n_type) (not ((entry_at l s).n_value == 0)) common).0 in
+        and_from (not (is_stab_of (entry_at l s))) (has_any N_EXT (entry_at l s).n_type)
         (and_parts (not (is_stab_of (entry_at l s))) _ parts.0).0 parts.1
 
 -- THE target of a relocation of a section, whose use is walked over

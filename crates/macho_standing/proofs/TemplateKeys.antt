@@ -2,7 +2,7 @@
 --
 -- The type in the header of an output section is that of its key, so those of the template are merged ones, of a key of the template.
 -- Such a key is that of a carried section, which by the rules of objects is in `__DATA`.
-use Rattle.std.proofs.Common.{◌≡◌, ℕ, zero, suc, ◌<◌, ◌⊎◌, ◌==◌, ◌&&◌, Bool, true, false, List, [], ◌∷◌, map, filter, get_or, refl, sym, ap}
+use Rattle.std.proofs.Common.{◌≡◌, ℕ, zero, suc, ◌<◌, ◌⊎◌, ◌==◌, ◌&&◌, Bool, true, false, List, [], ◌∷◌, map, filter, get_or, refl, sym, ap, ◌%◌}
 use Rattle.std.proofs.Common.{◌∙◌, arith, inl, inr, All}
 use Rattle.std.specs.Prelude.{Contains}
 use Rattle.std.specs.Str.{bytes_eq}
@@ -11,7 +11,7 @@ use Rattle.std.proofs.lemmas.List.{get_or_default}
 use Rattle.std.proofs.lemmas.List.Elements.{All-append, Contains-append_cases, Contains-append_left}
 use Rattle.std.proofs.lemmas.Slice.Eq.{bytes_eq-Decides}
 use Rattle.macho_bytes.specs.Texts.{name_of}
-use Rattle.macho_records.specs.Sections.{section_type, type_of, is_template_type}
+use Rattle.macho_records.specs.Sections.{type_of, is_template_type}
 use Rattle.macho_records.specs.declared.constants.TheConstants.{S_THREAD_LOCAL_VARIABLES}
 use Rattle.macho_model.specs.declared.placed.Counts.{Counts}
 use Rattle.macho_model.specs.Links.{Link, SectionId, header_at, carried_of}
@@ -62,7 +62,7 @@ key_small l key there = elim (key_from l key there) [
 
 -- of the template
 abbrev pub is_template_output : Link → OutputSection → Bool
-is_template_output l o = is_template_type (section_type (flags_of_output l o))
+is_template_output l o = is_template_type (flags_of_output l o % 256)
 
 pub template_key : (l : Link) (key : OutputKey) → Contains (output_keys_of l) key
     → is_template_output l (Merged key) ≡ is_template_type key.type

@@ -14,13 +14,14 @@ use Rattle.std.proofs.lemmas.List.Elements.{All-append, All-contains, Contains-a
 use Rattle.std.proofs.lemmas.List.Kept.{AllPairs-filter}
 use Rattle.std.proofs.lemmas.Slice.Eq.{bytes_eq-Decides}
 use Rattle.macho_records.specs.Segments.{text_of}
+use Rattle.macho_records.specs.Sections.{segment_name_of}
 use Rattle.macho_model.specs.declared.placed.Counts.{Counts}
 use Rattle.macho_model.specs.declared.placed.PlacedSegment.{PlacedSegment}
-use Rattle.macho_model.specs.Links.{Link, carried_of}
+use Rattle.macho_model.specs.Links.{Link, carried_of, header_at}
 use Rattle.macho_model.specs.Resolution.{chosen_commons}
 use Rattle.macho_model.specs.Needs.{distinct}
 use Rattle.macho_model.specs.Targets.{slots_of}
-use Rattle.macho_model.specs.Segments.{segment_name, PAGEZERO, TEXT, DATA_CONST, DATA, LINKEDIT, is_known_segment, other_segments}
+use Rattle.macho_model.specs.Segments.{PAGEZERO, TEXT, DATA_CONST, DATA, LINKEDIT, is_known_segment, other_segments}
 use Rattle.macho_model.specs.Segments.{has_section_in, segment_names_of, list_if}
 use Rattle.macho_model.specs.Placement.{Placed}
 use Rattle.macho_model.specs.OutputSections.{OutputSection, Piece, output_sections_in, output_sections_of, extent_of}
@@ -94,7 +95,8 @@ others_differ : (l : Link) → All (λ n. bytes_eq n DATA ≡ false) (other_segm
 unfolding other_segments
 others_differ l k d lt =
     let n = get_or (other_segments l) k d in
-    let f = of_filter (λ (name : List ℕ). not (is_known_segment name)) (distinct bytes_eq (map (segment_name l) (carried_of l))) n
+    let f = of_filter (λ (name : List ℕ). not (is_known_segment name))
+    (distinct bytes_eq (map (λ s. segment_name_of (header_at l s)) (carried_of l))) n
     (k, lt, get_or_default (other_segments l) k n d lt) in
     others_known (bytes_eq n PAGEZERO) (bytes_eq n TEXT) (bytes_eq n DATA_CONST) (bytes_eq n DATA) (bytes_eq n LINKEDIT) f.1
 

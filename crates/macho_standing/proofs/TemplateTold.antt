@@ -12,7 +12,7 @@ use Rattle.std.proofs.lemmas.List.{append-nil, get_or_default}
 use Rattle.std.proofs.lemmas.List.Elements.{All-contains, Contains-append_left, Contains-append_right}
 use Rattle.std.proofs.lemmas.List.Folds.{list_any_at}
 use Rattle.std.proofs.lemmas.Slice.Eq.{bytes_eq-Decides}
-use Rattle.macho_records.specs.Sections.{type_of, is_template_type}
+use Rattle.macho_records.specs.Sections.{type_of, is_template_type, segment_name_of}
 use Rattle.macho_records.specs.Symbols.{common_exponent_of}
 use Rattle.macho_records.specs.declared.header.SectionHeader.{SectionHeader}
 use Rattle.macho_records.specs.declared.constants.TheConstants.{S_THREAD_LOCAL_REGULAR, S_THREAD_LOCAL_ZEROFILL}
@@ -22,7 +22,7 @@ use Rattle.macho_model.specs.declared.placed.PlacedCommon.{PlacedCommon}
 use Rattle.macho_model.specs.declared.placed.PlacedSection.{PlacedSection}
 use Rattle.macho_model.specs.Links.{Link, SectionId, header_at, carried_of, sections_of, is_carried, is_template, placed_exponent}
 use Rattle.macho_model.specs.Resolution.{entry_at, chosen_commons}
-use Rattle.macho_model.specs.Segments.{DATA, OutputKey, same_key, key_of, common_key, output_keys_of, segment_name, has_section_in}
+use Rattle.macho_model.specs.Segments.{DATA, OutputKey, same_key, key_of, common_key, output_keys_of, has_section_in}
 use Rattle.macho_model.specs.Segments.{segment_names_of, list_if}
 use Rattle.macho_model.specs.Placement.{Placed, id_of, common_of, section_span, common_span, template_sections, HoldsSpan, HoldsTemplate}
 use Rattle.macho_model.specs.Placement.{TemplateHolds}
@@ -135,10 +135,11 @@ in_data_row l key k =
 
 data_there : (l : Link) (key : OutputKey) → IsTemplateKey l key → has_data l ≡ true
 data_there l key k =
-    let segment : segment_name l k.section ≡ DATA = ap (λ (x : OutputKey). x.segment) k.is ∙ k.segment in
+    let segment : segment_name_of (header_at l k.section) ≡ DATA = ap (λ (x : OutputKey). x.segment) k.is ∙ k.segment in
     or_left (has_section_in l DATA) (not (length (chosen_commons l) == 0))
-    (list_any_at (λ s. bytes_eq (segment_name l s) DATA) (carried_of l) k.carried.0 k.section k.carried.1
-    (ap (λ (s : SectionId). bytes_eq (segment_name l s) DATA) k.carried.2 ∙ (bytes_eq-Decides (segment_name l k.section) DATA).1 segment))
+    (list_any_at (λ s. bytes_eq (segment_name_of (header_at l s)) DATA) (carried_of l) k.carried.0 k.section k.carried.1
+    (ap (λ (s : SectionId). bytes_eq (segment_name_of (header_at l s)) DATA) k.carried.2
+    ∙ (bytes_eq-Decides (segment_name_of (header_at l k.section)) DATA).1 segment))
 
 key_output : (l : Link) (counts : Counts) (key : OutputKey) → IsTemplateKey l key → Contains (templates l counts) (Merged key)
 unfolding output_sections_of

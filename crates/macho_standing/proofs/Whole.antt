@@ -132,13 +132,11 @@ composed_stands rests l counts uuid b p image s choice whole binds =
           (All-contains_itself p.sections k d lt) (content.sections k d lt);
       commons = λ k d lt. common_stands rests l counts b p ready joined zeros s choice (get_or p.commons k d)
           (All-contains_itself p.commons k d lt);
-      through = record {
-        slots = λ k d lt. slot_stands rests l counts b p ready joined s choice binds (get_or p.slots k d)
-            (All-contains_itself p.slots k d lt);
-        stubs = λ k d lt.
-            stub_stands rests l counts b p ready joined s choice whole (get_or p.stubs k d) (All-contains_itself p.stubs k d lt)
-            (content.stubs k d lt);
-      };
+      slots = λ k d lt. slot_stands rests l counts b p ready joined s choice binds (get_or p.slots k d)
+          (All-contains_itself p.slots k d lt);
+      stubs = λ k d lt.
+          stub_stands rests l counts b p ready joined s choice whole (get_or p.stubs k d) (All-contains_itself p.stubs k d lt)
+          (content.stubs k d lt);
     }
 
 -- THE link leads.

@@ -18,7 +18,7 @@ use Rattle.macho_bytes.specs.Texts.{put}
 use Rattle.macho_bytes.proofs.Puts.{length-put, get_or-put_below, get_or-put_above}
 use Rattle.macho_records.specs.declared.header.SegmentCommand.{SegmentCommand}
 use Rattle.macho_model.specs.Commands.{header_of, commands_from, commands_of, commands_end}
-use Rattle.macho_model.specs.Objects.{segment_of, num_sections, section_place, section_at, section_bytes, symtab_of, num_symbols}
+use Rattle.macho_model.specs.Objects.{num_sections, section_place, section_at, section_bytes, symtab_of, num_symbols}
 use Rattle.macho_model.specs.Objects.{symbol_place, symbol_at, strings_of, symbol_name, relocation_place, relocation_at}
 use Rattle.macho_model.specs.ExportLists.{plain_entries, all_entries, entries_of}
 use Rattle.macho_model.specs.Links.{sections_of, carried_of, template_exponent, placed_exponent}
@@ -160,7 +160,7 @@ other_stub_bytes : (bytes_in_file with_other_stub placed_call 0x100000398 8 ≡ 
     × (le_at 4 (bytes_in_file with_other_stub placed_call 0x1000003a0 12) 8 ≡ 0xd61f0220)
     × (contents_of calling with_other_stub placed_call 0 ≡ contents_of_call)
 unfolding changed with_other_stub commands_end commands_of commands_from header_of reading le_at row_bytes le_bytes words8 words halves
-    name16 entry calls_exit head_of_call fixups_of_call tables_of_call be_at be_bytes big_words signature_of_call call_image segment_of
+    name16 entry calls_exit head_of_call fixups_of_call tables_of_call be_at be_bytes big_words signature_of_call call_image
     num_sections section_place section_at section_bytes symtab_of num_symbols symbol_place symbol_at strings_of symbol_name
     relocation_place relocation_at sections_of carried_of template_exponent placed_exponent symbols_of strong_of weak_of
     commons_of greatest_of libraries_with definition_of chosen_commons initializer_sections unwind_sections uses_of imports_of
@@ -182,7 +182,7 @@ other_stub_sections =
 -- and what nothing stands in is 0
 contents_are : contents_of calling call_image placed_call 0 ≡ contents_of_call
 unfolding commands_end commands_of commands_from header_of reading le_at row_bytes le_bytes words8 words halves name16 entry calls_exit
-    head_of_call fixups_of_call tables_of_call be_at be_bytes big_words signature_of_call call_image segment_of num_sections section_place
+    head_of_call fixups_of_call tables_of_call be_at be_bytes big_words signature_of_call call_image num_sections section_place
     section_at section_bytes symtab_of num_symbols symbol_place symbol_at strings_of symbol_name relocation_place relocation_at
     sections_of carried_of template_exponent placed_exponent symbols_of strong_of weak_of commons_of greatest_of libraries_with
     definition_of chosen_commons initializer_sections unwind_sections uses_of imports_of libraries_needed target_of
@@ -213,7 +213,7 @@ stubs_are_needed = record {
       let leaves : le_at 4 (bytes_in_file with_other_stub placed_call 0x1000003a0 12) 8 ≡ 0xd61f0200 = stub.through.leaves in
       omega (arith, leaves, other_stub_bytes.2);
   conclusion = λ stands.
-      let stub = stands.1.1.through.stubs 0 stub_placed (omega arith) in
+      let stub = stands.1.1.stubs 0 stub_placed (omega arith) in
       other_branch stands.0 stands.1.0 stub.br stub.through.leaves stub.held_br;
 }
 
@@ -236,7 +236,7 @@ other_unwind_facts : (bytes_in_file with_other_unwind placed_call 0x100000398 8 
     × (contents_of calling with_other_unwind placed_with_room 1 ≡ contents_with_byte)
     × (slice_index with_other_unwind 0x3ac ≡ 1)
 unfolding changed with_other_unwind commands_end commands_of commands_from header_of reading le_at row_bytes le_bytes words8 words halves
-    name16 entry calls_exit head_of_call fixups_of_call tables_of_call be_at be_bytes big_words signature_of_call call_image segment_of
+    name16 entry calls_exit head_of_call fixups_of_call tables_of_call be_at be_bytes big_words signature_of_call call_image
     num_sections section_place section_at section_bytes symtab_of num_symbols symbol_place symbol_at strings_of symbol_name
     relocation_place relocation_at sections_of carried_of template_exponent placed_exponent symbols_of strong_of weak_of
     commons_of greatest_of libraries_with definition_of chosen_commons initializer_sections unwind_sections uses_of imports_of

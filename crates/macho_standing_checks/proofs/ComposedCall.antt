@@ -11,7 +11,7 @@ use Rattle.macho_parts.specs.Filled.{IsFilled, FieldIsSet, bytes_in_file}
 use Rattle.macho_bytes.specs.Numbers.{le_at, le_bytes, row_bytes, be_at, be_bytes}
 use Rattle.macho_bytes.specs.Layouts.{reading}
 use Rattle.macho_model.specs.Commands.{header_of, commands_from, commands_of, commands_end}
-use Rattle.macho_model.specs.Objects.{segment_of, num_sections, section_place, section_at, section_bytes, symtab_of, num_symbols}
+use Rattle.macho_model.specs.Objects.{num_sections, section_place, section_at, section_bytes, symtab_of, num_symbols}
 use Rattle.macho_model.specs.Objects.{symbol_place, symbol_at, strings_of, symbol_name, relocation_place, relocation_at}
 use Rattle.macho_model.specs.ExportLists.{plain_entries, all_entries, entries_of}
 use Rattle.macho_model.specs.Links.{object_of, sections_of, carried_of, template_exponent, placed_exponent}
@@ -43,7 +43,7 @@ use Rattle.macho_standing_checks.proofs.FixupsCall.{fixups_call}
 
 -- the section and the stub
 section_bytes_call : bytes_in_file call_image placed_call 0x100000398 8 ≡ words (0x94000002 ∷ 0xd65f03c0 ∷ [])
-unfolding header_of commands_from commands_of commands_end segment_of num_sections section_place section_at section_bytes symtab_of
+unfolding header_of commands_from commands_of commands_end num_sections section_place section_at section_bytes symtab_of
     num_symbols symbol_place symbol_at strings_of symbol_name relocation_place relocation_at sections_of carried_of template_exponent
     placed_exponent symbols_of strong_of weak_of commons_of greatest_of libraries_with definition_of chosen_commons
     initializer_sections unwind_sections uses_of imports_of libraries_needed target_of target_of_relocation slots_of stubs_of
@@ -54,7 +54,7 @@ unfolding header_of commands_from commands_of commands_end segment_of num_sectio
 section_bytes_call = refl
 
 input_bytes_call : section_bytes (object_of calling 0) 0 ≡ words (0x94000000 ∷ 0xd65f03c0 ∷ [])
-unfolding header_of commands_from commands_of commands_end segment_of num_sections section_place section_at section_bytes symtab_of
+unfolding header_of commands_from commands_of commands_end num_sections section_place section_at section_bytes symtab_of
     num_symbols symbol_place symbol_at strings_of symbol_name relocation_place relocation_at sections_of carried_of template_exponent
     placed_exponent symbols_of strong_of weak_of commons_of greatest_of libraries_with definition_of chosen_commons
     initializer_sections unwind_sections uses_of imports_of libraries_needed target_of target_of_relocation slots_of stubs_of
@@ -116,7 +116,7 @@ section_call filled = rw sizes_call.0 (rw section_bytes_call filled_text)
 
 -- the data is one pointer, of which the loader writes all bytes
 data_bytes_call : length (bytes_in_file call_image placed_call 0x100008000 8) ≡ 8
-unfolding header_of commands_from commands_of commands_end segment_of num_sections section_place section_at section_bytes symtab_of
+unfolding header_of commands_from commands_of commands_end num_sections section_place section_at section_bytes symtab_of
     num_symbols symbol_place symbol_at strings_of symbol_name relocation_place relocation_at sections_of carried_of template_exponent
     placed_exponent symbols_of strong_of weak_of commons_of greatest_of libraries_with definition_of chosen_commons
     initializer_sections unwind_sections uses_of imports_of libraries_needed target_of target_of_relocation slots_of stubs_of
@@ -150,7 +150,7 @@ data_call filled = rw sizes_call.1 filled_data
 
 -- the stub goes through the slot
 stub_bytes_call : bytes_in_file call_image placed_call 0x1000003a0 12 ≡ words (0x90000030 ∷ 0xf9400210 ∷ 0xd61f0200 ∷ [])
-unfolding header_of commands_from commands_of commands_end segment_of num_sections section_place section_at section_bytes symtab_of
+unfolding header_of commands_from commands_of commands_end num_sections section_place section_at section_bytes symtab_of
     num_symbols symbol_place symbol_at strings_of symbol_name relocation_place relocation_at sections_of carried_of template_exponent
     placed_exponent symbols_of strong_of weak_of commons_of greatest_of libraries_with definition_of chosen_commons
     initializer_sections unwind_sections uses_of imports_of libraries_needed target_of target_of_relocation slots_of stubs_of
@@ -173,7 +173,11 @@ stub_call = rw stub_bytes_call (record {
   slot = 0x100004000;
   at = (slot_placed, (0, omega arith, refl), refl, refl);
   through = rw (stub_words_call.0, stub_words_call.1, stub_words_call.2)
-      (record { pages = (refl, refl); reaches = refl; load = (refl, refl, refl); offset = refl; leaves = refl });
+      (record {
+        pages = record { reaches = refl; kept = refl };
+        loads = record { load = refl; reaches = refl; kept = refl };
+        leaves = refl;
+      });
 })
 
 -- THE image is composed of its parts.

@@ -8,7 +8,7 @@ use Rattle.macho_model.specs.declared.targets.Target.TheVariants as target
 use Rattle.macho_bytes.specs.Numbers.{le_at, le_bytes, row_bytes}
 use Rattle.macho_bytes.specs.Layouts.{reading}
 use Rattle.macho_model.specs.Commands.{header_of, commands_from, commands_of, commands_end}
-use Rattle.macho_model.specs.Objects.{segment_of, num_sections, section_place, section_at, section_bytes, symtab_of, num_symbols}
+use Rattle.macho_model.specs.Objects.{num_sections, section_place, section_at, section_bytes, symtab_of, num_symbols}
 use Rattle.macho_model.specs.Objects.{symbol_place, symbol_at, strings_of, symbol_name, relocation_place, relocation_at}
 use Rattle.macho_model.specs.ExportLists.{plain_entries, all_entries, entries_of}
 use Rattle.macho_model.specs.Links.{header_at, sections_of, carried_of, template_exponent, placed_exponent}
@@ -19,7 +19,7 @@ use Rattle.macho_model.specs.Targets.{target_of, target_of_relocation, slots_of,
 use Rattle.macho_model.specs.Fields.{Field, fields_of, content_of}
 use Rattle.macho_model.specs.Rows.{is_supported}
 use Rattle.macho_model.specs.Consumed.{personality_targets, entries_of_link}
-use Rattle.macho_model.specs.Segments.{TEXT, other_segments, segment_rank, segment_names_of, segment_name, output_keys_of, output_count}
+use Rattle.macho_model.specs.Segments.{TEXT, other_segments, segment_rank, segment_names_of, output_keys_of, output_count}
 use Rattle.macho_model.specs.WrittenSum.{content_sum, command_sum, unsigned_sum, written_sum_of}
 use Rattle.macho_model_checks.proofs.Examples.{words8, words, halves, name16}
 use Rattle.macho_model_checks.proofs.ExampleLinks.{entry, section}
@@ -30,7 +30,7 @@ use Rattle.macho_model.specs.Grammar.{IsObject}
 use Rattle.macho_model.specs.Valid.{IsValid}
 
 pub carried_call : carried_of calling ≡ section 0 0 ∷ section 0 1 ∷ []
-unfolding header_of commands_from commands_of commands_end segment_of num_sections section_place section_at section_bytes symtab_of
+unfolding header_of commands_from commands_of commands_end num_sections section_place section_at section_bytes symtab_of
     num_symbols symbol_place symbol_at strings_of symbol_name relocation_place relocation_at sections_of carried_of template_exponent
     placed_exponent symbols_of strong_of weak_of commons_of greatest_of libraries_with definition_of chosen_commons
     initializer_sections unwind_sections uses_of imports_of libraries_needed target_of target_of_relocation slots_of stubs_of
@@ -40,7 +40,7 @@ unfolding header_of commands_from commands_of commands_end segment_of num_sectio
 carried_call = refl
 
 pub sizes_call : ((header_at calling (section 0 0)).size ≡ 8) × ((header_at calling (section 0 1)).size ≡ 8)
-unfolding header_of commands_from commands_of commands_end segment_of num_sections section_place section_at section_bytes symtab_of
+unfolding header_of commands_from commands_of commands_end num_sections section_place section_at section_bytes symtab_of
     num_symbols symbol_place symbol_at strings_of symbol_name relocation_place relocation_at sections_of carried_of template_exponent
     placed_exponent symbols_of strong_of weak_of commons_of greatest_of libraries_with definition_of chosen_commons
     initializer_sections unwind_sections uses_of imports_of libraries_needed target_of target_of_relocation slots_of stubs_of
@@ -50,7 +50,7 @@ unfolding header_of commands_from commands_of commands_end segment_of num_sectio
 sizes_call = (refl, refl)
 
 pub exponents_call : (placed_exponent calling (section 0 0) ≡ 2) × (placed_exponent calling (section 0 1) ≡ 3)
-unfolding header_of commands_from commands_of commands_end segment_of num_sections section_place section_at section_bytes symtab_of
+unfolding header_of commands_from commands_of commands_end num_sections section_place section_at section_bytes symtab_of
     num_symbols symbol_place symbol_at strings_of symbol_name relocation_place relocation_at sections_of carried_of template_exponent
     placed_exponent symbols_of strong_of weak_of commons_of greatest_of libraries_with definition_of chosen_commons
     initializer_sections unwind_sections uses_of imports_of libraries_needed target_of target_of_relocation slots_of stubs_of
@@ -60,7 +60,7 @@ unfolding header_of commands_from commands_of commands_end segment_of num_sectio
 exponents_call = (refl, refl)
 
 pub commons_call : chosen_commons calling ≡ []
-unfolding header_of commands_from commands_of commands_end segment_of num_sections section_place section_at section_bytes symtab_of
+unfolding header_of commands_from commands_of commands_end num_sections section_place section_at section_bytes symtab_of
     num_symbols symbol_place symbol_at strings_of symbol_name relocation_place relocation_at sections_of carried_of template_exponent
     placed_exponent symbols_of strong_of weak_of commons_of greatest_of libraries_with definition_of chosen_commons
     initializer_sections unwind_sections uses_of imports_of libraries_needed target_of target_of_relocation slots_of stubs_of
@@ -70,7 +70,7 @@ unfolding header_of commands_from commands_of commands_end segment_of num_sectio
 commons_call = refl
 
 pub slots_call : slots_of calling ≡ target.Import 0 ∷ []
-unfolding header_of commands_from commands_of commands_end segment_of num_sections section_place section_at section_bytes symtab_of
+unfolding header_of commands_from commands_of commands_end num_sections section_place section_at section_bytes symtab_of
     num_symbols symbol_place symbol_at strings_of symbol_name relocation_place relocation_at sections_of carried_of template_exponent
     placed_exponent symbols_of strong_of weak_of commons_of greatest_of libraries_with definition_of chosen_commons
     initializer_sections unwind_sections uses_of imports_of libraries_needed target_of target_of_relocation slots_of stubs_of
@@ -80,7 +80,7 @@ unfolding header_of commands_from commands_of commands_end segment_of num_sectio
 slots_call = refl
 
 pub stubs_call : stubs_of calling ≡ target.Import 0 ∷ []
-unfolding header_of commands_from commands_of commands_end segment_of num_sections section_place section_at section_bytes symtab_of
+unfolding header_of commands_from commands_of commands_end num_sections section_place section_at section_bytes symtab_of
     num_symbols symbol_place symbol_at strings_of symbol_name relocation_place relocation_at sections_of carried_of template_exponent
     placed_exponent symbols_of strong_of weak_of commons_of greatest_of libraries_with definition_of chosen_commons
     initializer_sections unwind_sections uses_of imports_of libraries_needed target_of target_of_relocation slots_of stubs_of
@@ -102,7 +102,7 @@ field_call = record {
 }
 
 pub fields_call : fields_of calling (section 0 0) ≡ field_call ∷ []
-unfolding header_of commands_from commands_of commands_end segment_of num_sections section_place section_at section_bytes symtab_of
+unfolding header_of commands_from commands_of commands_end num_sections section_place section_at section_bytes symtab_of
     num_symbols symbol_place symbol_at strings_of symbol_name relocation_place relocation_at sections_of carried_of template_exponent
     placed_exponent symbols_of strong_of weak_of commons_of greatest_of libraries_with definition_of chosen_commons
     initializer_sections unwind_sections uses_of imports_of libraries_needed target_of target_of_relocation slots_of stubs_of
@@ -112,7 +112,7 @@ unfolding header_of commands_from commands_of commands_end segment_of num_sectio
 fields_call = refl
 
 pub content_call : content_of calling (section 0 0) 0 ≡ 0x94000000
-unfolding header_of commands_from commands_of commands_end segment_of num_sections section_place section_at section_bytes symtab_of
+unfolding header_of commands_from commands_of commands_end num_sections section_place section_at section_bytes symtab_of
     num_symbols symbol_place symbol_at strings_of symbol_name relocation_place relocation_at sections_of carried_of template_exponent
     placed_exponent symbols_of strong_of weak_of commons_of greatest_of libraries_with definition_of chosen_commons
     initializer_sections unwind_sections uses_of imports_of libraries_needed target_of target_of_relocation slots_of stubs_of
@@ -122,7 +122,7 @@ unfolding header_of commands_from commands_of commands_end segment_of num_sectio
 content_call = refl
 
 pub entry_call : target_of_name calling calling.entry ≡ target.Section 0 0 0
-unfolding header_of commands_from commands_of commands_end segment_of num_sections section_place section_at section_bytes symtab_of
+unfolding header_of commands_from commands_of commands_end num_sections section_place section_at section_bytes symtab_of
     num_symbols symbol_place symbol_at strings_of symbol_name relocation_place relocation_at sections_of carried_of template_exponent
     placed_exponent symbols_of strong_of weak_of commons_of greatest_of libraries_with definition_of chosen_commons
     initializer_sections unwind_sections uses_of imports_of libraries_needed target_of target_of_relocation slots_of stubs_of
@@ -133,7 +133,7 @@ entry_call = refl
 
 -- the greatest that a placement may pass its base by
 pub sum_call : written_sum_of calling counts_of_call ≡ 133505
-unfolding header_of commands_from commands_of commands_end segment_of num_sections section_place section_at section_bytes symtab_of
+unfolding header_of commands_from commands_of commands_end num_sections section_place section_at section_bytes symtab_of
     num_symbols symbol_place symbol_at strings_of symbol_name relocation_place relocation_at sections_of carried_of template_exponent
     placed_exponent symbols_of strong_of weak_of commons_of greatest_of libraries_with definition_of chosen_commons
     initializer_sections unwind_sections uses_of imports_of libraries_needed target_of target_of_relocation slots_of stubs_of
@@ -144,7 +144,7 @@ sum_call = refl
 
 -- its object is one, and it is valid
 pub object_call : IsObject calls_exit
-unfolding verdict header_of commands_from commands_of commands_end segment_of num_sections section_place section_at section_bytes
+unfolding verdict header_of commands_from commands_of commands_end num_sections section_place section_at section_bytes
     symtab_of num_symbols symbol_place symbol_at strings_of symbol_name relocation_place relocation_at sections_of carried_of
     template_exponent placed_exponent symbols_of strong_of weak_of commons_of greatest_of libraries_with definition_of chosen_commons
     initializer_sections unwind_sections uses_of imports_of libraries_needed target_of target_of_relocation slots_of stubs_of
@@ -154,7 +154,7 @@ unfolding verdict header_of commands_from commands_of commands_end segment_of nu
 object_call = is_object calls_exit refl
 
 pub valid_call : IsValid calling counts_of_call
-unfolding valid_verdict header_of commands_from commands_of commands_end segment_of num_sections section_place section_at section_bytes
+unfolding valid_verdict header_of commands_from commands_of commands_end num_sections section_place section_at section_bytes
     symtab_of num_symbols symbol_place symbol_at strings_of symbol_name relocation_place relocation_at sections_of carried_of
     template_exponent placed_exponent symbols_of strong_of weak_of commons_of greatest_of libraries_with definition_of chosen_commons
     initializer_sections unwind_sections uses_of imports_of libraries_needed target_of target_of_relocation slots_of stubs_of

@@ -8,9 +8,8 @@ use Rattle.macho_bytes.specs.Texts.{name_of}
 use Rattle.macho_records.specs.declared.header.SectionHeader.{SectionHeader}
 use Rattle.macho_records.specs.declared.constants.TheConstants.{S_THREAD_LOCAL_REGULAR}
 use Rattle.macho_records.specs.declared.constants.TheConstants.{S_THREAD_LOCAL_VARIABLES, S_THREAD_LOCAL_ZEROFILL}
-use Rattle.macho_records.specs.Sections.{type_of}
+use Rattle.macho_records.specs.Sections.{type_of, segment_name_of}
 use Rattle.macho_model.specs.declared.targets.Target.{Target}
-use Rattle.macho_model.specs.Symbols.{is_in_segment}
 use Rattle.macho_model.specs.ObjectRules.{is_thread_local}
 use Rattle.macho_model.specs.Objects.{num_sections}
 use Rattle.macho_model.specs.Grammar.{IsObject}
@@ -19,7 +18,7 @@ use Rattle.macho_model.specs.Links.{Link, SectionId, object_of, header_at, carri
 use Rattle.macho_model.specs.Needs.{Use, ByRelocation, relocation_in, relocations_of}
 use Rattle.macho_model.specs.Targets.{target_of_relocation, is_import}
 use Rattle.macho_model.specs.Fields.{field_of, content_of, fields_of, is_prefix_type, addend_of}
-use Rattle.macho_model.specs.Segments.{segment_name, may_hold_pointers, DATA, DATA_CONST}
+use Rattle.macho_model.specs.Segments.{may_hold_pointers, DATA, DATA_CONST}
 use Rattle.macho_model.specs.Stands.{is_template_offset}
 use Rattle.macho_model.specs.Rows.{is_supported}
 use Rattle.macho_model.specs.Values.{FieldOf, fits_signed, is_pointer, is_absolute_target, needs_fixup}
@@ -98,9 +97,9 @@ field_is : (l : Link) (s : SectionId) (r word : ℕ) → IsJudged l s r word →
 field_is l s r word is e = (is.carried, field_there l s r is.there (plain_prefix l s r (plain_field l s r word is e)), refl)
 
 -- a descriptor of a thread-local variable is in a segment that may hold pointers
-descriptors : (h : SectionHeader) → (not (is_thread_local (type_of h)) || is_in_segment DATA h) ≡ true
+descriptors : (h : SectionHeader) → (not (is_thread_local (type_of h)) || bytes_eq (segment_name_of h) DATA) ≡ true
     → (type_of h == S_THREAD_LOCAL_VARIABLES) ≡ true → may_hold_pointers (name_of h.segname) ≡ true
-descriptors h rule e = by (is_in_segment DATA h) refl
+descriptors h rule e = by (bytes_eq (segment_name_of h) DATA) refl
   where
     local : is_thread_local (type_of h) ≡ true
     local = ap (λ b. (type_of h == S_THREAD_LOCAL_REGULAR) || (type_of h == S_THREAD_LOCAL_ZEROFILL) || b) e
@@ -110,9 +109,9 @@ descriptors h rule e = by (is_in_segment DATA h) refl
         last true = refl
         last false = refl
 
-    by : (x : Bool) → is_in_segment DATA h ≡ x → may_hold_pointers (name_of h.segname) ≡ true
+    by : (x : Bool) → bytes_eq (segment_name_of h) DATA ≡ x → may_hold_pointers (name_of h.segname) ≡ true
     by true t = ap (λ b. b || bytes_eq (name_of h.segname) DATA_CONST) t
-    by false t = let u : false ≡ true = sym (ap (λ b. not b || is_in_segment DATA h) local ∙ t) ∙ rule in cc
+    by false t = let u : false ≡ true = sym (ap (λ b. not b || bytes_eq (segment_name_of h) DATA) local ∙ t) ∙ rule in cc
 
 -- the addend that is told
 bad_stands : (l : Link) (s : SectionId) (r word : ℕ) (t : Target) → IsJudged l s r word → t ≡ referent l s r
@@ -143,12 +142,12 @@ bad_stands l s r word t is leads = by (is_pointer (field_of l s r)) refl
 
 -- the place that is told
 misplaced_is : (l : Link) (s : SectionId) (r word : ℕ) (t : Target) (holds : Bool) → IsJudged l s r word → t ≡ referent l s r
-    → holds ≡ may_hold_pointers (segment_name l s)
-    → misplaced holds (pointer_of l s r) t ≡ (needs_fixup l s (field_of l s r) && not (may_hold_pointers (segment_name l s)))
+    → holds ≡ may_hold_pointers (segment_name_of (header_at l s))
+    → misplaced holds (pointer_of l s r) t ≡ (needs_fixup l s (field_of l s r) && not (may_hold_pointers (segment_name_of (header_at l s))))
 misplaced_is l s r word t holds is leads held = by (is_pointer (field_of l s r)) refl
   where
     fixup : is_pointer (field_of l s r) ≡ true → (a d m : Bool) → is_absolute_target (target_of_relocation l s r) ≡ a
-        → is_template_offset l s (field_of l s r) ≡ d → may_hold_pointers (segment_name l s) ≡ m
+        → is_template_offset l s (field_of l s r) ≡ d → may_hold_pointers (segment_name_of (header_at l s)) ≡ m
         → (not a && not m) ≡ (not a && not d && not m)
     fixup e a d true x y z = both_false (not a) (not a && not d)
       where
@@ -165,7 +164,8 @@ misplaced_is l s r word t holds is leads held = by (is_pointer (field_of l s r))
     fixup e a true false x y z =
         let type : (type_of (header_at l s) == S_THREAD_LOCAL_VARIABLES) ≡ true = first
         (type_of (header_at l s) == S_THREAD_LOCAL_VARIABLES) _ y in
-        let may : may_hold_pointers (segment_name l s) ≡ true = descriptors (header_at l s) ((object_keeps is.object).o11 s.section is.among) type in
+        let may : may_hold_pointers (segment_name_of (header_at l s)) ≡ true =
+        descriptors (header_at l s) ((object_keeps is.object).o11 s.section is.among) type in
         let no : true ≡ false = sym may ∙ z in cc
       where
         first : (p q : Bool) → (p && q) ≡ true → p ≡ true
@@ -177,19 +177,19 @@ misplaced_is l s r word t holds is leads held = by (is_pointer (field_of l s r))
 
     by : (x : Bool) → is_pointer (field_of l s r) ≡ x
         → misplaced holds (if is_pointer (field_of l s r) then Some (addend_of l s r) else None) t ≡ (needs_fixup l s (field_of l s r) &&
-        not (may_hold_pointers (segment_name l s)))
+        not (may_hold_pointers (segment_name_of (header_at l s))))
     by true e =
         ap (λ b. misplaced holds (if b then Some (addend_of l s r) else None) t) e
         ∙ ap (λ u. not (is_absolute_target u) && not holds) (target_is e)
         ∙ ap (λ b. not (is_absolute_target (target_of_relocation l s r)) && not b) held
         ∙ fixup e (is_absolute_target (target_of_relocation l s r)) (is_template_offset l s (field_of l s r))
-        (may_hold_pointers (segment_name l s)) refl refl refl
+        (may_hold_pointers (segment_name_of (header_at l s))) refl refl refl
         ∙ ap (λ b. b && not (is_absolute_target (target_of_relocation l s r)) && not (is_template_offset l s (field_of l s r)) &&
-        not (may_hold_pointers (segment_name l s))) (sym e)
+        not (may_hold_pointers (segment_name_of (header_at l s)))) (sym e)
     by false e =
         ap (λ b. misplaced holds (if b then Some (addend_of l s r) else None) t) e
         ∙ ap (λ b. b && not (is_absolute_target (target_of_relocation l s r)) && not (is_template_offset l s (field_of l s r)) &&
-        not (may_hold_pointers (segment_name l s))) (sym e)
+        not (may_hold_pointers (segment_name_of (header_at l s)))) (sym e)
 
 both : (a b : Bool) → (a && b) ≡ true → (a ≡ true) × (b ≡ true)
 both true b e = (refl, e)
@@ -199,7 +199,7 @@ both false b e = cc
 pub judged_more : (l : Link) (ss : List SectionId) (us : List Use) (old new : Needs) (f : Findings) (s : SectionId) (r word : ℕ)
     (t : Target) (holds : Bool) → IsJudged l s r word
     → IsSurveyed l ss us old f → IsNoted l (us ++ ByRelocation s r ∷ []) new → t ≡ referent l s r
-    → holds ≡ may_hold_pointers (segment_name l s)
+    → holds ≡ may_hold_pointers (segment_name_of (header_at l s))
     → IsSurveyed l ss (us ++ ByRelocation s r ∷ []) new
     (judged f holds (record { file = s.file; section = s.section; relocation = r }) (window_of l s r) t word (pointer_of l s r))
 judged_more l ss us old new f s r word t holds is before noted leads held = record {
@@ -211,8 +211,13 @@ judged_more l ss us old new f s r word t holds is before noted leads held = reco
     addend = if_first_of (IsBadAddend l) f.addend (bad_addend at (pointer_of l s r) t) before.standing.addend
         (bad_stands l s r word t is leads);
     place = if_first (IsBadPlace l) (misplaced holds (pointer_of l s r) t) f.place at before.standing.place
-        (λ e. let h = both (needs_fixup l s (field_of l s r)) (not (may_hold_pointers (segment_name l s))) (sym place ∙ e) in
-        (field_of l s r, field_is l s r word is (pointed h.0), h.0, false_of_not (may_hold_pointers (segment_name l s)) h.1));
+        (λ e. let h = both (needs_fixup l s (field_of l s r)) (not (may_hold_pointers (segment_name_of (header_at l s)))) (sym place ∙ e) in (
+          field_of l s r,
+          field_is l s r word is (pointed h.0),
+          h.0,
+          false_of_not
+              (may_hold_pointers (segment_name_of (header_at l s))) h.1,
+        ));
   };
   fine = λ c. All-push (IsFine l) us (ByRelocation s r) (before.fine (clean c)) (fine c);
   apart = λ c. before.apart (clean c);
@@ -227,7 +232,8 @@ judged_more l ss us old new f s r word t holds is before noted leads held = reco
     supported : supported_in (window_of l s r) t word ≡ is_supported l s r
     supported = ap (λ u. supported_in (window_of l s r) u word) leads ∙ supported_is l s r word is.word_is
 
-    place : misplaced holds (pointer_of l s r) t ≡ (needs_fixup l s (field_of l s r) && not (may_hold_pointers (segment_name l s)))
+    place : misplaced holds (pointer_of l s r) t
+        ≡ (needs_fixup l s (field_of l s r) && not (may_hold_pointers (segment_name_of (header_at l s))))
     place = misplaced_is l s r word t holds is leads held
 
     pointed : needs_fixup l s (field_of l s r) ≡ true → is_pointer (field_of l s r) ≡ true
@@ -262,10 +268,10 @@ judged_more l ss us old new f s r word t holds is before noted leads held = reco
         good false g h = let no : told ≡ None = sym (ap (λ b. if_told (true && not b)) g) ∙ h in cc
 
     holds_it : needs_fixup l s (field_of l s r) ≡ true
-        → (needs_fixup l s (field_of l s r) && not (may_hold_pointers (segment_name l s))) ≡ false
-        → may_hold_pointers (segment_name l s) ≡ true
-    holds_it e none = true_of_not (may_hold_pointers (segment_name l s))
-        (sym (ap (λ b. b && not (may_hold_pointers (segment_name l s))) e) ∙ none)
+        → (needs_fixup l s (field_of l s r) && not (may_hold_pointers (segment_name_of (header_at l s)))) ≡ false
+        → may_hold_pointers (segment_name_of (header_at l s)) ≡ true
+    holds_it e none = true_of_not (may_hold_pointers (segment_name_of (header_at l s)))
+        (sym (ap (λ b. b && not (may_hold_pointers (segment_name_of (header_at l s)))) e) ∙ none)
 
     fine : IsClean after → IsFineRelocation l s r
     fine c = record {

@@ -13,10 +13,10 @@ use Rattle.macho_model.specs.Objects.{section_bytes}
 use Rattle.macho_model.specs.Links.{Link, SectionId, object_of}
 use Rattle.macho_model.specs.Needs.{relocation_in}
 use Rattle.macho_model.specs.Targets.{target_of_relocation}
-use Rattle.macho_model.specs.Fields.{Field, field_of, width_of, content_of, has_subtrahend, has_addend, subtrahend_of, addend_of}
-use Rattle.macho_model.specs.Fields.{pointer_addend}
+use Rattle.macho_model.specs.Fields.{Field, field_of, width_of, content_of, has_subtrahend, has_addend, addend_of, pointer_addend}
 use Rattle.macho_model.specs.Stands.{Kind, Pointer, Difference, Branch, Page, Offset, SlotPage, SlotOffset, SlotDistance, NoKind, kind_of}
 use Rattle.macho_model.specs.Values.{is_pointer}
+use Rattle.macho_model.proofs.Words.{subtrahend_of}
 use Rattle.macho_needs.specs.Noted.{pointer_of, referent}
 use Rattle.macho_survey.specs.steps.Windows.{subtracted}
 use Rattle.macho_survey.specs.steps.Sections.{is_plain, pointer_at, addend_by}

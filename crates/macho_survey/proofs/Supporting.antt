@@ -13,8 +13,10 @@ use Rattle.macho_model.specs.Needs.{relocation_in}
 use Rattle.macho_model.specs.Targets.{target_of_relocation, is_defined, is_import}
 use Rattle.macho_model.specs.Fields.{content_of, has_subtrahend, has_addend, is_difference, is_with_addend, is_pair}
 use Rattle.macho_model.specs.Words.{is_adrp, is_branch}
-use Rattle.macho_model.specs.Rows.{has_form, begins_pair, is_none, difference_fits, addend_fits, pointer_fits, may_be_called}
-use Rattle.macho_model.specs.Rows.{defined_or_import, takes_offset, load_fits, is_supported}
+use Rattle.macho_model.specs.Rows.{has_form, begins_pair, is_none, difference_fits, pointer_fits}
+use Rattle.macho_model.specs.Supported.{addend_fits, may_be_called}
+use Rattle.macho_model.specs.Rows.{defined_or_import, is_supported}
+use Rattle.macho_model.specs.Supported.{takes_offset, load_fits}
 use Rattle.macho_needs.specs.Noted.{referent}
 use Rattle.macho_survey.specs.declared.pairs.Seen.{Seen}
 use Rattle.macho_survey.specs.steps.Windows.{window_in, tests_before, tests_next, subtracted, with_addend, begins}

@@ -1,7 +1,8 @@
 //! Which relocations are supported: by form, pair, instruction and target (`mach-o/arm64/reloc.h`).
 ghost use Rattle.std.specs.Prelude.{◌≡◌, true, false};
 ghost use Rattle.macho_model.specs.Targets.{is_defined};
-ghost use Rattle.macho_model.specs.Rows.{has_form, is_none, defined_or_import, takes_offset, load_fits};
+ghost use Rattle.macho_model.specs.Rows.{has_form, is_none, defined_or_import};
+ghost use Rattle.macho_model.specs.Supported.{takes_offset, load_fits};
 ghost use Rattle.macho_survey.specs.steps.Supported.{difference_in, addend_in, pointer_in, called_in, page_load};
 ghost use Rattle.macho_survey.specs.steps.Supported.{offset_load, slot_reference_in, reference_in, supported_in};
 

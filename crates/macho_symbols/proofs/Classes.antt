@@ -4,9 +4,11 @@ use Rattle.std.proofs.Common.{◌≡◌, ℕ, ◌-◌, Bool, true, false, ◌&&�
 use Rattle.std.specs.Str.{bytes_eq}
 use Rattle.std.proofs.lemmas.Bool.{false≢true}
 use Rattle.std.proofs.lemmas.Bool.Decides.{nat_tests}
+use Rattle.std.specs.Prelude.{bit_and}
 use Rattle.macho_records.specs.declared.symbols.SymtabEntry.{SymtabEntry}
-use Rattle.macho_records.specs.Symbols.{is_common_of, is_weak_of, is_stab_of, is_external_of, symbol_type_of}
-use Rattle.macho_model.specs.Symbols.{is_absolute, is_global}
+use Rattle.macho_records.specs.Symbols.{is_common_of, is_weak_of, is_stab_of, has_type, is_global}
+use Rattle.macho_records.specs.declared.constants.TheConstants.{N_ABS, N_EXT, N_TYPE}
+use Rattle.macho_records.specs.Flags.{has_any}
 use Rattle.macho_model.specs.Links.{Link, object_of, is_carried}
 use Rattle.macho_model.specs.Objects.{section_at}
 use Rattle.macho_model.specs.Resolution.{SymbolId, symbols_of, strong_of, weak_of, commons_of, is_strong, is_weak, has_name, entry_at, name_at}
@@ -79,8 +81,8 @@ alone false external type empty other p = by (type == 0) refl external empty p
 
 -- a common is global, and neither of a section nor absolute
 pub common_alone : (b : List ℕ) (e : SymtabEntry) → is_common_of e ≡ true → (is_global e ≡ true) × (in_carried b e ≡ false)
-    × (is_absolute e ≡ false)
-common_alone b e common = alone (is_stab_of e) (is_external_of e) (symbol_type_of e) (e.n_value == 0)
+    × (has_type N_ABS e ≡ false)
+common_alone b e common = alone (is_stab_of e) (has_any N_EXT e.n_type) (bit_and e.n_type N_TYPE) (e.n_value == 0)
     (is_carried (section_at b (e.n_sect - 1))) common
 
 offered_class : (c : ℕ) (name : List ℕ) → (1 == c) ≡ false → PassesNone (is_class c name)
@@ -99,7 +101,7 @@ pub strong_class : (l : Link) (name : List ℕ) → map (event_of l) (strong_of 
 unfolding strong_of row_of_symbol
 strong_class l name =
     class_of l 4 name (λ s. is_strong l s && has_name l name s) refl
-    (λ s. strong_test (is_global (entry_at l s)) (in_carried (object_of l s.file) (entry_at l s)) (is_absolute (entry_at l s))
+    (λ s. strong_test (is_global (entry_at l s)) (in_carried (object_of l s.file) (entry_at l s)) (has_type N_ABS (entry_at l s))
     (is_common_of (entry_at l s)) (is_weak_of (entry_at l s)) (name_at l s) name)
 
 pub weak_class : (l : Link) (name : List ℕ) → map (event_of l) (weak_of l name) ≡ filter (λ e. (strength e.row == 3) && is_of name e)
@@ -107,7 +109,7 @@ pub weak_class : (l : Link) (name : List ℕ) → map (event_of l) (weak_of l na
 unfolding weak_of row_of_symbol
 weak_class l name =
     class_of l 3 name (λ s. is_weak l s && has_name l name s) refl
-    (λ s. weak_test (is_global (entry_at l s)) (in_carried (object_of l s.file) (entry_at l s)) (is_absolute (entry_at l s))
+    (λ s. weak_test (is_global (entry_at l s)) (in_carried (object_of l s.file) (entry_at l s)) (has_type N_ABS (entry_at l s))
     (is_common_of (entry_at l s)) (is_weak_of (entry_at l s)) (name_at l s) name)
 
 pub common_class : (l : Link) (name : List ℕ) → map (event_of l) (commons_of l name) ≡ filter (λ e. (strength e.row == 2) && is_of name e)
@@ -115,6 +117,6 @@ pub common_class : (l : Link) (name : List ℕ) → map (event_of l) (commons_of
 unfolding commons_of row_of_symbol
 common_class l name =
     class_of l 2 name (λ s. is_common_of (entry_at l s) && has_name l name s) refl
-    (λ s. common_test (is_global (entry_at l s)) (in_carried (object_of l s.file) (entry_at l s)) (is_absolute (entry_at l s))
+    (λ s. common_test (is_global (entry_at l s)) (in_carried (object_of l s.file) (entry_at l s)) (has_type N_ABS (entry_at l s))
     (is_common_of (entry_at l s)) (is_weak_of (entry_at l s)) (name_at l s) name
     (common_alone (object_of l s.file) (entry_at l s)))

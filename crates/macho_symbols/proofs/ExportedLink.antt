@@ -8,14 +8,13 @@ use Rattle.std.proofs.lemmas.Map.Views.{Contains-from_any, list_any-from_Contain
 use Rattle.std.proofs.lemmas.Cmp.{nat_list_eq_equiv}
 use Rattle.std.proofs.lemmas.Slice.Eq.{bytes_eq-Decides}
 use Rattle.std.proofs.lemmas.Bool.Decides.{nat_tests}
-use Rattle.std.specs.List.{list_any}
+use Rattle.std.specs.List.{list_any, position_or_len}
 use Rattle.std.specs.Str.{bytes_eq}
 use Rattle.macho_records.specs.Symbols.{is_weak_of, is_hidden_of}
 use Rattle.macho_model.specs.declared.targets.Target.TheVariants as target
 use Rattle.macho_model.specs.ExportLists.{plain_entries, all_entries}
 use Rattle.macho_model.specs.Exports.{has_lists, is_listed}
 use Rattle.macho_model.specs.Links.{Link}
-use Rattle.macho_model.specs.Needs.{import_number}
 use Rattle.macho_model.specs.Resolution.{SymbolId, Symbol, Library, ImageBase, DSO_HANDLE, definition_of, entry_at}
 use Rattle.macho_exports.specs.Entries.{ListEntries}
 use Rattle.macho_exports.proofs.Listed.{listed_is}
@@ -93,7 +92,7 @@ record OfLibrary (l : Link) (noted : List (List ℕ)) (lists : Bool) (name : Lis
   noted_is : Contains noted name
   some : lists ≡ true
   plain : weak ≡ false
-  leads : named_in (map kept_of l.inputs) noted name ≡ target.Import (import_number noted name)
+  leads : named_in (map kept_of l.inputs) noted name ≡ target.Import (position_or_len (bytes_eq name) noted)
 
 of_shown : (l : Link) (name : List ℕ) (b : Event) → IsShown l name b → OfObject l name b.row.weak
 of_shown l name b is = record { symbol = id_of b; defined = is.defined; hidden = is.hidden; weak_is = is.weak }

@@ -5,10 +5,10 @@ use Rattle.std.specs.Str.{bytes_eq}
 use Rattle.std.proofs.lemmas.Bool.Decides.{nat_tests}
 use Rattle.std.proofs.lemmas.List.{get_or-set_same, get_or-set_other}
 use Rattle.std.proofs.lemmas.List.Folds.{position_or_len_push}
+use Rattle.std.specs.List.{position_or_len}
 use Rattle.macho_stub_lines.proofs.Bind.{bytes_same, bytes_differ}
 use Rattle.macho_model.specs.declared.targets.Target.TheVariants as target
 use Rattle.macho_model.specs.Resolution.{Library, DSO_HANDLE}
-use Rattle.macho_model.specs.Needs.{import_number}
 use Rattle.macho_names.specs.declared.notes.Sort.{Sort}
 use Rattle.macho_names.specs.declared.notes.Sort.TheVariants.{Section, Absolute, Common as CommonSort, Offered, Nowhere}
 use Rattle.macho_symbols.specs.declared.solved.Solved.{Solved}
@@ -23,8 +23,8 @@ use Rattle.macho_symbols.proofs.Leading.{entry_best, leads_nowhere}
 use Rattle.macho_names.proofs.ChainsMore.{same_or_not}
 
 -- the number of a name among the noted ones, with one more
-number_more : (noted : List (List ℕ)) (name other : List ℕ) (n : ℕ) → import_number noted other ≡ n → n < length noted
-    → import_number (noted ++ name ∷ []) other ≡ n
+number_more : (noted : List (List ℕ)) (name other : List ℕ) (n : ℕ) → position_or_len (bytes_eq other) noted ≡ n → n < length noted
+    → position_or_len (bytes_eq other) (noted ++ name ∷ []) ≡ n
 number_more noted name other n is there =
     position_or_len_push (bytes_eq other) noted name
     ∙ ap (λ k. cond (eqb k (length noted)) (length noted + cond (bytes_eq other name) 0 1) k) is ∙ by (eqb n (length noted)) refl
@@ -33,8 +33,9 @@ number_more noted name other n is there =
     by true e = let same : n ≡ length noted = grind (arith, nat_tests) in absurd (omega (arith, same, there))
     by false e = refl
 
-number_new : (noted : List (List ℕ)) (name other : List ℕ) (t : Bool) → import_number noted other ≡ length noted → bytes_eq other name ≡ t
-    → import_number (noted ++ name ∷ []) other ≡ length noted + cond t 0 1
+number_new : (noted : List (List ℕ)) (name other : List ℕ) (t : Bool) → position_or_len (bytes_eq other) noted ≡ length noted
+    → bytes_eq other name ≡ t
+    → position_or_len (bytes_eq other) (noted ++ name ∷ []) ≡ length noted + cond t 0 1
 number_new noted name other t is same =
     position_or_len_push (bytes_eq other) noted name
     ∙ ap (λ k. cond (eqb k (length noted)) (length noted + cond (bytes_eq other name) 0 1) k) is
@@ -52,7 +53,7 @@ numbered_other noted name other n is apart = record {
   there = λ e. omega (arith, is.there e, length-append noted (name ∷ []));
 }
 
-numbered_new : (noted : List (List ℕ)) (name : List ℕ) (n : ℕ) → import_number noted name ≡ length noted → n ≡ length noted
+numbered_new : (noted : List (List ℕ)) (name : List ℕ) (n : ℕ) → position_or_len (bytes_eq name) noted ≡ length noted → n ≡ length noted
     → length noted < UNNUMBERED
     → IsNumbered (noted ++ name ∷ []) name n
 numbered_new noted name n fresh is few = record {
@@ -66,7 +67,7 @@ pub numbers_more : (names : List (List ℕ)) (noted : List (List ℕ)) (numbers 
     → ((j : ℕ) → j < length numbers → IsNumbered noted (get_or names j []) (get_or numbers j 0)) → length numbers ≡ length names
     → number < length names → get_or names number [] ≡ name
     → ((j : ℕ) → j < length names → j ≢ number → get_or names j [] ≡ get_or names number [] → ⊥)
-    → import_number noted name ≡ length noted → n ≡ length noted → length noted < UNNUMBERED
+    → position_or_len (bytes_eq name) noted ≡ length noted → n ≡ length noted → length noted < UNNUMBERED
     → (j : ℕ) → j < length (set numbers number n) → IsNumbered (noted ++ name ∷ []) (get_or names j []) (get_or (set numbers number n) j 0)
 numbers_more names noted numbers name number n all long within is apart fresh next few j h = elim (same_or_not j number) [
   | inl same ↦
@@ -85,7 +86,7 @@ numbers_more names noted numbers name number n all long within is apart fresh ne
 -- a name that leads to an import is offered by a library
 offered_sort : (files : List FileRows) (noted : List (List ℕ)) (name : List ℕ) (e : Event) (sort : Sort) (n : ℕ)
     → lead_in files noted name e sort ≡ target.Import n
-    → (defined_as name sort e ≡ Some (Library e.file)) × (import_number noted name ≡ n)
+    → (defined_as name sort e ≡ Some (Library e.file)) × (position_or_len (bytes_eq name) noted ≡ n)
 offered_sort files noted name e Section n is = cc
 offered_sort files noted name e Absolute n is = cc
 offered_sort files noted name e CommonSort n is = cc
@@ -93,14 +94,14 @@ offered_sort files noted name e Offered n is = (refl, cc)
 offered_sort files noted name e Nowhere n is = of (bytes_eq name DSO_HANDLE) is
   where
     of : (t : Bool) → (if t then target.Base else target.None) ≡ target.Import n → (image_base name ≡ Some (Library e.file))
-        × (import_number noted name ≡ n)
+        × (position_or_len (bytes_eq name) noted ≡ n)
     of true is = cc
     of false is = cc
 
 pub import_offered : (s : Solved) (name : List ℕ) (j n : ℕ) → IsSolved s → IsEntryOf s.files.items s.table.entries.items name j
     → named_in s.files.items (noted_of s.imports.items) name ≡ target.Import n
     → (definition_by name (best_of name (events s.files.items)) ≡ Some (Library (get_or s.table.entries.items j no_entry).file))
-    × (import_number (noted_of s.imports.items) name ≡ n)
+    × (position_or_len (bytes_eq name) (noted_of s.imports.items) ≡ n)
 unfolding named_in
 import_offered s name j n is of_name import =
     let best = entry_best s name j is of_name in

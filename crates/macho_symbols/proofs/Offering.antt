@@ -13,8 +13,8 @@ use Rattle.macho_names.specs.declared.notes.Sort.TheVariants.{Section, Absolute,
 use Rattle.macho_names.specs.Kept.{FileRows, no_file, no_row, kept_of, row_of_symbol, rows_of_dylib, rows_of_stub, offered_row, is_offered, sort_of, in_carried}
 use Rattle.macho_names.specs.Events.{Event, row_at, row_count, event_at, events_of_file, events_of, events, strength, strength_of, is_of}
 use Rattle.macho_records.specs.declared.symbols.SymtabEntry.{SymtabEntry}
-use Rattle.macho_records.specs.Symbols.{is_common_of, is_weak_of}
-use Rattle.macho_model.specs.Symbols.{is_absolute}
+use Rattle.macho_records.specs.Symbols.{is_common_of, is_weak_of, has_type}
+use Rattle.macho_records.specs.declared.constants.TheConstants.{N_ABS}
 use Rattle.macho_names.proofs.Chains.{cases_eq}
 use Rattle.macho_symbols.proofs.Bridge.{file_at, row_kept, count_kept}
 use Rattle.macho_symbols.proofs.ListsMore.{enumerated, filter-flat_map, filter-map, filter_nothing}
@@ -114,7 +114,7 @@ none_at p (n ∷ ns) (suc k) e h = none_at p ns k (of (p n) (list_any p ns) e) (
 
 -- no row of an object is offered
 object_sort : (b : List ℕ) (e : SymtabEntry) → (strength_of (sort_of b e) (is_weak_of e) == 1) ≡ false
-object_sort b e = of (in_carried b e) (is_absolute e) (is_common_of e) (is_weak_of e)
+object_sort b e = of (in_carried b e) (has_type N_ABS e) (is_common_of e) (is_weak_of e)
   where
     of : (c a m w : Bool) → (strength_of (if c then Section else if a then Absolute else if m then Common else Nowhere) w == 1) ≡ false
     of true a m true = refl

@@ -1,18 +1,17 @@
 -- Where names and symbols lead by the model, and by the rows. The definition of a name is what its best event gives it. A
 -- best event of an object is a symbol of the link with its row, and a symbol leads by itself where its row does: into its
 -- section, to its value, or to its number among the commons that define their names.
-use Rattle.std.proofs.Common.{◌≡◌, ℕ, ◌-◌, ◌<◌, ◌≤◌, Bool, true, false, ◌&&◌, ◌||◌, ◌==◌, not, if◌then◌else◌, Option, Some, None, List, [], ◌∷◌, length, map, filter, get_or, All, is_none, suc, refl, ap, sym, ◌∙◌, arith}
+use Rattle.std.proofs.Common.{◌≡◌, ℕ, ◌-◌, ◌<◌, ◌≤◌, Bool, true, false, ◌&&◌, ◌||◌, ◌==◌, if◌then◌else◌, Option, Some, None, List, [], ◌∷◌, length, map, filter, get_or, All, is_none, suc, refl, ap, sym, ◌∙◌, arith}
 use Rattle.std.proofs.lemmas.List.{length-map}
 use Rattle.std.proofs.lemmas.List.Elements.{filter_passes}
 use Rattle.std.specs.List.{position_or_len}
 use Rattle.std.specs.Str.{bytes_eq}
 use Rattle.std.proofs.lemmas.Bool.{false≢true}
-use Rattle.macho_records.specs.Symbols.{is_common_of, is_weak_of, is_stab_of, is_external_of, is_defined_of, is_absolute_of}
+use Rattle.macho_records.specs.Symbols.{is_common_of, is_weak_of, has_type, is_global}
+use Rattle.macho_records.specs.declared.constants.TheConstants.{N_ABS}
 use Rattle.macho_model.specs.declared.targets.Target.TheVariants as target
-use Rattle.macho_model.specs.Symbols.{is_absolute, is_global}
-use Rattle.macho_model.specs.Objects.{section_at}
-use Rattle.macho_model.specs.Links.{Link, Input, Object, Dylib, Stub, no_input, object_of, is_carried}
-use Rattle.macho_model.specs.Resolution.{SymbolId, ImageBase, DSO_HANDLE, symbols_of, entry_at, name_at, same_symbol, is_symbol, defines, definition_of, chosen_commons, stands_in_carried, strong_of}
+use Rattle.macho_model.specs.Links.{Link, Input, Object, Dylib, Stub, no_input, object_of}
+use Rattle.macho_model.specs.Resolution.{SymbolId, ImageBase, DSO_HANDLE, symbols_of, entry_at, name_at, same_symbol, is_symbol, defines, definition_of, chosen_commons, strong_of}
 use Rattle.macho_model.specs.Faults.{IsDuplicate}
 use Rattle.macho_names.specs.declared.fault.SymbolFault.{SymbolFault}
 use Rattle.macho_names.specs.declared.fault.SymbolFault.TheVariants.{DuplicateSymbol, UndefinedSymbol, ExportListMissing, OutOfMemory}
@@ -98,7 +97,7 @@ common_strength false false false w alone = refl
 is_common_row : (l : Link) (s : SymbolId) → (strength (row_of l s) == 2) ≡ is_common_of (entry_at l s)
 unfolding row_of_symbol
 is_common_row l s =
-    common_strength (in_carried (object_of l s.file) (entry_at l s)) (is_absolute (entry_at l s)) (is_common_of (entry_at l s))
+    common_strength (in_carried (object_of l s.file) (entry_at l s)) (has_type N_ABS (entry_at l s)) (is_common_of (entry_at l s))
     (is_weak_of (entry_at l s))
     (λ common. let parts = common_alone (object_of l s.file) (entry_at l s) common in (parts.1, parts.2))
 
@@ -127,9 +126,10 @@ chosen_ids l = ap (map id_of) (chosen_is l) ∙ ids_back l (chosen_commons l)
 -- where a symbol leads by itself
 pub own_is : (l : Link) (s : SymbolId) → own_target l s ≡ own_in (map kept_of l.inputs) (event_of l s) (row_of l s).sort
 unfolding row_of_symbol
-own_is l s = of (in_carried (object_of l s.file) (entry_at l s)) refl (is_absolute (entry_at l s)) refl (is_common_of (entry_at l s)) refl
+own_is l s =
+    of (in_carried (object_of l s.file) (entry_at l s)) refl (has_type N_ABS (entry_at l s)) refl (is_common_of (entry_at l s)) refl
   where
-    of : (c : Bool) → in_carried (object_of l s.file) (entry_at l s) ≡ c → (a : Bool) → is_absolute (entry_at l s) ≡ a → (m : Bool)
+    of : (c : Bool) → in_carried (object_of l s.file) (entry_at l s) ≡ c → (a : Bool) → has_type N_ABS (entry_at l s) ≡ a → (m : Bool)
         → is_common_of (entry_at l s) ≡ m
         → own_target l s ≡ own_in (map kept_of l.inputs) (event_of l s) (sort_of (object_of l s.file) (entry_at l s))
     of true carried a absolute m common = rw carried refl
@@ -173,28 +173,6 @@ named_is l noted name = of (best_of name (events (map kept_of l.inputs))) refl
     of (Some b) e = led b (best_is name (events (map kept_of l.inputs)) b e) b.row.sort refl
 
 -- where a symbol leads
-local_test : {X : Type 0} (stab external section carried absolute : Bool) (own none : X) → (not stab && external) ≡ false
-    → (if (not stab && not external) && (((not stab && section) && carried) || (not stab && absolute)) then own else none)
-    ≡ (if ((not stab && section) && carried) || (not stab && absolute) then own else none)
-local_test true e s c a own none local = refl
-local_test false true s c a own none local = absurd (false≢true (sym local))
-local_test false false s c a own none local = refl
-
-own_else : (l : Link) (s : SymbolId) → is_common_of (entry_at l s) ≡ false
-    → (if stands_in_carried l s || is_absolute (entry_at l s) then own_target l s else target.None) ≡ own_target l s
-own_else l s common = of (stands_in_carried l s) refl (is_absolute (entry_at l s)) refl
-  where
-    of : (c : Bool) → stands_in_carried l s ≡ c → (a : Bool) → is_absolute (entry_at l s) ≡ a
-        → (if stands_in_carried l s || is_absolute (entry_at l s) then own_target l s else target.None) ≡ own_target l s
-    of true carried a absolute = rw carried refl
-    of false carried true absolute = rw (carried, absolute) refl
-    of false carried false absolute = rw (carried, absolute, common) refl
-
-no_common : (l : Link) (s : SymbolId) (t : Bool) → is_common_of (entry_at l s) ≡ t → is_global (entry_at l s) ≡ false
-    → is_common_of (entry_at l s) ≡ false
-no_common l s true common local = absurd (false≢true (sym local ∙ (common_alone (object_of l s.file) (entry_at l s) common).0))
-no_common l s false common local = common
-
 pub target_is : (l : Link) (noted : List (List ℕ)) (s : SymbolId)
     → target_in (map kept_of l.inputs) noted (event_of l s) ≡ target_with l noted s
 unfolding row_of_symbol
@@ -202,13 +180,7 @@ target_is l noted s = of (is_global (entry_at l s)) refl
   where
     of : (t : Bool) → is_global (entry_at l s) ≡ t → target_in (map kept_of l.inputs) noted (event_of l s) ≡ target_with l noted s
     of true global = rw global (named_is l noted (name_at l s))
-    of false local =
-        let common = no_common l s (is_common_of (entry_at l s)) refl local in
-        let own = sym (own_is l s) ∙ sym (own_else l s common) in
-        let test = local_test (is_stab_of (entry_at l s)) (is_external_of (entry_at l s)) (is_defined_of (entry_at l s))
-        (is_carried (section_at (object_of l s.file) ((entry_at l s).n_sect - 1)))
-        (is_absolute_of (entry_at l s)) (own_target l s) target.None local in
-        rw local (own ∙ sym test)
+    of false local = rw local (sym (own_is l s))
 
 -- a chosen common, by its row and by the link
 common_row : (l : Link) (s : SymbolId) → is_common_of (entry_at l s) ≡ true → common_told (event_of l s) ≡ common_of l s

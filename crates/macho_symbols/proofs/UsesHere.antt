@@ -8,8 +8,8 @@ use Rattle.std.proofs.lemmas.Bool.{cases_lt}
 pub use Rattle.std.proofs.lemmas.Result.{on_ok_weaker as on_ok}
 use Rattle.std.proofs.lemmas.List.{length-map, get_or-map, get_or_past}
 use Rattle.std.proofs.lemmas.Bool.Decides.{nat_tests}
+use Rattle.macho_records.specs.Symbols.{is_global}
 use Rattle.macho_model.specs.declared.targets.Target.TheVariants as target
-use Rattle.macho_model.specs.Symbols.{is_global}
 use Rattle.macho_model.specs.Links.{Link, Input, Object, Dylib, Stub, no_input, object_of}
 use Rattle.macho_model.specs.Resolution.{SymbolId, ImageBase, DSO_HANDLE, entry_at, name_at, definition_of, library_name, library_of_input}
 use Rattle.macho_model.specs.Needs.{is_library, is_imported}

@@ -3,11 +3,12 @@ use Rattle.std.specs.Prelude.{◌≡◌, ℕ, ◌+◌, ◌<◌, ◌⊎◌, true,
 use Rattle.std.specs.Cmp.Lexicographic.{slice_cmp}
 use Rattle.std.specs.Ordering.{nat_cmp}
 use Rattle.std.specs.declared.cmp.Ordering.TheVariants.{Less}
+use Rattle.std.specs.List.{position_or_len}
+use Rattle.std.specs.Str.{bytes_eq}
 use Rattle.macho_records.specs.Symbols.{is_weak_of}
 use Rattle.macho_model.specs.declared.targets.Target.TheVariants as target
 use Rattle.macho_model.specs.Exports.{has_lists, is_listed, IsExported}
 use Rattle.macho_model.specs.Links.{Link}
-use Rattle.macho_model.specs.Needs.{import_number}
 use Rattle.macho_model.specs.Resolution.{SymbolId, definition_of, entry_at}
 use Rattle.macho_model.specs.Targets.{definition_target}
 use Rattle.macho_exports.specs.Entries.{ListEntries, IsListOf}
@@ -28,7 +29,7 @@ IsFromObject l noted e =
 abbrev pub IsReexport : Link → List (List ℕ) → ExportName → Type 0
 IsReexport l noted e =
     Contains noted e.name.items × (has_lists l ≡ true) × (is_listed l e.name.items ≡ true) × (e.weak ≡ false)
-    × (e.target ≡ target.Import (import_number noted e.name.items))
+    × (e.target ≡ target.Import (position_or_len (bytes_eq e.name.items) noted))
 
 -- each name is less than the next
 abbrev pub AreRising : List (List ℕ) → Type 0

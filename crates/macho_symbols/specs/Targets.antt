@@ -5,7 +5,6 @@ use Rattle.std.specs.List.{position_or_len}
 use Rattle.std.specs.Str.{bytes_eq}
 use Rattle.macho_model.specs.declared.targets.Target.{Target}
 use Rattle.macho_model.specs.declared.targets.Target.TheVariants as target
-use Rattle.macho_model.specs.Needs.{import_number}
 use Rattle.macho_model.specs.Resolution.{SymbolId, Definition, Symbol, Library, ImageBase, DSO_HANDLE, same_symbol, is_symbol}
 use Rattle.macho_names.specs.declared.notes.Sort.{Sort}
 use Rattle.macho_names.specs.declared.notes.Sort.TheVariants.{Section, Absolute, Common, Offered, Nowhere}
@@ -52,7 +51,7 @@ base_target name = if bytes_eq name DSO_HANDLE then target.Base else target.None
 
 -- where the best event of a name leads
 abbrev pub lead_in : List FileRows → List (List ℕ) → List ℕ → Event → Sort → Target
-lead_in files noted name e Offered = target.Import (import_number noted name)
+lead_in files noted name e Offered = target.Import (position_or_len (bytes_eq name) noted)
 lead_in files noted name e Nowhere = base_target name
 lead_in files noted name e Section = own_in files e Section
 lead_in files noted name e Absolute = own_in files e Absolute

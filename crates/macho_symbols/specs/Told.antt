@@ -2,9 +2,8 @@
 use Rattle.std.specs.Prelude.{◌≡◌, ℕ, ◌&&◌, not, if◌then◌else◌, true, false, List, [], ◌∷◌, ◌++◌, map, is_none, Some, length, get_or, ◌<◌, All, Contains}
 use Rattle.std.specs.List.{list_any, fold}
 use Rattle.std.specs.Str.{bytes_eq}
-use Rattle.macho_model.specs.Symbols.{is_global}
 use Rattle.macho_model.specs.Needs.{is_imported}
-use Rattle.macho_records.specs.Symbols.{common_size_of, common_exponent_of}
+use Rattle.macho_records.specs.Symbols.{common_size_of, common_exponent_of, is_global}
 use Rattle.macho_model.specs.Links.{Link}
 use Rattle.macho_model.specs.Resolution.{SymbolId, entry_at, name_at, definition_of, chosen_commons, Library, library_name}
 use Rattle.macho_model.specs.Faults.{IsDuplicate}

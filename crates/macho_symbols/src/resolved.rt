@@ -1,12 +1,12 @@
 //! Resolved symbols, as callers see them: what each name and each symbol leads to, and what was noted.
 ghost use Rattle.std.specs.Prelude.{◌≡◌, ℕ, List, true, length, map, IfOk, IfErr, OnOk, OnErr};
 ghost use Rattle.std.specs.List.{filter_map};
-ghost use Rattle.macho_model.specs.Symbols.{is_global};
 ghost use Rattle.macho_model.specs.Links.{Link};
 ghost use Rattle.macho_model.specs.Resolution.{definition_of, defines, entry_at, library_of_input, name_at};
 ghost use Rattle.macho_model.specs.Targets.{target_with, definition_target};
 ghost use Rattle.macho_model.specs.ExportLists.{plain_entries};
 ghost use Rattle.std.specs.Option.{option_copied};
+ghost use Rattle.macho_records.specs.Symbols.{is_global};
 ghost use Rattle.macho_symbols.specs.Exported.{AreLists, AreExports};
 ghost use Rattle.macho_symbols.specs.Kept.{IsResolved, HasSymbol, symbol_id};
 ghost use Rattle.macho_symbols.specs.Told.{CommonsAre, ImportsAre, IsDefined, IsUndefined, noting, noting_names, AreDefined, IsMissing};

@@ -1,5 +1,6 @@
 //! What is known once all rows were taken in: where names and symbols lead, and which imports are noted.
 ghost use Rattle.std.specs.Prelude.{◌≡◌, ◌^◌, ◌<◌, ◌++◌, ◌∷◌, [], true, length, map, get_or, OnOk, OnErr, IfOk, IfErr};
+ghost use Rattle.std.specs.Str.{bytes_eq};
 ghost use Rattle.macho_names.specs.Events.{row_at, row_count, event_at};
 ghost use Rattle.macho_names.specs.Tables.{IsEntryOf, names_of};
 ghost use Rattle.macho_symbols.specs.Targets.{named_in, target_in, own_in, base_target, defines_in, chosen_in, id_of};
@@ -8,7 +9,6 @@ ghost use Rattle.macho_symbols.specs.steps.Solved.{IsSolved, IsUnchanged, HasGro
 ghost use Rattle.macho_symbols.specs.Kept.{noted_of};
 ghost use Rattle.std.specs.List.{position_or_len};
 ghost use Rattle.macho_model.specs.Resolution.{same_symbol};
-ghost use Rattle.macho_model.specs.Needs.{import_number};
 
 use crate::choosing::is_definition;
 use macho_model::Target;
@@ -167,7 +167,8 @@ impl<'data> Solved<'data> {
     fn number_of_import(&self, number: usize) -> u32
         requires solved { IsSolved self.now }
         requires entry { number < length self.now.table.entries.items }
-        ensures { result ≡ import_number (noted_of self.now.imports.items) (get_or (names_of self.now.files.items self.now.table.entries.items) number []) }
+        ensures { result ≡ position_or_len (bytes_eq (get_or (names_of self.now.files.items self.now.table.entries.items) number []))
+            (noted_of self.now.imports.items) }
     {
         let id = self.numbers[number];
         if id == UNNUMBERED {

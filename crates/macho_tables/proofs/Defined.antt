@@ -4,21 +4,22 @@ use Rattle.std.specs.Prelude.{Option, Some, None, if◌then◌else◌}
 use Rattle.std.specs.List.{position_or_len}
 use Rattle.std.specs.Str.{bytes_eq}
 use Rattle.std.proofs.lemmas.Bool.{true≢false}
-use Rattle.macho_records.specs.Symbols.{is_common_of, is_weak_of}
+use Rattle.macho_records.specs.Symbols.{is_common_of, is_weak_of, has_type}
+use Rattle.macho_records.specs.declared.constants.TheConstants.{N_ABS}
 use Rattle.macho_model.specs.declared.targets.Target.TheVariants as target
-use Rattle.macho_model.specs.Symbols.{is_absolute}
 use Rattle.macho_model.specs.Links.{Link}
 use Rattle.macho_model.specs.Resolution.{SymbolId, Definition, Symbol, Library, ImageBase, entry_at, symbols_of, stands_in_carried}
 use Rattle.macho_model.specs.Resolution.{same_symbol, is_definition, is_strong, is_weak, has_name, strong_of, weak_of, commons_of}
 use Rattle.macho_model.specs.Resolution.{greatest_of, libraries_with, first_or, definition_of, chosen_commons, DSO_HANDLE}
-use Rattle.macho_model.specs.Targets.{own_target, place_of_symbol}
+use Rattle.macho_model.specs.Targets.{own_target}
 use Rattle.macho_model.specs.Rows.{is_none}
 use Rattle.macho_model.proofs.EachBelow.{and_left, and_right}
+use Rattle.macho_model.proofs.Words.{place_of_symbol}
 use Rattle.macho_lists.proofs.Members.{contains_first, filter_contains}
 
 -- a symbol leads somewhere
 abbrev pub leads : Link → SymbolId → Bool
-leads l s = stands_in_carried l s || is_absolute (entry_at l s) || is_common_of (entry_at l s)
+leads l s = stands_in_carried l s || has_type N_ABS (entry_at l s) || is_common_of (entry_at l s)
 
 among_first : (ss : List SymbolId) (other : Option Definition) (t : SymbolId) → first_or (map Symbol ss) other ≡ Some (Symbol t)
     → Contains ss t ⊎ (other ≡ Some (Symbol t))
@@ -33,13 +34,13 @@ no_symbol_behind (f ∷ files) b t h = cc
 
 -- a definition stands in a carried section or has a value
 definition_leads : (l : Link) (t : SymbolId) → is_definition l t ≡ true → leads l t ≡ true
-definition_leads l t is = by (stands_in_carried l t || is_absolute (entry_at l t)) (is_common_of (entry_at l t)) (and_right _ _ is)
+definition_leads l t is = by (stands_in_carried l t || has_type N_ABS (entry_at l t)) (is_common_of (entry_at l t)) (and_right _ _ is)
   where
     by : (a b : Bool) → a ≡ true → (a || b) ≡ true
     by a b e = rw e refl
 
 common_leads : (l : Link) (t : SymbolId) → is_common_of (entry_at l t) ≡ true → leads l t ≡ true
-common_leads l t is = by (stands_in_carried l t || is_absolute (entry_at l t)) (is_common_of (entry_at l t)) is
+common_leads l t is = by (stands_in_carried l t || has_type N_ABS (entry_at l t)) (is_common_of (entry_at l t)) is
   where
     by : (a b : Bool) → b ≡ true → (a || b) ≡ true
     by true b e = refl
@@ -69,7 +70,7 @@ defined_leads l name t h =
 
 -- what leads somewhere has a target
 pub own_is_some : (l : Link) (t : SymbolId) → leads l t ≡ true → is_none (own_target l t) ≡ false
-own_is_some l t is = by (stands_in_carried l t) (is_absolute (entry_at l t)) (is_common_of (entry_at l t)) is
+own_is_some l t is = by (stands_in_carried l t) (has_type N_ABS (entry_at l t)) (is_common_of (entry_at l t)) is
   where
     by : (a b c : Bool) → (a || b || c) ≡ true
         → is_none (if a then place_of_symbol l t

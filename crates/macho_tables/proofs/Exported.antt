@@ -4,12 +4,12 @@
 -- distinct. None of them holds a NUL: a symbol's name ends at the first one, and an import's name is plain.
 use Rattle.std.proofs.Common.{◌≡◌, ℕ, ◌⊎◌, inl, inr, Bool, true, List, map, refl, sym, ap, subst, ◌∙◌, Contains}
 use Rattle.std.specs.Prelude.{Option, Some, None, filter}
-use Rattle.std.specs.List.{filter_map}
+use Rattle.std.specs.List.{filter_map, position_or_len}
 use Rattle.std.specs.Str.{bytes_eq}
 use Rattle.std.proofs.lemmas.Bool.{true≢false}
 use Rattle.macho_model.specs.declared.targets.Target.TheVariants as target
 use Rattle.macho_model.specs.Links.{Link, object_of}
-use Rattle.macho_model.specs.Needs.{uses_of, name_used, is_imported, is_library, imports_of, import_number}
+use Rattle.macho_model.specs.Needs.{uses_of, name_used, is_imported, is_library, imports_of}
 use Rattle.macho_model.specs.Resolution.{Definition, Symbol, Library, ImageBase, definition_of}
 use Rattle.macho_model.specs.Targets.{own_target, target_of_name, definition_target}
 use Rattle.macho_model.specs.Told.{ToldExport, IsToldExport, from_object, from_library}
@@ -41,14 +41,14 @@ pub record IsToldName (l : Link) (e : ExportName) : Type 0 where
 
 -- a name of an import leads to its number: a library defines it
 leads_on : (l : Link) (name : List ℕ) → Contains (imports_of l) name
-    → target_of_name l name ≡ target.Import (import_number (imports_of l) name)
+    → target_of_name l name ≡ target.Import (position_or_len (bytes_eq name) (imports_of l))
 unfolding imports_of
 leads_on l name among =
     let used = of_distinct bytes_eq (filter (is_imported l) (filter_map (name_used l) (uses_of l))) name among in
     by (definition_of l name) (filter_contains (is_imported l) (filter_map (name_used l) (uses_of l)) name used).1
   where
     by : (d : Option Definition) → is_library d ≡ true
-        → definition_target l (imports_of l) name d ≡ target.Import (import_number (imports_of l) name)
+        → definition_target l (imports_of l) name d ≡ target.Import (position_or_len (bytes_eq name) (imports_of l))
     by None is = absurd (true≢false (sym is))
     by (Some (Symbol s)) is = absurd (true≢false (sym is))
     by (Some (Library file)) is = refl
@@ -105,7 +105,8 @@ export_imported l imports e id are (inl (s, exported, weak, leads)) is =
     sym (ap (definition_target l (imports_of l) e.name.items) exported.0) ∙ sym leads ∙ is in
     absurd (not_own l s id own)
 export_imported l imports e id are (inr (among, lists, listed, weak, leads)) is =
-    let number : import_number (imports_of l) e.name.items ≡ id = same (import_number (imports_of l) e.name.items) (sym leads ∙ is) in
+    let number : position_or_len (bytes_eq e.name.items) (imports_of l) ≡ id =
+    same (position_or_len (bytes_eq e.name.items) (imports_of l)) (sym leads ∙ is) in
     subst (λ (n : ℕ). IsImported l imports e.name.items n) number (imported l imports e.name.items are among)
   where
     same : (n : ℕ) → target.Import n ≡ target.Import id → n ≡ id

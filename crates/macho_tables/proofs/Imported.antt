@@ -5,8 +5,9 @@ use Rattle.std.specs.Str.{bytes_eq}
 use Rattle.std.proofs.lemmas.List.{get_or-map}
 use Rattle.std.proofs.lemmas.List.Sums.{passes_at_first}
 use Rattle.std.proofs.lemmas.Slice.Eq.{bytes_eq-Decides}
+use Rattle.std.specs.List.{position_or_len}
 use Rattle.macho_model.specs.Links.{Link}
-use Rattle.macho_model.specs.Needs.{imports_of, import_number, import_library, library_file}
+use Rattle.macho_model.specs.Needs.{imports_of, import_library, library_file}
 use Rattle.macho_model.specs.Resolution.{Definition, Library, definition_of, library_name}
 use Rattle.macho_symbols.specs.declared.solved.Import.{Import}
 use Rattle.macho_symbols.specs.Told.{ImportsAre}
@@ -43,15 +44,15 @@ imported_at l imports id are below =
 
 -- the import of a name that is among them
 pub imported : (l : Link) (imports : List Import) (name : List ℕ) → ImportsAre l (imports_of l) imports → Contains (imports_of l) name
-    → IsImported l imports name (import_number (imports_of l) name)
+    → IsImported l imports name (position_or_len (bytes_eq name) (imports_of l))
 imported l imports name are among =
-    let id = import_number (imports_of l) name in
+    let id = position_or_len (bytes_eq name) (imports_of l) in
     let itself : bytes_eq name name ≡ true = (bytes_eq-Decides name name).1 refl in
     let below : id < length (imports_of l) = position_below (bytes_eq name) (imports_of l) name among itself in
     let is : name ≡ get_or (imports_of l) id [] =
     (bytes_eq-Decides name (get_or (imports_of l) id [])).0 (passes_at_first (bytes_eq name) (imports_of l) [] below) in
     by (get_or (imports_of l) id []) is (imported_at l imports id are (omega (arith, below, are.long)))
   where
-    by : (other : List ℕ) → name ≡ other → IsImported l imports other (import_number (imports_of l) name)
-        → IsImported l imports name (import_number (imports_of l) name)
-    by other same one = subst (λ (n : List ℕ). IsImported l imports n (import_number (imports_of l) name)) (sym same) one
+    by : (other : List ℕ) → name ≡ other → IsImported l imports other (position_or_len (bytes_eq name) (imports_of l))
+        → IsImported l imports name (position_or_len (bytes_eq name) (imports_of l))
+    by other same one = subst (λ (n : List ℕ). IsImported l imports n (position_or_len (bytes_eq name) (imports_of l))) (sym same) one

@@ -3,7 +3,7 @@
 -- What the linker makes is not empty where it is there, and begins where the placement says. A merged output section of the same segment
 -- with bytes can't begin there too, since of two in a row one ends before the other begins. Its name, its segment and its type are those of
 -- its key.
-use Rattle.std.proofs.Common.{◌≡◌, ℕ, suc, ◌+◌, ◌*◌, ◌<◌, ◌≤◌, ◌⊎◌, inl, inr, ◌==◌, ◌&&◌, ◌||◌, not, Bool, true, false, List, [], ◌∷◌, ◌++◌}
+use Rattle.std.proofs.Common.{◌≡◌, ℕ, suc, ◌+◌, ◌*◌, ◌<◌, ◌≤◌, ◌⊎◌, inl, inr, ◌==◌, ◌&&◌, ◌||◌, not, Bool, true, false, List, [], ◌∷◌, ◌++◌, ◌%◌}
 use Rattle.std.proofs.Common.{map, fold, length, get_or, refl, sym, ap, subst, ◌∙◌, arith, All, AllPairs, Contains, min}
 use Rattle.std.specs.Prelude.{nat_lt}
 use Rattle.std.proofs.lemmas.Bool.{lt-ltb}
@@ -11,7 +11,6 @@ use Rattle.std.proofs.lemmas.Bool.Decides.{nat_tests}
 use Rattle.std.proofs.lemmas.List.{length-map, get_or-map}
 use Rattle.std.proofs.lemmas.List.Elements.{All-map, Contains-append_left, Contains-append_right, Contains-append_cases}
 use Rattle.macho_bytes.specs.Texts.{name_of}
-use Rattle.macho_records.specs.Sections.{section_type}
 use Rattle.macho_records.specs.Segments.{text_of, name_field}
 use Rattle.macho_model.specs.declared.placed.Counts.{Counts}
 use Rattle.macho_model.specs.declared.placed.PlacedSegment.{PlacedSegment}
@@ -131,9 +130,9 @@ key_whole l key there = elim
 pub key_told : (l : Link) (p : Placed) (key : OutputKey) → Contains (output_keys_of l) key → key_of (output_header l p (Merged key)) ≡ key
 key_told l p key there =
     let w = key_whole l key there in
-    ap (λ (s : List ℕ). key_with s (name_of (name_field key.name)) (section_type (flags_of_key l key)))
+    ap (λ (s : List ℕ). key_with s (name_of (name_field key.name)) (flags_of_key l key % 256))
     (name_in_field key.segment ∙ w.segment)
-    ∙ ap (λ (n : List ℕ). key_with key.segment n (section_type (flags_of_key l key))) (name_in_field key.name ∙ w.name)
+    ∙ ap (λ (n : List ℕ). key_with key.segment n (flags_of_key l key % 256)) (name_in_field key.name ∙ w.name)
     ∙ ap (key_with key.segment key.name) (type_is l key w.type)
   where
     key_with : List ℕ → List ℕ → ℕ → OutputKey

@@ -14,12 +14,13 @@ use Rattle.std.proofs.lemmas.List.Elements.{Contains-append_left, Contains-appen
 use Rattle.std.proofs.lemmas.Slice.Eq.{bytes_eq-Decides}
 use Rattle.macho_records.specs.declared.header.SectionHeader.{SectionHeader}
 use Rattle.macho_records.specs.Segments.{text_of}
+use Rattle.macho_records.specs.Sections.{segment_name_of}
 use Rattle.macho_model.specs.declared.placed.Counts.{Counts}
 use Rattle.macho_model.specs.declared.placed.PlacedSegment.{PlacedSegment}
 use Rattle.macho_model.specs.declared.placed.PlacedCommon.{PlacedCommon}
 use Rattle.macho_model.specs.Links.{Link, SectionId, header_at, carried_of}
 use Rattle.macho_model.specs.Resolution.{chosen_commons}
-use Rattle.macho_model.specs.Segments.{DATA, OutputKey, same_key, key_of, common_key, segment_name, output_keys_of, segment_names_of}
+use Rattle.macho_model.specs.Segments.{DATA, OutputKey, same_key, key_of, common_key, output_keys_of, segment_names_of}
 use Rattle.macho_model.specs.Segments.{list_if}
 use Rattle.macho_model.specs.OutputSections.{OutputSection, Merged, output_sections_in, output_sections_of, output_sections_for}
 use Rattle.macho_model.specs.OutputSections.{output_header}
@@ -110,8 +111,8 @@ unfolding output_keys_of
 section_agrees l counts p s placed carried =
     let q = map_contains id_of p.sections s (subst (λ (ids : List SectionId). Contains ids s) (sym placed.order.sections) carried) in
     let lies = all_contains (SectionLies l p) p.sections q.0 placed.placed.in_segment.sections q.1 in
-    let named = name_there l counts p lies.0 (segment_name l s) placed (q.0.segment, lies.1.0, lies.1.1)
-    (subst (λ (t : SectionId). is_segment_named (segment_name l t) lies.0 ≡ true) q.2 lies.2) in
+    let named = name_there l counts p lies.0 (segment_name_of (header_at l s)) placed (q.0.segment, lies.1.0, lies.1.1)
+    (subst (λ (t : SectionId). is_segment_named (segment_name_of (header_at l t)) lies.0 ≡ true) q.2 lies.2) in
     numbers_agree l counts p (key_of (header_at l s)) placed
     (output_there l counts (key_of (header_at l s)) named
     (in_distinct same_key same_is (map (λ (t : SectionId). key_of (header_at l t)) (carried_of l)

@@ -4,16 +4,15 @@
 -- of its name. So what it leads to is what it leads to by itself; its section and its address are told.
 use Rattle.std.proofs.Common.{◌≡◌, ℕ, ◌<◌, ◌≤◌, ◌==◌, ◌&&◌, ◌||◌, not, Bool, true, false, List, [], ◌∷◌, length, refl, sym, ap, subst, ◌∙◌}
 use Rattle.std.proofs.Common.{arith, Contains, eqb-true}
-use Rattle.std.specs.Prelude.{if◌then◌else◌, nat_lt, Option, Some, None}
+use Rattle.std.specs.Prelude.{if◌then◌else◌, nat_lt, nat_eq, bit_and, codes, Option, Some, None}
+use Rattle.std.specs.List.{starts_with}
 use Rattle.std.proofs.lemmas.Bool.{and_parts, lt-ltb, true≢false}
 use Rattle.macho_records.specs.declared.symbols.SymtabEntry.{SymtabEntry}
-use Rattle.macho_records.specs.declared.constants.TheConstants.{N_UNDF}
-use Rattle.macho_records.specs.Symbols.{is_common_of, is_stab_of, is_external_of, is_undefined_of, is_absolute_of, is_defined_of}
-use Rattle.macho_records.specs.Symbols.{symbol_type_of, is_default_strippable_of}
+use Rattle.macho_records.specs.declared.constants.TheConstants.{N_UNDF, N_ABS, N_SECT, N_EXT, N_TYPE}
+use Rattle.macho_records.specs.Symbols.{is_common_of, is_stab_of, has_type, is_global}
 use Rattle.macho_model.specs.declared.placed.Counts.{Counts}
 use Rattle.macho_model.specs.declared.targets.Target.{Target}
 use Rattle.macho_model.specs.declared.targets.Target.TheVariants as target
-use Rattle.macho_model.specs.Symbols.{is_absolute, is_global, is_local}
 use Rattle.macho_model.specs.Objects.{num_sections, section_at, symbol_at}
 use Rattle.macho_model.specs.Links.{Link, SectionId, object_of, header_at, sections_of, carried_of, is_carried}
 use Rattle.macho_model.specs.Needs.{imports_of}
@@ -31,13 +30,14 @@ use Rattle.macho_symbols.specs.Kept.{symbol_id}
 use Rattle.macho_model.specs.Grammar.{ObjectsAreRead}
 use Rattle.macho_targets.proofs.OfLink.{section_of, carried_symbol}
 use Rattle.macho_records.specs.declared.header.SectionHeader.{SectionHeader}
+use Rattle.macho_records.specs.Flags.{has_any}
 use Rattle.macho_tables.specs.steps.Sections.{header_with, number_with, number_told, section_told}
 use Rattle.macho_tables.proofs.Numbers.{section_agrees, commons_agree}
 
 -- What is known of a symbol of the table.
 pub record IsInTable (l : Link) (s : SymbolId) : Type 0 where
   pub there : Contains (symbols_of l) s
-  pub defined : (stands_in_carried l s || is_absolute (entry_at l s) || is_common_of (entry_at l s)) ≡ true
+  pub defined : (stands_in_carried l s || has_type N_ABS (entry_at l s) || is_common_of (entry_at l s)) ≡ true
   pub own : is_global (entry_at l s) ≡ true → defines l s ≡ true
 
 pub in_table : (l : Link) (s : SymbolId) → Contains (table_symbols l) s → IsInTable l s
@@ -45,11 +45,11 @@ unfolding table_symbols
 in_table l s listed =
     let f = filter_contains (is_in_table l) (symbols_of l) s listed in
     let both = and_parts (is_named_definition l s)
-    (if is_global (entry_at l s) then defines l s else not (is_default_strippable_of (entry_at l s) (name_at l s))) f.1 in
+    (if is_global (entry_at l s) then defines l s else not (starts_with nat_eq (name_at l s) (codes "ltmp"))) f.1 in
     record {
       there = f.0;
       defined = (and_parts (not ((entry_at l s).n_strx == 0)) _ both.0).1;
-      own = λ global. by (is_global (entry_at l s)) (defines l s) (not (is_default_strippable_of (entry_at l s) (name_at l s))) global
+      own = λ global. by (is_global (entry_at l s)) (defines l s) (not (starts_with nat_eq (name_at l s) (codes "ltmp"))) global
           both.1;
     }
   where
@@ -60,10 +60,10 @@ in_table l s listed =
 -- a common is seen by others, and is no debugging entry
 common_parts : (e : SymtabEntry) → is_common_of e ≡ true → (is_stab_of e ≡ false) × (is_global e ≡ true)
 common_parts e is =
-    let one = and_parts (is_undefined_of e && is_external_of e) (not (e.n_value == 0)) is in
-    let two = and_parts (is_undefined_of e) (is_external_of e) one.0 in
-    let three = and_parts (not (is_stab_of e)) (symbol_type_of e == N_UNDF) two.0 in
-    (not_true (is_stab_of e) three.0, both (not (is_stab_of e)) (is_external_of e) three.0 two.1)
+    let one = and_parts (has_type N_UNDF e && has_any N_EXT e.n_type) (not (e.n_value == 0)) is in
+    let two = and_parts (has_type N_UNDF e) (has_any N_EXT e.n_type) one.0 in
+    let three = and_parts (not (is_stab_of e)) (bit_and e.n_type N_TYPE == N_UNDF) two.0 in
+    (not_true (is_stab_of e) three.0, both (not (is_stab_of e)) (has_any N_EXT e.n_type) three.0 two.1)
   where
     not_true : (b : Bool) → not b ≡ true → b ≡ false
     not_true true e = absurd (true≢false (sym e))
@@ -75,8 +75,9 @@ common_parts e is =
 -- no symbol of the table is a debugging entry
 pub no_stab : (l : Link) (s : SymbolId) → IsInTable l s → is_stab_of (entry_at l s) ≡ false
 no_stab l s in_it =
-    by (is_stab_of (entry_at l s)) (is_defined_of (entry_at l s)) (is_carried (header_at l (section_of_symbol l s)))
-    (is_absolute_of (entry_at l s)) (is_common_of (entry_at l s)) (λ common. (common_parts (entry_at l s) common).0) in_it.defined
+    by (is_stab_of (entry_at l s)) (bit_and (entry_at l s).n_type N_TYPE == N_SECT) (is_carried (header_at l (section_of_symbol l s)))
+    (bit_and (entry_at l s).n_type N_TYPE == N_ABS) (is_common_of (entry_at l s))
+    (λ common. (common_parts (entry_at l s) common).0) in_it.defined
   where
     by : (stab d c a k : Bool) → (k ≡ true → stab ≡ false) → (((not stab && d) && c) || (not stab && a) || k) ≡ true → stab ≡ false
     by false d c a k common h = refl
@@ -102,26 +103,12 @@ own_is l s in_it = by (is_global (entry_at l s)) refl
     defined_target (Some (Library file)) is = absurd (true≢false (sym is))
     defined_target (Some ImageBase) is = absurd (true≢false (sym is))
 
-    local : (stab ext car abs joint : Bool) → stab ≡ false → (not stab && ext) ≡ false → (joint ≡ true → (not stab && ext) ≡ true)
-        → (car || abs || joint) ≡ true
-        → ((not stab && not ext) && (car || abs)) ≡ true
-    local true ext car abs joint e g k h = absurd (true≢false e)
-    local false true car abs joint e g k h = absurd (true≢false g)
-    local false false true abs joint e g k h = refl
-    local false false false true joint e g k h = refl
-    local false false false false true e g k h = k refl
-    local false false false false false e g k h = h
-
     by : (g : Bool) → is_global (entry_at l s) ≡ g → target_with l (imports_of l) s ≡ own_target l s
     by true e =
         first (is_global (entry_at l s)) _ _ e
         ∙ defined_target (definition_of l (name_at l s))
         (and_parts (is_global (entry_at l s)) (is_symbol s (definition_of l (name_at l s))) (in_it.own e)).1
-    by false e =
-        second (is_global (entry_at l s)) _ _ e
-        ∙ first (is_local (entry_at l s) && (stands_in_carried l s || is_absolute (entry_at l s))) (own_target l s) target.None
-        (local (is_stab_of (entry_at l s)) (is_external_of (entry_at l s)) (stands_in_carried l s) (is_absolute (entry_at l s))
-        (is_common_of (entry_at l s)) (no_stab l s in_it) e (λ common. (common_parts (entry_at l s) common).1) in_it.defined)
+    by false e = second (is_global (entry_at l s)) _ _ e
 
 -- a common of the table is chosen
 common_chosen : (l : Link) (s : SymbolId) → IsInTable l s → is_common_of (entry_at l s) ≡ true → 1 ≤ length (chosen_commons l)
@@ -151,7 +138,7 @@ pub section_is : (l : Link) (counts : Counts) (p : Placed) (file index : ℕ) (b
     → section_told p (record { bytes = b; is_dynamic = false }) (symbol_at b index) ≡ entry_section l counts (symbol_id file index)
 section_is l counts p file index b read placed is in_it =
     subst (λ (x : List ℕ). section_told p (record { bytes = x; is_dynamic = false }) (symbol_at x index) ≡ entry_section l counts s) is
-    (by (is_common_of (entry_at l s)) (is_absolute (entry_at l s)) refl refl)
+    (by (is_common_of (entry_at l s)) (has_type N_ABS (entry_at l s)) refl refl)
   where
     s : SymbolId
     s = symbol_id file index
@@ -177,9 +164,9 @@ section_is l counts p file index b read placed is in_it =
         first (nat_lt (section_index_of f index) (num_sections f.bytes)) (Some (section_at f.bytes (section_index_of f index))) None
         (lt-ltb (section_index_of f index) (num_sections f.bytes) there)
 
-    stands_there : is_common_of (entry_at l s) ≡ false → is_absolute (entry_at l s) ≡ false → stands_in_carried l s ≡ true
+    stands_there : is_common_of (entry_at l s) ≡ false → has_type N_ABS (entry_at l s) ≡ false → stands_in_carried l s ≡ true
     stands_there no_common no_value =
-        only (stands_in_carried l s) (is_absolute (entry_at l s)) (is_common_of (entry_at l s)) no_value no_common in_it.defined
+        only (stands_in_carried l s) (has_type N_ABS (entry_at l s)) (is_common_of (entry_at l s)) no_value no_common in_it.defined
       where
         only : (a c d : Bool) → c ≡ false → d ≡ false → (a || c || d) ≡ true → a ≡ true
         only true c d e g h = refl
@@ -189,9 +176,9 @@ section_is l counts p file index b read placed is in_it =
 
     -- the number, where the symbol is no common
     other : ℕ
-    other = if is_absolute (entry_at l s) then 0 else number_with p header
+    other = if has_type N_ABS (entry_at l s) then 0 else number_with p header
 
-    by : (c a : Bool) → is_common_of (entry_at l s) ≡ c → is_absolute (entry_at l s) ≡ a
+    by : (c a : Bool) → is_common_of (entry_at l s) ≡ c → has_type N_ABS (entry_at l s) ≡ a
         → section_told p f (entry_at l s) ≡ entry_section l counts s
     by true a e g =
         first (is_common_of (entry_at l s)) (number_told p common_key) other e
@@ -199,14 +186,14 @@ section_is l counts p file index b read placed is in_it =
         ∙ sym (first (is_common_of (entry_at l s)) (section_number l counts common_key) _ e)
     by false true e g =
         second (is_common_of (entry_at l s)) (number_told p common_key) other e
-        ∙ first (is_absolute (entry_at l s)) 0 (number_with p header) g
+        ∙ first (has_type N_ABS (entry_at l s)) 0 (number_with p header) g
         ∙ sym (second (is_common_of (entry_at l s)) (section_number l counts common_key) _ e
-        ∙ first (is_absolute (entry_at l s)) 0 (section_number l counts (key_of (header_at l (section_of_symbol l s)))) g)
+        ∙ first (has_type N_ABS (entry_at l s)) 0 (section_number l counts (key_of (header_at l (section_of_symbol l s)))) g)
     by false false e g =
         let stands = stands_there e g in
         second (is_common_of (entry_at l s)) (number_told p common_key) other e
-        ∙ second (is_absolute (entry_at l s)) 0 (number_with p header) g
+        ∙ second (has_type N_ABS (entry_at l s)) 0 (number_with p header) g
         ∙ ap (number_with p) (one_there stands)
         ∙ section_agrees l counts p (section_of_symbol l s) placed (carried_symbol l s read in_it.there stands)
         ∙ sym (second (is_common_of (entry_at l s)) (section_number l counts common_key) _ e
-        ∙ second (is_absolute (entry_at l s)) 0 (section_number l counts (key_of (header_at l (section_of_symbol l s)))) g)
+        ∙ second (has_type N_ABS (entry_at l s)) 0 (section_number l counts (key_of (header_at l (section_of_symbol l s)))) g)

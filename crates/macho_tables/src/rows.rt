@@ -3,12 +3,12 @@ ghost use Rattle.std.specs.Prelude.{◌≡◌, ℕ, ◌+◌, ◌*◌, ◌<◌, �
 ghost use Rattle.std.specs.Option.{option_copied};
 ghost use Rattle.macho_bytes.specs.Layouts.{size_of};
 ghost use Rattle.macho_records.specs.Layouts.{symtab_entry};
+ghost use Rattle.macho_records.specs.Symbols.{is_global};
 ghost use Rattle.macho_model.specs.declared.placed.Counts.{Counts};
 ghost use Rattle.macho_model.specs.Links.{Link};
 ghost use Rattle.macho_model.specs.Placement.{Placed};
 ghost use Rattle.macho_model.specs.Segments.{common_key};
 ghost use Rattle.macho_model.specs.Objects.{num_symbols, symbol_name};
-ghost use Rattle.macho_model.specs.Symbols.{is_global};
 ghost use Rattle.macho_model.specs.Exports.{is_listed};
 ghost use Rattle.macho_linkedit.specs.TableRows.{row_of, symbol_rows};
 ghost use Rattle.macho_layout.specs.Placements.{placed_of};

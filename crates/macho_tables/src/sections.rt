@@ -7,11 +7,11 @@
 //! sections of an object     __text   __compact_unwind   __data
 //! their output sections          1                  0        4   ->   a symbol whose n_sect is 3 stands in output section 4
 //! ```
-ghost use Rattle.std.specs.Prelude.{◌≡◌, ◌<◌, ◌≤◌, nat_lt, ◌&&◌, false, length, map, get_or, unwrap_or, Some, IfOk};
+ghost use Rattle.std.specs.Prelude.{◌≡◌, ◌<◌, ◌≤◌, nat_lt, ◌&&◌, false, length, map, get_or, unwrap_or, Some, IfOk, codes};
 ghost use Rattle.indexmap.specs.IndexMap.{get};
 ghost use Rattle.macho_bytes.specs.Texts.{name_of};
 ghost use Rattle.macho_records.specs.declared.constants.TheConstants.{S_ZEROFILL};
-ghost use Rattle.macho_model.specs.Segments.{DATA, COMMON, common_key};
+ghost use Rattle.macho_model.specs.Segments.{DATA, common_key};
 ghost use Rattle.macho_model.specs.Placement.{Placed};
 ghost use Rattle.macho_object.specs.Views.{FileBytes};
 ghost use Rattle.macho_layout.specs.Keys.{same_output};
@@ -53,7 +53,7 @@ fn merged_by(header: &SectionHeader) -> OutputName
 
 /// What commons are merged by.
 fn common_name() -> OutputName
-    ensures { result ≡ output_name DATA COMMON S_ZEROFILL }
+    ensures { result ≡ output_name DATA (codes "__common") S_ZEROFILL }
 {
     OutputName {
         segment: SegmentName::DATA,

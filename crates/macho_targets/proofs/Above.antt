@@ -3,9 +3,9 @@
 -- Segments stand one behind the other, and `__TEXT` begins at the base: a segment behind it begins there or above. The only
 -- segment in front of it
 -- is `__PAGEZERO`, which no carried section is in. Sections and commons stand in segments that are not in front of `__TEXT`.
-use Rattle.std.proofs.Common.{◌≡◌, ℕ, zero, suc, ◌+◌, ◌-◌, ◌<◌, ◌≤◌, ◌||◌, not, nat_lt, Bool, true, false, List, length, get_or, refl}
+use Rattle.std.proofs.Common.{◌≡◌, ℕ, zero, suc, ◌+◌, ◌-◌, ◌<◌, ◌≤◌, nat_lt, Bool, true, false, List, length, get_or, refl}
 use Rattle.std.proofs.Common.{sym, ap, subst, ◌∙◌, arith}
-use Rattle.std.specs.Prelude.{Contains, codes}
+use Rattle.std.specs.Prelude.{Contains}
 use Rattle.std.proofs.lemmas.Bool.{ltb-true}
 use Rattle.std.proofs.lemmas.Bool.Decides.{nat_tests}
 use Rattle.std.specs.Str.{bytes_eq}
@@ -15,17 +15,16 @@ use Rattle.macho_records.specs.Segments.{text_of}
 use Rattle.macho_model.specs.declared.placed.Counts.{Counts}
 use Rattle.macho_model.specs.declared.placed.PlacedSegment.{PlacedSegment}
 use Rattle.macho_model.specs.Lists.{IsNumber, EachNext}
-use Rattle.macho_records.specs.Segments.{is_name}
-use Rattle.macho_records.specs.Sections.{should_exclude_of, is_debug_of, is_indirect_type, type_of}
+use Rattle.macho_records.specs.Sections.{segment_name_of}
 use Rattle.macho_model.specs.declared.placed.PlacedSection.{PlacedSection}
 use Rattle.macho_model.specs.declared.placed.PlacedCommon.{PlacedCommon}
 use Rattle.macho_model.specs.declared.targets.Target.TheVariants as target
-use Rattle.macho_model.proofs.EachBelow.{and_left}
+use Rattle.macho_model.proofs.Carried.{segment_of_carried}
 use Rattle.macho_lists.proofs.Members.{filter_contains, all_contains}
 use Rattle.macho_targets.specs.Laws.{TargetsStandAbove}
 use Rattle.macho_targets.proofs.Places.{section_place, common_place}
 use Rattle.macho_model.specs.Links.{Link, SectionId, section_id, header_at, is_carried, sections_of, carried_of}
-use Rattle.macho_model.specs.Segments.{PAGEZERO, TEXT, DATA, base_of_link, segment_rank, segment_name}
+use Rattle.macho_model.specs.Segments.{PAGEZERO, TEXT, DATA, base_of_link, segment_rank}
 use Rattle.macho_model.specs.Placement.{Placed, IsPlaced, IsInOrder, Follows, is_segment_named, SectionLies, LiesInNamed, common_span}
 use Rattle.macho_model.specs.Placement.{id_of}
 
@@ -111,18 +110,10 @@ segment_above l p k t order base number other = by (nat_lt k at) refl
         omega (arith, up, begins, ap (λ (s : PlacedSegment). s.address) there, ap (λ (s : PlacedSegment). s.address) here)
 
 -- a carried section is in another segment
-carried_elsewhere : (l : Link) (s : SectionId) → Contains (carried_of l) s → bytes_eq (segment_name l s) PAGEZERO ≡ false
+carried_elsewhere : (l : Link) (s : SectionId) → Contains (carried_of l) s → bytes_eq (segment_name_of (header_at l s)) PAGEZERO ≡ false
 unfolding carried_of
 carried_elsewhere l s has =
-    let carried = (filter_contains (λ (t : SectionId). is_carried (header_at l t)) (sections_of l) s has).1 in
-    let kept : not (should_exclude_of (header_at l s)) ≡ true = and_left _ _ (and_left _ _ carried) in
-    parts (is_debug_of (header_at l s)) (bytes_eq (segment_name l s) PAGEZERO) (is_name (codes "__LINKEDIT") (segment_name l s))
-    (is_name (codes "__LLVM") (segment_name l s)) (is_indirect_type (type_of (header_at l s))) kept
-  where
-    parts : (a b c d e : Bool) → not (a || ((b || c) || d) || e) ≡ true → b ≡ false
-    parts true b c d e h = cc
-    parts false true c d e h = cc
-    parts false false c d e h = refl
+    (segment_of_carried (header_at l s) (filter_contains (λ (t : SectionId). is_carried (header_at l t)) (sections_of l) s has).1).0
 
 named_differs : (name other : List ℕ) (s : PlacedSegment) → is_segment_named name s ≡ true → bytes_eq name other ≡ false
     → bytes_eq (text_of s.name) other ≡ false
@@ -134,7 +125,7 @@ section_above : (l : Link) (counts : Counts) (p : Placed) (q : PlacedSection) �
 section_above l counts p q placed has carried =
     let lies : SectionLies l p q = all_contains (SectionLies l p) p.sections q placed.in_segment.sections has in
     let up = segment_above l p q.segment lies.0 placed.in_order placed.base lies.1
-    (named_differs (segment_name l (id_of q)) PAGEZERO lies.0 lies.2 (carried_elsewhere l (id_of q) carried)) in
+    (named_differs (segment_name_of (header_at l (id_of q))) PAGEZERO lies.0 lies.2 (carried_elsewhere l (id_of q) carried)) in
     omega (arith, up, lies.3.from)
 
 common_above : (l : Link) (counts : Counts) (p : Placed) (c : PlacedCommon) → IsPlaced l counts p → Contains p.commons c

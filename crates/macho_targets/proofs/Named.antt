@@ -12,9 +12,10 @@ use Rattle.std.specs.Str.{bytes_eq}
 use Rattle.macho_model.proofs.EachBelow.{and_left, and_right}
 use Rattle.std.proofs.lemmas.Slice.Eq.{bytes_eq-Decides}
 use Rattle.macho_lists.proofs.Members.{contains_filter, filter_contains, contains_cases, nil_contains, contains_first}
-use Rattle.macho_records.specs.Symbols.{is_common_of, is_external_of, is_undefined_of, is_stab_of}
+use Rattle.macho_records.specs.Symbols.{is_common_of, is_stab_of, has_type, is_global}
 use Rattle.macho_records.specs.declared.symbols.SymtabEntry.{SymtabEntry}
-use Rattle.macho_model.specs.Symbols.{is_absolute, is_global, is_local}
+use Rattle.macho_records.specs.declared.constants.TheConstants.{N_ABS, N_UNDF, N_EXT}
+use Rattle.macho_records.specs.Flags.{has_any}
 use Rattle.macho_model.specs.Links.{Link}
 use Rattle.macho_model.specs.Resolution.{SymbolId, Definition, Symbol, Library, ImageBase, symbols_of, entry_at, name_at}
 use Rattle.macho_model.specs.Resolution.{stands_in_carried, same_symbol, strong_of, weak_of, commons_of, greatest_of, libraries_with}
@@ -71,8 +72,8 @@ weak_defines l name s has =
 -- a common is global
 common_global : (e : SymtabEntry) → is_common_of e ≡ true → is_global e ≡ true
 common_global e is =
-    let first : (is_undefined_of e && is_external_of e) ≡ true = and_left _ _ is in
-    both (not (is_stab_of e)) (is_external_of e) (and_left _ _ (and_left _ _ first)) (and_right _ _ first)
+    let first : (has_type N_UNDF e && has_any N_EXT e.n_type) ≡ true = and_left _ _ is in
+    both (not (is_stab_of e)) (has_any N_EXT e.n_type) (and_left _ _ (and_left _ _ first)) (and_right _ _ first)
   where
     both : (a b : Bool) → a ≡ true → b ≡ true → (a && b) ≡ true
     both a b p q = rw (p, q) refl
@@ -156,9 +157,9 @@ chosen_there l name s e common =
 own_of_link : (l : Link) (name : List ℕ) (s : SymbolId) → ObjectsAreRead l → definition_of l name ≡ Some (Symbol s)
     → is_defined (own_target l s) ≡ true
     → IsOfLink l (own_target l s)
-own_of_link l name s read e moves = by (stands_in_carried l s) (is_absolute (entry_at l s)) (is_common_of (entry_at l s)) refl refl refl
+own_of_link l name s read e moves = by (stands_in_carried l s) (has_type N_ABS (entry_at l s)) (is_common_of (entry_at l s)) refl refl refl
   where
-    by : (x y z : Bool) → stands_in_carried l s ≡ x → is_absolute (entry_at l s) ≡ y → is_common_of (entry_at l s) ≡ z
+    by : (x y z : Bool) → stands_in_carried l s ≡ x → has_type N_ABS (entry_at l s) ≡ y → is_common_of (entry_at l s) ≡ z
         → IsOfLink l (own_target l s)
     by true y z p q r = rw p (carried_symbol l s read (defined_by l name s e).there p)
     by false true z p q r =
@@ -179,30 +180,28 @@ name_of_link l noted name read moves = by (definition_of l name) refl moves
     by (Some (Library file)) e m = cc
     by (Some ImageBase) e m = tt
 
--- a local symbol leads into its own section
-local_of_link : (l : Link) (s : SymbolId) → ObjectsAreRead l → Contains (symbols_of l) s
-    → (stands_in_carried l s || is_absolute (entry_at l s)) ≡ true
+-- a symbol that is not global leads into its own section
+local_of_link : (l : Link) (s : SymbolId) → ObjectsAreRead l → Contains (symbols_of l) s → is_global (entry_at l s) ≡ false
     → is_defined (own_target l s) ≡ true → IsOfLink l (own_target l s)
-local_of_link l s read there own moves = by (stands_in_carried l s) (is_absolute (entry_at l s)) refl refl
+local_of_link l s read there local moves =
+    by (stands_in_carried l s) (has_type N_ABS (entry_at l s)) (is_common_of (entry_at l s)) refl refl refl
   where
-    by : (x y : Bool) → stands_in_carried l s ≡ x → is_absolute (entry_at l s) ≡ y → IsOfLink l (own_target l s)
-    by true y p q = rw p (carried_symbol l s read there p)
-    by false true p q =
+    by : (x y z : Bool) → stands_in_carried l s ≡ x → has_type N_ABS (entry_at l s) ≡ y → is_common_of (entry_at l s) ≡ z
+        → IsOfLink l (own_target l s)
+    by true y z p q r = rw p (carried_symbol l s read there p)
+    by false true z p q r =
         let moved : false ≡ true = rw (p, q) at moves in
         cc
-    by false false p q =
-        let none : false ≡ true = rw (p, q) at own in
+    by false false true p q r =
+        let both : false ≡ true = sym local ∙ common_global (entry_at l s) r in
+        cc
+    by false false false p q r =
+        let moved : false ≡ true = rw (p, q, r) at moves in
         cc
 
 pub symbol_of_link : SymbolTargetsAreOfLink
-symbol_of_link l noted s read there moves =
-    by (is_global (entry_at l s)) (is_local (entry_at l s) && (stands_in_carried l s || is_absolute (entry_at l s))) refl refl
+symbol_of_link l noted s read there moves = by (is_global (entry_at l s)) refl
   where
-    by : (x y : Bool) → is_global (entry_at l s) ≡ x
-        → (is_local (entry_at l s) && (stands_in_carried l s || is_absolute (entry_at l s))) ≡ y
-        → IsOfLink l (target_with l noted s)
-    by true y p q = rw p (name_of_link l noted (name_at l s) read (rw p at moves))
-    by false true p q = rw (p, q) (local_of_link l s read there (and_right _ _ q) (rw (p, q) at moves))
-    by false false p q =
-        let moved : false ≡ true = rw (p, q) at moves in
-        cc
+    by : (x : Bool) → is_global (entry_at l s) ≡ x → IsOfLink l (target_with l noted s)
+    by true p = rw p (name_of_link l noted (name_at l s) read (rw p at moves))
+    by false p = rw p (local_of_link l s read there p (rw p at moves))

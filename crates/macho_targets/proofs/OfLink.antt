@@ -10,11 +10,12 @@ use Rattle.std.specs.Prelude.{Contains}
 use Rattle.std.specs.List.{range_with_len, enumerate_from}
 use Rattle.std.proofs.lemmas.List.{get_or_default}
 use Rattle.std.proofs.lemmas.Bool.{leb-true}
+use Rattle.macho_records.specs.Symbols.{has_type}
+use Rattle.macho_records.specs.declared.constants.TheConstants.{N_SECT}
 use Rattle.macho_model.proofs.EachBelow.{and_left, and_right}
 use Rattle.macho_lists.proofs.Members.{contains_map, map_contains, contains_filter, contains_flat_map, flat_map_contains, contains_range}
 use Rattle.macho_lists.proofs.Members.{range_contains, contains_enumerate, enumerate_contains}
 use Rattle.macho_model.specs.Lists.{IsNumber}
-use Rattle.macho_model.specs.Symbols.{is_in_section}
 use Rattle.macho_model.specs.Objects.{num_sections, num_symbols, symbol_at}
 use Rattle.macho_model.specs.Grammar.{IsObject, ObjectsAreRead}
 use Rattle.macho_model.proofs.ObjectLaws.{object_keeps}
@@ -115,7 +116,7 @@ or_else true b e a_is = e
 or_else false b e a_is = cc
 
 -- a symbol of an object that stands in a section names one of the object's
-section_exists : (b : List ℕ) → IsObject b → (k : ℕ) → k < num_symbols b → is_in_section (symbol_at b k) ≡ true
+section_exists : (b : List ℕ) → IsObject b → (k : ℕ) → k < num_symbols b → has_type N_SECT (symbol_at b k) ≡ true
     → (1 ≤ (symbol_at b k).n_sect) × ((symbol_at b k).n_sect ≤ num_sections b)
 section_exists b is k low inside =
     let both = or_else _ _ ((object_keeps is).o5.0 k low) inside in
@@ -126,8 +127,8 @@ pub carried_symbol : (l : Link) (s : SymbolId) → ObjectsAreRead l → Contains
     → Contains (carried_of l) (section_of_symbol l s)
 carried_symbol l s read there stands =
     let of = symbol_of l s there in
-    let inside : is_in_section (symbol_at of.bytes s.symbol) ≡ true =
-    subst (λ (b : List ℕ). is_in_section (symbol_at b s.symbol) ≡ true) of.object (and_left _ _ stands) in
+    let inside : has_type N_SECT (symbol_at of.bytes s.symbol) ≡ true =
+    subst (λ (b : List ℕ). has_type N_SECT (symbol_at b s.symbol) ≡ true) of.object (and_left _ _ stands) in
     let exists = section_exists of.bytes (read s.file of.bytes of.input) s.symbol of.symbol inside in
     let number : (entry_at l s).n_sect ≡ (symbol_at of.bytes s.symbol).n_sect =
     ap (λ (b : List ℕ). (symbol_at b s.symbol).n_sect) of.object in

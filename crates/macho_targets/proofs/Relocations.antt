@@ -5,15 +5,16 @@
 use Rattle.std.proofs.Common.{◌≡◌, ℕ, suc, ◌-◌, ◌<◌, ◌≤◌, ◌==◌, ◌&&◌, nat_le, nat_lt, Bool, true, false, List, refl, sym, ap, subst, ◌∙◌}
 use Rattle.std.proofs.Common.{arith}
 use Rattle.std.proofs.lemmas.Bool.{leb-true}
+use Rattle.macho_model.specs.steps.RecordTests.{relocation_number_exists}
 use Rattle.macho_model.proofs.EachBelow.{and_left, and_right}
 use Rattle.macho_model.proofs.ObjectLaws.{object_keeps}
 use Rattle.macho_records.specs.declared.constants.TheConstants.{ARM64_RELOC_ADDEND}
 use Rattle.macho_structs.specs.declared.relocations.RelocationInfo.{RelocationInfo}
-use Rattle.macho_model.specs.ObjectRules.{relocation_number_exists}
 use Rattle.macho_model.specs.Objects.{num_sections, num_symbols, section_at, relocation_at}
 use Rattle.macho_model.specs.Links.{header_at, is_carried}
 use Rattle.macho_model.specs.Needs.{relocation_in, section_named, imports_of}
-use Rattle.macho_model.specs.Targets.{target_of, target_of_section, target_of_relocation, is_defined}
+use Rattle.macho_model.specs.Targets.{target_of, target_of_relocation, is_defined}
+use Rattle.macho_model.proofs.Words.{target_of_section}
 use Rattle.macho_targets.specs.Laws.{IsOfLink, RelocationTargetsAreOfLink}
 use Rattle.macho_targets.proofs.OfLink.{section_of, symbol_there, carried_there, IsSectionOf}
 use Rattle.macho_targets.proofs.Named.{symbol_of_link}

@@ -25,7 +25,8 @@ use Rattle.macho_model.specs.Targets.{is_defined, is_import, target_of_relocatio
 use Rattle.macho_model.specs.Fields.{Field, field_of, fields_of, has_subtrahend, has_addend, is_difference, width_of, content_of}
 use Rattle.macho_model.specs.Fields.{pointer_addend}
 use Rattle.macho_model.specs.Words.{is_branch}
-use Rattle.macho_model.specs.Rows.{is_supported, defined_or_import, difference_fits, begins_pair, pointer_fits, may_be_called, has_form}
+use Rattle.macho_model.specs.Rows.{is_supported, defined_or_import, difference_fits, begins_pair, pointer_fits, has_form}
+use Rattle.macho_model.specs.Supported.{may_be_called}
 use Rattle.macho_model.specs.Stands.{Kind, Pointer, Difference, Branch, Page, Offset, SlotPage, SlotOffset, SlotDistance, NoKind, kind_of}
 use Rattle.macho_model.specs.Supported.{RelocationsAreSupported}
 use Rattle.macho_standing.specs.Leads.{HasPlace}

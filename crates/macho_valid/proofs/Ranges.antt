@@ -3,7 +3,7 @@
 -- Ranks rise and `__TEXT` begins at the base, so every segment but the one that keeps addresses free stands there or later; and each
 -- ends at most the written sum behind the base, which is small. What lies in such a segment is near the base too. In the file the
 -- segments stand one behind the other from 0 on, and none has more bytes there than in memory.
-use Rattle.std.proofs.Common.{◌≡◌, ℕ, zero, suc, ◌+◌, ◌<◌, ◌≤◌, Bool, true, false, not, cond, List, ◌∷◌, length, get_or, refl, sym, ap}
+use Rattle.std.proofs.Common.{◌≡◌, ℕ, zero, suc, ◌+◌, ◌<◌, ◌≤◌, Bool, true, false, not, cond, List, ◌∷◌, length, get_or, refl, sym, ap, ◌*◌, ◌^◌}
 use Rattle.std.proofs.Common.{subst, ◌∙◌, arith, inl, inr, All}
 use Rattle.std.specs.Prelude.{Contains}
 use Rattle.std.specs.List.{position_or_len}
@@ -27,13 +27,17 @@ use Rattle.macho_model.specs.WrittenSum.{written_sum_of}
 use Rattle.macho_model.specs.Placement.{Placed, id_of, common_of, section_span, common_span, slot_span, stub_span, is_segment_named}
 use Rattle.macho_model.specs.Placement.{Follows, IsPaged, LiesInNamed, SectionLies, IsPlaced}
 use Rattle.macho_model.specs.Order.{least_file_size}
-use Rattle.macho_model.specs.Valid.{VALID_SUM, IsValid}
+use Rattle.macho_model.specs.Valid.{IsValid}
 use Rattle.macho_promise.specs.Promise.{IsLaidOut}
 use Rattle.macho_model.specs.Grammar.{ObjectsAreRead}
 use Rattle.macho_standing.proofs.Libraries.{same_bytes}
 use Rattle.macho_standing.proofs.Places.{lies_within}
 use Rattle.macho_standing.proofs.Apart.{placed_is_carried}
 use Rattle.macho_standing.proofs.Held.{section_is_mapped}
+
+-- the greatest written sum of a valid link
+abbrev pub VALID_SUM : ℕ
+VALID_SUM = 64 * 2 ^ 20
 
 -- A valid link, placed and laid out.
 pub record IsValidPlaced (l : Link) (counts : Counts) (p : Placed) : Type 0 where

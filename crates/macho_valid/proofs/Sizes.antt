@@ -15,7 +15,7 @@ use Rattle.std.proofs.lemmas.List.FromFn.{length-range_with_len, get_or-range_wi
 use Rattle.std.specs.FinMap.{empty}
 use Rattle.macho_records.specs.Segments.{text_of}
 use Rattle.macho_records.specs.declared.constants.TheConstants.{ARM64_RELOC_ADDEND, ARM64_RELOC_UNSIGNED, S_MOD_INIT_FUNC_POINTERS}
-use Rattle.macho_records.specs.Sections.{type_of}
+use Rattle.macho_records.specs.Sections.{type_of, should_exclude_of}
 use Rattle.macho_model.specs.declared.placed.Counts.{Counts}
 use Rattle.macho_model.specs.declared.placed.PlacedSegment.{PlacedSegment}
 use Rattle.macho_model.specs.declared.placed.Range64.{Range64}
@@ -25,7 +25,7 @@ use Rattle.macho_model.specs.declared.targets.Limit.TheVariants as limit
 use Rattle.macho_model.specs.declared.targets.Target.{Target}
 use Rattle.macho_model.specs.declared.targets.Target.TheVariants as target
 use Rattle.macho_model.specs.ExportLists.{plain_entries}
-use Rattle.macho_model.specs.Links.{Link, SectionId, header_at, carried_of, sections_of, is_carried, is_consumed, is_initializers}
+use Rattle.macho_model.specs.Links.{Link, SectionId, header_at, carried_of, sections_of, is_carried, is_initializers}
 use Rattle.macho_model.specs.Needs.{ByInitializer, ByName, uses_of, relocation_in, section_named, relocations_of, relocations_at}
 use Rattle.macho_model.specs.Needs.{initializer_sections, unwind_sections, carried_uses, initializer_uses, personality_uses, is_imported}
 use Rattle.macho_model.specs.Needs.{PERSONALITY_PLACE}
@@ -35,7 +35,7 @@ use Rattle.macho_model.specs.Segments.{PAGEZERO, TEXT, DATA_CONST, DATA, LINKEDI
 use Rattle.macho_model.specs.Segments.{other_segments, segment_rank, segment_names_of}
 use Rattle.macho_model.specs.Rows.{is_none}
 use Rattle.macho_model.specs.Consumed.{EntryId, entries_of_link, entry_count, is_plain_pointer, is_section_target}
-use Rattle.macho_model.specs.Consumed.{initializer_relocation_fits, relocations_in_entry, unwind_entry}
+use Rattle.macho_model.specs.Consumed.{relocations_in_entry, unwind_entry}
 use Rattle.macho_model.specs.Consumed.{START_PLACE, LSDA_PLACE, holds_functions, lies_in, starts_in}
 use Rattle.macho_model.specs.Placement.{Placed, id_of, is_segment_named, linkedit_ranges}
 use Rattle.macho_model.specs.Order.{least_file_size}
@@ -44,14 +44,14 @@ use Rattle.macho_model.specs.Stands.{SectionAt, IsAt}
 use Rattle.macho_model.specs.Values.{is_absolute_target}
 use Rattle.macho_model.specs.Limits.{PassesLimit, ImagePasses, IsWritten32}
 use Rattle.macho_model.specs.Limits as written
-use Rattle.macho_model.specs.Valid.{VALID_SUM}
 use Rattle.macho_model.proofs.Unrefused.{valid_initializers, valid_slot, valid_at_slot, valid_entry}
+use Rattle.macho_model.proofs.Words.{initializer_relocation_fits}
 use Rattle.macho_standing.proofs.Members.{in_map, of_map, in_filter, of_filter, in_flat_map, of_flat_map}
 use Rattle.macho_standing.proofs.Libraries.{same_bytes, itself}
 use Rattle.macho_standing.proofs.Inputs.{section_of_file}
 use Rattle.macho_standing.proofs.Targets.{relocation_has}
 use Rattle.macho_standing.proofs.Leading.{each_passes, in_numbers}
-use Rattle.macho_valid.proofs.Ranges.{IsValidPlaced, IsNear, segment_near, section_near, follow_at}
+use Rattle.macho_valid.proofs.Ranges.{VALID_SUM, IsValidPlaced, IsNear, segment_near, section_near, follow_at}
 use Rattle.macho_valid.proofs.Near.{same_id, target_near, slot_at_near}
 
 -- the segment that keeps addresses free has no bytes in the file
@@ -125,7 +125,7 @@ linkedit_end l counts p r h one =
 initializer_section : (l : Link) (s : SectionId) → Contains (initializer_sections l) s → Contains (sections_of l) s
 unfolding initializer_sections
 initializer_section l s one =
-    (of_filter (λ (t : SectionId). is_consumed (header_at l t) && is_initializers (header_at l t)) (sections_of l) s one).0
+    (of_filter (λ (t : SectionId). not (should_exclude_of (header_at l t)) && is_initializers (header_at l t)) (sections_of l) s one).0
 
 in_range : (n k : ℕ) → k < n → Contains (range_with_len 0 n) k
 in_range n k lt = (k, omega (arith, lt, length-range_with_len 0 n), get_or-range_with_len 0 n k k lt ∙ omega arith)

@@ -1,7 +1,7 @@
 -- The entries of a section of compact unwind information, by the bytes of its object: what the rules ask of one entry alone, and
 -- where its personality leads.
-use Rattle.std.specs.Prelude.{◌≡◌, ℕ, ◌+◌, ◌-◌, ◌/◌, ◌^◌, ◌<◌, ◌≤◌, ◌⊎◌, ◌==◌, ◌&&◌, ◌||◌, not, nat_le, nat_lt, Bool, true, false, List, [], map, Option, Some, None, Contains, option_to_list}
-use Rattle.std.specs.List.{range_with_len, list_all}
+use Rattle.std.specs.Prelude.{◌≡◌, ℕ, ◌+◌, ◌-◌, ◌/◌, ◌%◌, ◌^◌, ◌<◌, ◌≤◌, ◌⊎◌, ◌==◌, ◌&&◌, ◌||◌, not, nat_le, nat_lt, Bool, true, false, List, [], map, Option, Some, None, Contains, option_to_list}
+use Rattle.std.specs.List.{range_with_len, list_all, list_any}
 use Rattle.macho_bytes.specs.Numbers.{bits}
 use Rattle.macho_records.specs.Sections.{is_zerofill}
 use Rattle.macho_records.specs.declared.header.SectionHeader.{SectionHeader}
@@ -9,10 +9,10 @@ use Rattle.macho_structs.specs.declared.relocations.RelocationInfo.{RelocationIn
 use Rattle.macho_structs.specs.declared.unwind.UnwindInfoEntry.{UnwindInfoEntry}
 use Rattle.macho_model.specs.declared.rules.UnwindRule.{UnwindRule}
 use Rattle.macho_model.specs.declared.rules.UnwindRule.TheVariants.{U1, U2, U3, U4, U5, U6, U7, U8}
-use Rattle.macho_model.specs.Links.{is_carried}
+use Rattle.macho_model.specs.Links.{Link, SectionId, is_carried}
 use Rattle.macho_model.specs.Objects.{section_at, num_sections, relocation_at}
-use Rattle.macho_model.specs.Consumed.{is_plain_pointer, unwind_entry, whole_entries, relocations_in_entry, each_relocation_in, single_relocations, start_fits, function_inside, entry_is_clear, holds_functions, START_PLACE, LSDA_PLACE}
-use Rattle.macho_model.specs.Needs.{PERSONALITY_PLACE}
+use Rattle.macho_model.specs.Consumed.{is_plain_pointer, unwind_entry, whole_entries, relocations_in_entry, holds_functions, START_PLACE, LSDA_PLACE, ADDRESS_PLACES, keeps}
+use Rattle.macho_model.specs.Needs.{relocation_in, PERSONALITY_PLACE, UNWIND_ENTRY_SIZE}
 use Rattle.macho_consumed.specs.declared.rows.SectionPlace.{SectionPlace}
 use Rattle.macho_consumed.specs.declared.rows.PersonalityUse.{PersonalityUse}
 use Rattle.macho_consumed.specs.declared.rows.UnwindEntry.{UnwindEntry}
@@ -22,6 +22,11 @@ use Rattle.macho_consumed.specs.steps.Alone.{alone, own}
 use Rattle.macho_symbols.specs.Kept.{ResolvedRows}
 use Rattle.macho_consumed.specs.steps.Checked.{LeadsSomewhere}
 use Rattle.macho_consumed.specs.Rows.{entry_row}
+
+-- a relocation is a plain pointer at one of an entry's addresses
+abbrev pub unwind_relocation_fits : Link → SectionId → ℕ → Bool
+unwind_relocation_fits l s r =
+    is_plain_pointer (relocation_in l s r) && list_any (λ place. (relocation_in l s r).r_address % UNWIND_ENTRY_SIZE == place) ADDRESS_PLACES
 
 -- the section that a relocation names
 abbrev pub named : RelocationInfo → ℕ
@@ -104,12 +109,12 @@ links_fit b k e =
 
 -- An entry keeps the rules.
 pub record EntryFits (b : List ℕ) (k e : ℕ) : Type 0 where
-  pub placed : each_relocation_in (alone b) (own k) e ≡ true
-  pub single : single_relocations (alone b) (own k) e ≡ true
-  pub start : start_fits (alone b) (own k) e ≡ true
-  pub inside : function_inside (alone b) (own k) e ≡ true
+  pub placed : keeps (alone b) (own k) e U2 ≡ true
+  pub single : keeps (alone b) (own k) e U3 ≡ true
+  pub start : keeps (alone b) (own k) e U4 ≡ true
+  pub inside : keeps (alone b) (own k) e U5 ≡ true
   pub links : links_fit b k e ≡ true
-  pub clear : entry_is_clear (alone b) (own k) e ≡ true
+  pub clear : keeps (alone b) (own k) e U8 ≡ true
 
 -- an entry's personality leads nowhere
 pub record EntryIsLost (r : ResolvedRows) (b : List ℕ) (file k e : ℕ) : Type 0 where
@@ -122,13 +127,13 @@ pub record EntryIsLost (r : ResolvedRows) (b : List ℕ) (file k e : ℕ) : Type
 -- or breaks one
 abbrev pub EntryBreaks : ResolvedRows → List ℕ → ℕ → ℕ → ℕ → UnwindRule → Type 0
 EntryBreaks r b file k e U1 = ⊥
-EntryBreaks r b file k e U2 = each_relocation_in (alone b) (own k) e ≡ false
-EntryBreaks r b file k e U3 = single_relocations (alone b) (own k) e ≡ false
-EntryBreaks r b file k e U4 = start_fits (alone b) (own k) e ≡ false
-EntryBreaks r b file k e U5 = function_inside (alone b) (own k) e ≡ false
+EntryBreaks r b file k e U2 = keeps (alone b) (own k) e U2 ≡ false
+EntryBreaks r b file k e U3 = keeps (alone b) (own k) e U3 ≡ false
+EntryBreaks r b file k e U4 = keeps (alone b) (own k) e U4 ≡ false
+EntryBreaks r b file k e U5 = keeps (alone b) (own k) e U5 ≡ false
 EntryBreaks r b file k e U6 = ⊥
 EntryBreaks r b file k e U7 = (links_fit b k e ≡ false) ⊎ EntryIsLost r b file k e
-EntryBreaks r b file k e U8 = entry_is_clear (alone b) (own k) e ≡ false
+EntryBreaks r b file k e U8 = keeps (alone b) (own k) e U8 ≡ false
 
 -- the row of an entry of a file
 abbrev pub row_in : List ℕ → ℕ → ℕ → ℕ → UnwindEntry
@@ -158,7 +163,7 @@ pub record HasPointers (b : List ℕ) (k e : ℕ) (start personality lsda : Opti
 -- or a relocation stands where it may not, or too many do
 abbrev pub PointersBreak : List ℕ → ℕ → ℕ → UnwindRule → Type 0
 PointersBreak b k e rule =
-    ((rule ≡ U2) × (each_relocation_in (alone b) (own k) e ≡ false)) ⊎ ((rule ≡ U3) × (single_relocations (alone b) (own k) e ≡ false))
+    ((rule ≡ U2) × (keeps (alone b) (own k) e U2 ≡ false)) ⊎ ((rule ≡ U3) × (keeps (alone b) (own k) e U3 ≡ false))
 
 -- What is told of a whole section.
 pub record EntriesFit (b : List ℕ) (k n : ℕ) : Type 0 where

@@ -4,7 +4,8 @@ use Rattle.std.specs.List.{list_any, position_or_len}
 use Rattle.std.specs.Str.{bytes_eq}
 use Rattle.std.specs.HashMap.{HashMap, get_by}
 use Rattle.std.specs.declared.vec.Vec.{Vec}
-use Rattle.macho_model.specs.ExportLists.{is_pattern, entries_of}
+use Rattle.macho_exports.specs.steps.Lines.{is_pattern}
+use Rattle.macho_model.specs.ExportLists.{entries_of}
 use Rattle.macho_exports.specs.Entries.{ListEntries}
 
 -- Each plain entry is found at the place where it stands first.

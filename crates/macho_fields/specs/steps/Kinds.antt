@@ -5,7 +5,8 @@ use Rattle.macho_model.specs.declared.targets.Target.{Target}
 use Rattle.macho_model.specs.Targets.{is_import, is_defined}
 use Rattle.macho_model.specs.Fields.{Field}
 use Rattle.macho_model.specs.Words.{is_adrp, is_branch, is_ldr}
-use Rattle.macho_model.specs.Rows.{is_none, takes_offset}
+use Rattle.macho_model.specs.Rows.{is_none}
+use Rattle.macho_model.specs.Supported.{takes_offset}
 use Rattle.macho_model.specs.Stands.{Kind, Pointer, Difference, Branch, Page, Offset, SlotPage, SlotOffset, SlotDistance, NoKind}
 use Rattle.macho_model.specs.Placement.{Placed}
 use Rattle.macho_arm64.specs.Relaxations.{is_relaxable}

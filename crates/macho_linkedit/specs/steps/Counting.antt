@@ -1,6 +1,6 @@
 -- The bytes of load commands as they are summed up.
 use Rattle.std.specs.Prelude.{ℕ, ◌+◌, ◌*◌, if◌then◌else◌, length, sum_by}
-use Rattle.macho_model.specs.Head.{DYLINKER, path_command_size}
+use Rattle.macho_model.specs.HeadCommands.{DYLINKER, path_command_size}
 use Rattle.macho_linkedit.specs.declared.counting.SizesAsked.{SizesAsked}
 
 abbrev pub own_asked : SizesAsked → ℕ

@@ -1,14 +1,13 @@
 -- Symbols of an object as they are looked at one by one.
-use Rattle.std.specs.Prelude.{◌≡◌, ℕ, ◌+◌, ◌-◌, ◌*◌, ◌^◌, bit_or, ◌==◌, ◌&&◌, ◌||◌, not, if◌then◌else◌, Bool, List, ◌++◌, map, filter, length, sum_by, All, Option, Some, None}
-use Rattle.std.specs.List.{range_with_len}
-use Rattle.macho_records.specs.Symbols.{is_common_of, is_hidden_of}
-use Rattle.macho_model.specs.Symbols.{is_absolute, is_global}
+use Rattle.std.specs.Prelude.{◌≡◌, ℕ, ◌+◌, ◌-◌, ◌*◌, ◌^◌, bit_or, ◌==◌, nat_eq, ◌&&◌, ◌||◌, not, if◌then◌else◌, Bool, List, codes, ◌++◌, map, filter, length, sum_by, All, Option, Some, None}
+use Rattle.std.specs.List.{range_with_len, starts_with}
+use Rattle.macho_records.specs.Symbols.{is_common_of, is_hidden_of, has_type, is_global}
 use Rattle.macho_model.specs.Objects.{symbol_at}
 use Rattle.macho_model.specs.Links.{Link}
 use Rattle.macho_model.specs.Resolution.{SymbolId, name_at}
 use Rattle.macho_bytes.specs.Numbers.{bits}
 use Rattle.macho_records.specs.declared.symbols.SymtabEntry.{SymtabEntry}
-use Rattle.macho_records.specs.declared.constants.TheConstants.{N_SECT}
+use Rattle.macho_records.specs.declared.constants.TheConstants.{N_SECT, N_ABS}
 use Rattle.macho_model.specs.SymbolEntries.{hidden_type}
 use Rattle.macho_model.specs.SymbolTable.{is_in_table}
 use Rattle.macho_parts.specs.Sizes.{text_size}
@@ -19,7 +18,11 @@ use Rattle.macho_linkedit.specs.Listing.{id_of_symbol, HasLength}
 
 abbrev pub is_defined_symbol : List ℕ → ℕ → Bool
 is_defined_symbol b k =
-    not ((symbol_at b k).n_strx == 0) && (in_carried b (symbol_at b k) || is_absolute (symbol_at b k) || is_common_of (symbol_at b k))
+    not ((symbol_at b k).n_strx == 0) && (in_carried b (symbol_at b k) || has_type N_ABS (symbol_at b k) || is_common_of (symbol_at b k))
+
+-- a label that assemblers make for themselves
+abbrev pub is_label : List ℕ → Bool
+is_label name = starts_with nat_eq name (codes "ltmp")
 
 -- the bytes of a symbol's name, where it stands in the table of a link
 abbrev pub name_length : Link → SymbolId → Option ℕ

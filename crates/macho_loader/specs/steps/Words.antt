@@ -1,13 +1,11 @@
 -- What the walks along the chains say of the words that they came to.
-use Rattle.std.specs.Prelude.{◌≡◌, ℕ, ◌<◌, ◌^◌, List, true}
-use Rattle.macho_records.specs.declared.constants.TheConstants.{LC_SEGMENT_64}
-use Rattle.macho_model.specs.Grammar.{EachCommand}
+use Rattle.std.specs.Prelude.{◌≡◌, ℕ, ◌<◌, ◌^◌, List, All, true}
+use Rattle.macho_model.specs.Images.{segments_of}
 use Rattle.macho_model.specs.LoadRules.{file_part_inside, begins_behind}
 use Rattle.macho_model.specs.Loader.{WordFits}
 use Rattle.macho_model.specs.declared.rules.LoadRule.{LoadRule}
 use Rattle.macho_model.specs.declared.rules.LoadRule.TheVariants.{L10}
 use Rattle.macho_model.specs.Lists.{EachNext}
-use Rattle.macho_model.specs.Commands.{numbered}
 use Rattle.macho_memory_walks.specs.declared.walk.Listed.TheVariants as list
 use Rattle.macho_memory_walks.specs.Readings.{IsNth, HasWord, segment_there}
 use Rattle.macho_memory_walks.specs.steps.Walks.{Leads}
@@ -16,8 +14,8 @@ use Rattle.macho_loader.specs.declared.word_rules.Chained.{Chained}
 
 -- the segments stand in order, and their file bytes in their memory: so no two of them have a word at one address
 pub record StandApart (b : List ℕ) : Type 0 where
-  pub inside : EachCommand (numbered LC_SEGMENT_64 b) (file_part_inside b)
-  pub rise : EachNext (λ c d. begins_behind b c d ≡ true) (numbered LC_SEGMENT_64 b)
+  pub inside : All (λ s. file_part_inside b s ≡ true) (segments_of b)
+  pub rise : EachNext (λ s t. begins_behind s t ≡ true) (segments_of b)
 
 -- what the rule of chain words needs
 abbrev pub ReadyFor : List ℕ → LoadRule → Type 0

@@ -7,8 +7,7 @@ use Rattle.macho_model.specs.Commands.{command_at}
 use Rattle.macho_model.specs.Images.{Table, fixups_header, import_entry}
 use Rattle.macho_model.specs.Chain.{chain_segments, IsFileWord}
 use Rattle.macho_model.specs.Needs.{POINTER_SIZE}
-use Rattle.macho_model.specs.Loader.{is_bind, ordinal_of}
-use Rattle.macho_model.specs.LoadRules.{segment_in}
+use Rattle.macho_model.specs.Loader.{segment_in, is_bind, ordinal_of}
 use Rattle.macho_memory_walks.specs.Readings.{IsNth, HasWord, table_there}
 use Rattle.macho_model.specs.Memory.{Choice, IsBound, Becomes, Covers, bind_addend}
 use Rattle.macho_memory_walks.specs.Loaded.{Gives}

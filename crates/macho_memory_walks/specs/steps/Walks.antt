@@ -3,7 +3,7 @@ use Rattle.std.specs.Prelude.{◌≡◌, ℕ, ◌+◌, ◌-◌, ◌<◌, ◌≤�
 use Rattle.macho_bytes.specs.Numbers.{le_at}
 use Rattle.macho_records.specs.declared.header.SegmentCommand.{SegmentCommand}
 use Rattle.macho_model.specs.Commands.{command_at}
-use Rattle.macho_model.specs.LoadRules.{segment_in}
+use Rattle.macho_model.specs.Loader.{segment_in}
 use Rattle.macho_model.specs.Chain.{ChainSegment, chain_segment, chain_segments, IsFileWord, next_of, STRIDE, OnPageChain}
 use Rattle.macho_model.specs.Needs.{POINTER_SIZE}
 use Rattle.macho_memory_walks.specs.Readings.{IsNth}

@@ -1,12 +1,10 @@
 -- What the plain functions that look for a broken rule of the loader ask of the commands.
-use Rattle.std.specs.Prelude.{◌≡◌, ℕ, ◌+◌, ◌<◌, ◌≤◌, Bool, true, false, List, length, Contains, All}
+use Rattle.std.specs.Prelude.{◌≡◌, ℕ, ◌+◌, ◌<◌, ◌≤◌, true, false, List, length, Contains, All}
 use Rattle.macho_model_walks.specs.declared.loader_rules.Asked.{Asked}
-use Rattle.macho_model_walks.specs.declared.loader_rules.Asked.TheVariants as asked
-use Rattle.macho_memory_walks.specs.declared.walk.Listed.{Listed}
 use Rattle.macho_memory_walks.specs.declared.walk.Listed.TheVariants as list
-use Rattle.macho_model.specs.Commands.{Command, command_at, commands_of, command_fits, numbered}
-use Rattle.macho_model.specs.Images.{segments_of, Table, table_of_command, tables_of, fixups_header, import_place, segments_named}
-use Rattle.macho_model.specs.LoadRules.{image_head_fits, needed_in_image, segment_in, protections_fit, file_part_inside, segment_is_paged, segment_ends, begins_behind, text_holds_commands, table_fits, import_fits}
+use Rattle.macho_model.specs.Commands.{command_at, commands_of, command_fits, numbered}
+use Rattle.macho_model.specs.Images.{segments_of, Table, tables_of, fixups_header, import_place, segments_named}
+use Rattle.macho_model.specs.LoadRules.{image_head_fits, needed_in_image, protections_fit, file_part_inside, segment_is_paged, segment_ends, begins_behind, text_holds_commands, table_fits, import_fits}
 use Rattle.macho_model.specs.declared.rules.LoadRule.{LoadRule}
 use Rattle.macho_model.specs.declared.rules.LoadRule.TheVariants.{L1, L2, L3, L4, L5, L6, L7, L8, L9, L10}
 use Rattle.macho_model.specs.ObjectRules.{commands_inside}
@@ -15,7 +13,7 @@ use Rattle.macho_model.specs.Segments.{TEXT}
 use Rattle.macho_records.specs.declared.header.SegmentCommand.{SegmentCommand}
 use Rattle.macho_records.specs.declared.constants.TheConstants.{LC_SEGMENT_64}
 use Rattle.macho_model.specs.Lists.{IsNumber, EachNext}
-use Rattle.macho_model.specs.Loader.{WordFits, NeighbourFails}
+use Rattle.macho_model.specs.Loader.{segment_in, WordFits, NeighbourFails}
 use Rattle.macho_model.specs.Chain.{OnPageChain, chain_segment, chain_segments}
 use Rattle.macho_memory_walks.specs.Readings.{listed, IsNth, table_there}
 use Rattle.macho_model_walks.specs.Tests.{list_of, test_of}
@@ -29,13 +27,13 @@ abbrev pub AskedFails : List ℕ → Asked → ℕ → Type 0
 AskedFails b what place = CommandFails (listed (list_of what) b) place (test_of what b)
 
 abbrev pub BeginsBefore : List ℕ → ℕ → Type 0
-BeginsBefore b place = NeighbourFails (numbered LC_SEGMENT_64 b) place (begins_behind b)
+BeginsBefore b place = NeighbourFails (numbered LC_SEGMENT_64 b) place (λ c d. begins_behind (segment_in b c) (segment_in b d))
 
 -- the segments with a number and the next one, if there are both, stand in order
 abbrev pub NeighbourPasses : List ℕ → ℕ → Type 0
 NeighbourPasses b number =
     (place next : ℕ) → IsNth list.Segments b number place → IsNth list.Segments b (number + 1) next
-    → begins_behind b (command_at b place) (command_at b next) ≡ true
+    → begins_behind (segment_in b (command_at b place)) (segment_in b (command_at b next)) ≡ true
 
 -- an import of a table fails, told at its entry
 pub record BadImport (b : List ℕ) (t : Table) (place : ℕ) : Type 0 where
@@ -58,10 +56,10 @@ EachImportFits b = (t : Table) (k : ℕ) → Contains (tables_of b) t → k < (f
 abbrev pub LoadKeeps : List ℕ → LoadRule → Type 0
 LoadKeeps b L1 = image_head_fits b ≡ true
 LoadKeeps b L2 = (commands_inside b ≡ true) × EachCommand (commands_of b) (command_fits (needed_in_image b) b)
-LoadKeeps b L3 = EachCommand (numbered LC_SEGMENT_64 b) (protections_fit b)
-LoadKeeps b L4 = EachCommand (numbered LC_SEGMENT_64 b) (file_part_inside b)
-LoadKeeps b L5 = EachCommand (numbered LC_SEGMENT_64 b) (segment_is_paged b)
-LoadKeeps b L6 = EachCommand (numbered LC_SEGMENT_64 b) (segment_ends b) × EachNext (λ c d. begins_behind b c d ≡ true) (numbered LC_SEGMENT_64 b)
+LoadKeeps b L3 = All (λ s. protections_fit s ≡ true) (segments_of b)
+LoadKeeps b L4 = All (λ s. file_part_inside b s ≡ true) (segments_of b)
+LoadKeeps b L5 = All (λ s. segment_is_paged s ≡ true) (segments_of b)
+LoadKeeps b L6 = All (λ s. segment_ends s ≡ true) (segments_of b) × EachNext (λ s t. begins_behind s t ≡ true) (segments_of b)
 LoadKeeps b L7 = (length (segments_named TEXT b) ≡ 1) × All (λ s. text_holds_commands b s ≡ true) (segments_named TEXT b)
 LoadKeeps b L8 = (length (tables_of b) ≤ 1) × All (λ t. table_fits b t ≡ true) (tables_of b)
 LoadKeeps b L9 = (t : Table) (k : ℕ) → Contains (tables_of b) t → k < (fixups_header b t).imports_count → import_fits b t k ≡ true

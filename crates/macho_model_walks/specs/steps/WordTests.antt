@@ -1,8 +1,7 @@
 -- Whether a word of a chain fits, as one test: the last rule of the loader asks that the page's segment holds the word, and
 -- that its import exists, in whatever segment it is read.
-use Rattle.std.specs.Prelude.{◌≡◌, ℕ, ◌+◌, ◌*◌, ◌-◌, ◌^◌, ◌<◌, nat_le, nat_lt, ◌&&◌, ◌||◌, not, Bool, true, List}
+use Rattle.std.specs.Prelude.{◌≡◌, ℕ, ◌+◌, ◌^◌, ◌<◌, nat_lt, ◌&&◌, ◌||◌, not, Bool, true, List}
 use Rattle.std.specs.List.{list_all}
-use Rattle.macho_bytes.specs.Numbers.{le_at}
 use Rattle.macho_records.specs.declared.header.SegmentCommand.{SegmentCommand}
 use Rattle.macho_model.specs.Lists.{IsNumber}
 use Rattle.macho_model.specs.Images.{segments_of, tables_of}
@@ -11,7 +10,7 @@ use Rattle.macho_memory_walks.specs.declared.walk.Listed.TheVariants as list
 use Rattle.macho_memory_walks.specs.Readings.{IsNth, segment_there}
 use Rattle.macho_model_walks.specs.Tests.{page_holds}
 use Rattle.macho_memory_walks.specs.steps.Walks.{Leads, chain_segment_at, word_in, stands_in}
-use Rattle.macho_model.specs.Loader.{is_bind, ordinal_of, is_writable, import_count, WordFits}
+use Rattle.macho_model.specs.Loader.{is_bind, ordinal_of, import_count, WordFits}
 
 -- the import of a word exists, where a segment has a word there and it binds one
 abbrev pub import_exists : List ℕ → ℕ → ChainSegment → Bool

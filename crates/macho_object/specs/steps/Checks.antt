@@ -1,11 +1,12 @@
 -- The rules of one section, one symbol and one relocation, together: that a record keeps them all, or breaks this one.
-use Rattle.std.specs.Prelude.{◌≡◌, ℕ, ◌<◌, Bool, true, false, List, drop, not, nat_lt, nat_le, ◌==◌, ◌&&◌, ◌||◌, if◌then◌else◌}
+use Rattle.std.specs.Prelude.{◌≡◌, ℕ, ◌<◌, Bool, true, false, List, drop, nat_lt, nat_le, ◌==◌, ◌&&◌, ◌||◌, if◌then◌else◌}
+use Rattle.macho_model.specs.steps.RecordTests.{symbol_section_exists, relocation_number_exists, data_inside, exponent_fits, value_in_section, name_ends, relocations_inside, field_inside, thread_local_in_data, zerofill_unrelocated, global_has_name, common_fits}
 use Rattle.macho_records.specs.declared.constants.TheConstants.{ARM64_RELOC_ADDEND}
 use Rattle.macho_records.specs.RelocationInfo.{RelocationInfo}
 use Rattle.macho_model.specs.Objects.{num_sections, section_at, num_symbols}
 use Rattle.macho_model.specs.declared.rules.ObjectRule.{ObjectRule}
 use Rattle.macho_model.specs.declared.rules.ObjectRule.TheVariants.{O5, O6, O7, O8, O9, O10, O11, O12, O13, O14}
-use Rattle.macho_model.specs.ObjectRules.{symbol_section_exists, relocation_number_exists, data_inside, exponent_fits, value_in_section, has_nul, name_ends, relocations_inside, field_inside, thread_local_in_data, zerofill_unrelocated, global_has_name, common_fits}
+use Rattle.macho_model.specs.ObjectRules.{has_nul}
 
 -- A section keeps the rules of sections.
 pub record SectionFits (b : List ℕ) (k : ℕ) : Type 0 where
@@ -72,7 +73,7 @@ pub record AddressFits (b : List ℕ) (k : ℕ) : Type 0 where
 -- a symbol breaks a rule on its section or its address
 abbrev pub AddressBreaks : List ℕ → ℕ → ObjectRule → Type 0
 AddressBreaks b k O5 = symbol_section_exists b k ≡ false
-AddressBreaks b k O8 = (not (symbol_section_exists b k) || value_in_section b k) ≡ false
+AddressBreaks b k O8 = value_in_section b k ≡ false
 AddressBreaks b k rule = ⊥
 
 -- An object's symbol keeps the rules of symbols.
@@ -88,7 +89,7 @@ SymbolsFit b = (k : ℕ) → k < num_symbols b → SymbolFits b k
 -- an object's symbol breaks a rule
 abbrev pub SymbolBreaks : List ℕ → ℕ → ObjectRule → Type 0
 SymbolBreaks b k O5 = symbol_section_exists b k ≡ false
-SymbolBreaks b k O8 = (not (symbol_section_exists b k) || value_in_section b k) ≡ false
+SymbolBreaks b k O8 = value_in_section b k ≡ false
 SymbolBreaks b k O9 = name_ends b k ≡ false
 SymbolBreaks b k O13 = global_has_name b k ≡ false
 SymbolBreaks b k O14 = common_fits b k ≡ false

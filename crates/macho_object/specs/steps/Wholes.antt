@@ -1,8 +1,9 @@
 -- What is known of a file whose bytes keep every rule.
 use Rattle.std.specs.Prelude.{◌≡◌, ℕ, ◌<◌, true, false}
+use Rattle.macho_model.specs.steps.RecordTests.{name_ends}
 use Rattle.macho_model.specs.Commands.{command_at}
 use Rattle.macho_model.specs.Objects.{num_symbols}
-use Rattle.macho_model.specs.ObjectRules.{name_ends, path_ends}
+use Rattle.macho_model.specs.ObjectRules.{path_ends}
 use Rattle.macho_model.specs.Grammar.{IsFile}
 use Rattle.macho_object.specs.declared.outline.Outline.{Outline}
 use Rattle.macho_object.specs.steps.Outlines.{IsOutlined}

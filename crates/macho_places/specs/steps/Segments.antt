@@ -1,7 +1,10 @@
 -- The segment that an address of the file is found in.
-use Rattle.std.specs.Prelude.{◌≡◌, ℕ, ◌<◌, false, List, get_or}
+use Rattle.std.specs.Prelude.{◌≡◌, ℕ, ◌+◌, ◌<◌, ◌&&◌, nat_le, nat_lt, Bool, false, List, get_or}
 use Rattle.macho_model.specs.declared.placed.PlacedSegment.{PlacedSegment}
-use Rattle.macho_model.specs.Addresses.{has_in_file}
+
+-- a segment has an address in its file part
+abbrev pub has_in_file : ℕ → PlacedSegment → Bool
+has_in_file a s = nat_le s.address a && nat_lt a (s.address + s.file_size)
 
 -- none of the first segments has the address in its file part
 pub record HaveNot (a : ℕ) (segments : List PlacedSegment) (n : ℕ) : Type 0 where

@@ -1,10 +1,11 @@
 -- What was found so far: the first of each kind.
 use Rattle.std.specs.Prelude.{◌≡◌, ◌<◌, Bool, true, false, List, Option, Some, None, IfSome, All, Contains}
+use Rattle.macho_records.specs.Sections.{segment_name_of}
 use Rattle.macho_model.specs.Links.{Link, SectionId, section_id, header_at, carried_of}
 use Rattle.macho_model.specs.Needs.{Use}
 use Rattle.macho_model.specs.Targets.{is_import}
 use Rattle.macho_model.specs.Rows.{is_supported, share_byte, are_pair}
-use Rattle.macho_model.specs.Segments.{segment_name, may_hold_pointers}
+use Rattle.macho_model.specs.Segments.{may_hold_pointers}
 use Rattle.macho_model.specs.Values.{FieldOf, fits_signed, is_pointer, needs_fixup}
 use Rattle.macho_model.specs.Fields.{Field}
 use Rattle.macho_needs.specs.declared.needs.Needs.{Needs}
@@ -44,7 +45,7 @@ IsBadAddend l a =
 abbrev pub IsBadPlace : Link → Place → Type 0
 IsBadPlace l p =
     (f : Field) × FieldOf l (section_id p.file p.section) p.relocation f × (needs_fixup l (section_id p.file p.section) f ≡ true)
-    × (may_hold_pointers (segment_name l (section_id p.file p.section)) ≡ false)
+    × (may_hold_pointers (segment_name_of (header_at l (section_id p.file p.section))) ≡ false)
 
 pub record AreStanding (l : Link) (f : Findings) : Type 0 where
   pub unsupported : IfSome f.unsupported (IsUnsupported l)

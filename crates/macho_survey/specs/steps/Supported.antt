@@ -4,7 +4,8 @@ use Rattle.macho_records.specs.declared.constants.TheConstants.{ARM64_RELOC_ADDE
 use Rattle.macho_structs.specs.declared.relocations.RelocationInfo.{RelocationInfo}
 use Rattle.macho_model.specs.declared.targets.Target.{Target}
 use Rattle.macho_model.specs.Targets.{is_import, is_defined}
-use Rattle.macho_model.specs.Rows.{has_form, is_none, defined_or_import, takes_offset, load_fits}
+use Rattle.macho_model.specs.Rows.{has_form, is_none, defined_or_import}
+use Rattle.macho_model.specs.Supported.{takes_offset, load_fits}
 use Rattle.macho_model.specs.Words.{is_adrp, is_branch}
 use Rattle.macho_survey.specs.declared.pairs.Seen.{Seen}
 use Rattle.macho_survey.specs.steps.Windows.{subtracted, with_addend, begins}

@@ -1,9 +1,10 @@
 -- What holds once all rows were taken in: the table knows all events, the commons are those that were chosen, and each
 -- entry has the number of its import, where that is noted.
 use Rattle.std.specs.Prelude.{◌≡◌, ℕ, ◌+◌, ◌^◌, ◌<◌, ◌≤◌, ◌≢◌, ◌==◌, nat_lt, ◌&&◌, ◌||◌, Bool, AllPairs, List, [], length, map, get_or, All, Contains, ◌++◌, Option, Some, true, false}
+use Rattle.std.specs.List.{position_or_len}
+use Rattle.std.specs.Str.{bytes_eq}
 use Rattle.macho_bytes.specs.Numbers.{rounded_up}
 use Rattle.macho_model.specs.Resolution.{SymbolId, Library}
-use Rattle.macho_model.specs.Needs.{import_number}
 use Rattle.macho_symbols.specs.declared.solved.Common.{Common}
 use Rattle.macho_symbols.specs.declared.solved.Import.{Import}
 use Rattle.macho_symbols.specs.declared.solved.Solved.{Solved}
@@ -40,8 +41,8 @@ common_told e = record { file = e.file; symbol = e.at; size = rounded_up (2 ^ e.
 
 -- a name has its import's number where that is noted, and else none
 pub record IsNumbered (noted : List (List ℕ)) (name : List ℕ) (number : ℕ) : Type 0 where
-  pub fresh : number ≡ UNNUMBERED → import_number noted name ≡ length noted
-  pub old : number ≢ UNNUMBERED → number ≡ import_number noted name
+  pub fresh : number ≡ UNNUMBERED → position_or_len (bytes_eq name) noted ≡ length noted
+  pub old : number ≢ UNNUMBERED → number ≡ position_or_len (bytes_eq name) noted
   pub there : number ≢ UNNUMBERED → number < length noted
 
 -- what is told of an import: its library's file and install name

@@ -7,11 +7,11 @@ use Rattle.std.specs.Str.{bytes_eq}
 use Rattle.macho_bytes.specs.Texts.{name_of}
 use Rattle.macho_records.specs.declared.header.SectionHeader.{SectionHeader}
 use Rattle.macho_records.specs.Sections.{type_of}
-use Rattle.macho_records.specs.Symbols.{is_common_of}
+use Rattle.macho_records.specs.Symbols.{is_common_of, has_type}
 use Rattle.macho_records.specs.declared.symbols.SymtabEntry.{SymtabEntry}
+use Rattle.macho_records.specs.declared.constants.TheConstants.{N_ABS}
 use Rattle.macho_model.specs.declared.placed.Range64.{Range64}
 use Rattle.macho_model.specs.declared.placed.Slot.{Slot}
-use Rattle.macho_model.specs.Symbols.{is_absolute}
 use Rattle.macho_model.specs.Objects.{section_at}
 use Rattle.macho_model.specs.Segments.{TEXT, DATA_CONST, OutputKey, same_key, key_of, common_key}
 use Rattle.macho_model.specs.Placement.{Placed}
@@ -88,5 +88,5 @@ pub record AreNumbers (p : Placed) (objects : List LinkedObject) (n : SectionNum
 abbrev pub section_told : Placed → FileBytes → SymtabEntry → ℕ
 section_told p f e =
     if is_common_of e then number_told p common_key
-    else if is_absolute e then 0
+    else if has_type N_ABS e then 0
     else number_with p (header_with f (Some (e.n_sect - 1)))

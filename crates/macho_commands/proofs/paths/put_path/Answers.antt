@@ -1,7 +1,7 @@
 use Rattle.std.proofs.Common.{arith, ap, ◌≡◌, ◌∙◌, ◌+◌, ◌-◌, ◌++◌, ℕ, length, replicate}
 use Rattle.macho_bytes.specs.Texts.{put}
 use Rattle.macho_bytes.proofs.Fills.{put_mid-filled}
-use Rattle.macho_model.specs.Head.{path_command_size}
+use Rattle.macho_model.specs.HeadCommands.{path_command_size}
 use Rattle.macho_commands.proofs.paths.put_path.Goals as goal
 
 pub returns : goal.returns

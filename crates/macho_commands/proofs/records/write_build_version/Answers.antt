@@ -7,7 +7,7 @@ use Rattle.macho_structs.specs.Layouts.{build_version_command, build_tool_versio
 use Rattle.macho_structs.specs.declared.commands.BuildVersionCommand.{BuildVersionCommand}
 use Rattle.macho_structs.specs.declared.commands.BuildToolVersion.{BuildToolVersion}
 use Rattle.macho_records.specs.declared.constants.TheConstants.{LC_BUILD_VERSION}
-use Rattle.macho_model.specs.Head.{PLATFORM_MACOS, THIS_TOOL, THIS_VERSION}
+use Rattle.macho_model.specs.HeadCommands.{PLATFORM_MACOS, THIS_TOOL, THIS_VERSION}
 use Rattle.macho_commands.specs.Texts.{text_said}
 use Rattle.macho_commands.proofs.records.write_build_version.Goals as goal
 

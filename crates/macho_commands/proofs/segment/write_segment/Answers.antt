@@ -8,7 +8,6 @@ use Rattle.macho_bytes.specs.Layouts.{spelling, ReadsBack}
 use Rattle.macho_bytes.proofs.Puts.{put-put}
 use Rattle.macho_records.specs.Layouts.{section_header, segment_command}
 use Rattle.macho_records.specs.declared.header.SegmentCommand.{SegmentCommand}
-use Rattle.macho_records.specs.Segments.{bytes_of}
 use Rattle.macho_commands.proofs.Readable.{no_header, segment_readable}
 use Rattle.macho_commands.specs.Commands.{segment_record}
 use Rattle.macho_commands.specs.Texts.{text_said}
@@ -33,9 +32,9 @@ unfolding text_said
 returns-clause-long c =
     let told : List ℕ → SegmentCommand =
     λ name. record (segment_record c.args.segment.now c.args.protection c.args.flags (length c.args.headers.now)) { segname = name } in
-    let back : ReadsBack segment_command (told (bytes_of c.args.segment.now.name)) =
+    let back : ReadsBack segment_command (told c.args.segment.now.name.0) =
     subst (λ (name : List ℕ). ReadsBack segment_command (told name)) c.into_bytes.ensures c.write.ensures.back in
-    length-append (spelling segment_command (told (bytes_of c.args.segment.now.name)))
+    length-append (spelling segment_command (told c.args.segment.now.name.0))
     (flat_map (spelling section_header) c.args.headers.now)
     ∙ ap (λ (n : ℕ). n + length (flat_map (spelling section_header) c.args.headers.now)) back.long
     ∙ ap (λ (n : ℕ). 72 + n) c.write_headers.ensures.long
@@ -44,6 +43,6 @@ pub returns-clause-readable : goal.returns-clause-readable
 returns-clause-readable c =
     let told : List ℕ → SegmentCommand =
     λ name. record (segment_record c.args.segment.now c.args.protection c.args.flags (length c.args.headers.now)) { segname = name } in
-    segment_readable (told (bytes_of c.args.segment.now.name)) c.args.headers.now no_header refl refl
+    segment_readable (told c.args.segment.now.name.0) c.args.headers.now no_header refl refl
     (subst (λ (name : List ℕ). ReadsBack segment_command (told name)) c.into_bytes.ensures c.write.ensures.back)
     c.write_headers.ensures.back

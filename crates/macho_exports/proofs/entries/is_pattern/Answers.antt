@@ -1,6 +1,7 @@
 use Rattle.std.proofs.Common.{◌≡◌, ℕ, sym, ◌∙◌, Option, Some, None, is_some, List}
 use Rattle.memchr.specs.Find.{IsFirstByte, is_byte}
-use Rattle.macho_model.specs.ExportLists.{STAR, is_pattern}
+use Rattle.macho_exports.specs.steps.Lines.{is_pattern}
+use Rattle.macho_model.specs.ExportLists.{STAR}
 use Rattle.macho_exports.proofs.Trims.{some_byte, no_byte}
 use Rattle.macho_exports.proofs.entries.is_pattern.Goals as goal
 

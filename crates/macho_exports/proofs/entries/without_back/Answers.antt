@@ -1,5 +1,5 @@
 use Rattle.std.proofs.Common.{◌≡◌, ◌-◌, length, take, sym, ap, ◌∙◌, arith, get_or}
-use Rattle.macho_model.specs.ExportLists.{is_blank}
+use Rattle.macho_exports.specs.steps.Lines.{is_blank}
 use Rattle.macho_exports.proofs.Trims.{back_is}
 use Rattle.macho_exports.proofs.entries.without_back.Goals as goal
 

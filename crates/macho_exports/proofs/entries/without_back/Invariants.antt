@@ -1,5 +1,5 @@
 use Rattle.std.proofs.Common.{◌≡◌, ℕ, ◌-◌, ◌<◌, true, get_or, length}
-use Rattle.macho_model.specs.ExportLists.{is_blank}
+use Rattle.macho_exports.specs.steps.Lines.{is_blank}
 use Rattle.macho_exports.proofs.entries.without_back.Given as goal
 
 abbrev pub invariant-loop-skipped : goal.invariant-loop-skipped

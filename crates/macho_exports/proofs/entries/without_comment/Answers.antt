@@ -1,5 +1,5 @@
 use Rattle.std.proofs.Common.{sym}
-use Rattle.macho_model.specs.ExportLists.{HASH}
+use Rattle.macho_exports.specs.steps.Lines.{HASH}
 use Rattle.macho_exports.proofs.Trims.{before_is, before_all}
 use Rattle.macho_exports.proofs.entries.without_comment.Goals as goal
 

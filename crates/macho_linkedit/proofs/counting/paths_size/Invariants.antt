@@ -1,6 +1,6 @@
 use Rattle.std.proofs.Common.{◌≡◌, ◌*◌, ◌^◌, ◌≤◌, take}
 use Rattle.std.specs.Prelude.{sum_by}
-use Rattle.macho_model.specs.Head.{path_command_size}
+use Rattle.macho_model.specs.HeadCommands.{path_command_size}
 use Rattle.macho_linkedit.proofs.counting.paths_size.Given as goal
 
 -- the sizes of the first paths, each of which is small

@@ -1,13 +1,15 @@
 -- What the code finds of the symbol is what the link's definition asks, test by test.
-use Rattle.std.proofs.Common.{◌≡◌, ℕ, false, true, not, Some, List, length, sym, ap, subst, ◌∙◌, arith}
-use Rattle.macho_records.specs.Symbols.{is_default_strippable_of}
+use Rattle.std.proofs.Common.{◌≡◌, ℕ, ◌&&◌, false, true, not, Some, List, length, sym, ap, subst, ◌∙◌, arith}
 use Rattle.macho_records.specs.declared.symbols.SymtabEntry.{SymtabEntry}
-use Rattle.macho_model.specs.Symbols.{is_global}
+use Rattle.macho_records.specs.Symbols.{is_global}
+use Rattle.macho_records.specs.Flags.{has_any}
+use Rattle.macho_records.specs.declared.constants.TheConstants.{N_EXT}
 use Rattle.macho_model.specs.Objects.{strings_of, symbol_at, symbol_name}
 use Rattle.macho_symbols.specs.Kept.{symbol_id}
 use Rattle.macho_names.proofs.Entries.{some_if}
 use Rattle.macho_linkedit.specs.steps.Names.{AreNames}
-use Rattle.macho_linkedit.proofs.Listed.{global_is, local_is, name_small, found_name, own_names}
+use Rattle.macho_linkedit.specs.steps.Listing.{is_label}
+use Rattle.macho_linkedit.proofs.Listed.{global_is, local_is, label_is, name_small, found_name, own_names}
 use Rattle.macho_linkedit.proofs.listing.listed_name.Goals as goal
 
 pub name-requires : goal.name-requires
@@ -50,12 +52,13 @@ returns-then-is_default_strippable c = record {
       let defined = sym c.is_defined_symbol.ensures ∙ c.if-not-is_defined_symbol.false in
       let name = found_name c.args.names.now b c.args.index c.in-Some.symbol c.in_ok-name.name.now c.requires.names entry defined
       c.in_ok-name.ensures.found in
-      let label : is_default_strippable_of (symbol_at b c.args.index) (symbol_name b c.args.index) ≡ true
-      = ap (λ (e : SymtabEntry). is_default_strippable_of e (symbol_name b c.args.index)) (sym entry)
-      ∙ ap (is_default_strippable_of c.in-Some.symbol) (sym name)
+      let local = ap is_global (sym entry) ∙ sym c.is_global.ensures ∙ c.if-is_global.false in
+      let label : is_label (symbol_name b c.args.index) ≡ true
+      = sym (label_is b c.args.index (symbol_name b c.args.index) defined local)
+      ∙ ap (λ (e : SymtabEntry). not (has_any N_EXT e.n_type) && is_label (symbol_name b c.args.index)) (sym entry)
+      ∙ ap (λ (n : List ℕ). not (has_any N_EXT c.in-Some.symbol.n_type) && is_label n) (sym name)
       ∙ sym c.is_default_strippable.ensures ∙ c.if-is_default_strippable.true in
-      sym (local_is l c.args.object.now.number c.args.index b false at defined
-      (ap is_global (sym entry) ∙ sym c.is_global.ensures ∙ c.if-is_global.false) (sym (ap not label)));
+      sym (local_is l c.args.object.now.number c.args.index b false at defined local (sym (ap not label)));
   kept = subst (λ (xs : List ℕ). AreNames xs c.name.new.self) c.requires.names.strings_are c.in_ok-name.ensures.kept;
 }
 
@@ -75,12 +78,13 @@ returns c = record {
       let defined = sym c.is_defined_symbol.ensures ∙ c.if-not-is_defined_symbol.false in
       let name = found_name c.args.names.now b c.args.index c.in-Some.symbol c.in_ok-name.name.now c.requires.names entry defined
       c.in_ok-name.ensures.found in
-      let label : is_default_strippable_of (symbol_at b c.args.index) (symbol_name b c.args.index) ≡ false
-      = ap (λ (e : SymtabEntry). is_default_strippable_of e (symbol_name b c.args.index)) (sym entry)
-      ∙ ap (is_default_strippable_of c.in-Some.symbol) (sym name)
+      let local = ap is_global (sym entry) ∙ sym c.is_global.ensures ∙ c.if-is_global.false in
+      let label : is_label (symbol_name b c.args.index) ≡ false
+      = sym (label_is b c.args.index (symbol_name b c.args.index) defined local)
+      ∙ ap (λ (e : SymtabEntry). not (has_any N_EXT e.n_type) && is_label (symbol_name b c.args.index)) (sym entry)
+      ∙ ap (λ (n : List ℕ). not (has_any N_EXT c.in-Some.symbol.n_type) && is_label n) (sym name)
       ∙ sym c.is_default_strippable.ensures ∙ c.if-is_default_strippable.false in
       ap (λ (n : List ℕ). Some (length n)) name
-      ∙ sym (local_is l c.args.object.now.number c.args.index b true at defined
-      (ap is_global (sym entry) ∙ sym c.is_global.ensures ∙ c.if-is_global.false) (sym (ap not label)));
+      ∙ sym (local_is l c.args.object.now.number c.args.index b true at defined local (sym (ap not label)));
   kept = subst (λ (xs : List ℕ). AreNames xs c.name.new.self) c.requires.names.strings_are c.in_ok-name.ensures.kept;
 }

@@ -1,6 +1,8 @@
 -- What the walks say of the commands of a list is what the rules say.
 use Rattle.std.proofs.Common.{refl, sym, subst, ◌∙◌, inl, inr}
+use Rattle.macho_model.specs.LoadRules.{protections_fit, file_part_inside, segment_is_paged, segment_ends, begins_behind}
 use Rattle.macho_model.specs.Loader.{ImageBreaks}
+use Rattle.macho_model.proofs.SegmentTests.{each_segment, next_segments}
 use Rattle.macho_memory_walks.specs.Readings.{listed}
 use Rattle.macho_model_walks.specs.steps.Asked.{LoadKeeps}
 use Rattle.macho_model_walks.proofs.BrokenRules.{whole_kept, whole_broken, text_kept, text_broken, tables_kept}
@@ -26,7 +28,7 @@ pub returns-in-L3-clause-only : goal.returns-in-L3-clause-only
 unfolding listed
 returns-in-L3-clause-only c is =
     subst (λ r. LoadKeeps c.args.bytes.now r) (sym c.in-L3.is)
-    (c.first_failing-in-L3.ensures.only is)
+    (each_segment c.args.bytes.now protections_fit (c.first_failing-in-L3.ensures.only is))
 
 pub returns-in-L4-clause-found : goal.returns-in-L4-clause-found
 unfolding listed
@@ -38,7 +40,7 @@ pub returns-in-L4-clause-only : goal.returns-in-L4-clause-only
 unfolding listed
 returns-in-L4-clause-only c is =
     subst (λ r. LoadKeeps c.args.bytes.now r) (sym c.in-L4.is)
-    (c.first_failing-in-L4.ensures.only is)
+    (each_segment c.args.bytes.now (file_part_inside c.args.bytes.now) (c.first_failing-in-L4.ensures.only is))
 
 pub returns-in-L5-clause-found : goal.returns-in-L5-clause-found
 unfolding listed
@@ -50,7 +52,7 @@ pub returns-in-L5-clause-only : goal.returns-in-L5-clause-only
 unfolding listed
 returns-in-L5-clause-only c is =
     subst (λ r. LoadKeeps c.args.bytes.now r) (sym c.in-L5.is)
-    (c.first_failing-in-L5.ensures.only is)
+    (each_segment c.args.bytes.now segment_is_paged (c.first_failing-in-L5.ensures.only is))
 
 pub returns-in-Some-clause-found : goal.returns-in-Some-clause-found
 unfolding listed
@@ -61,8 +63,10 @@ returns-in-Some-clause-found c place is =
 pub returns-in-None-clause-only : goal.returns-in-None-clause-only
 unfolding listed
 returns-in-None-clause-only c is =
-    subst (λ r. LoadKeeps c.args.bytes.now r) (sym c.in-L6.is)
-    (c.in-None.ensures.only refl, c.first_overlapping.ensures.only is)
+    subst (λ r. LoadKeeps c.args.bytes.now r) (sym c.in-L6.is) (
+      each_segment c.args.bytes.now segment_ends (c.in-None.ensures.only refl),
+      next_segments c.args.bytes.now begins_behind (c.first_overlapping.ensures.only is),
+    )
 
 pub returns-in-None-other_text-clause-found : goal.returns-in-None-other_text-clause-found
 returns-in-None-other_text-clause-found c place is =

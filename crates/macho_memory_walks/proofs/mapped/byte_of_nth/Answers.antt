@@ -2,7 +2,7 @@
 use Rattle.std.proofs.Common.{refl, subst}
 use Rattle.macho_memory_walks.specs.declared.walk.Listed.TheVariants as list
 use Rattle.macho_model.specs.Commands.{command_at}
-use Rattle.macho_model.specs.LoadRules.{segment_in}
+use Rattle.macho_model.specs.Loader.{segment_in}
 use Rattle.macho_memory_walks.specs.steps.Walks.{SegmentHas}
 use Rattle.macho_memory_walks.proofs.NumberedWalk.{nth_one}
 use Rattle.macho_memory_walks.proofs.LoadedMemory.{byte_found}

@@ -1,8 +1,10 @@
 -- The commands that were asked are those of segments.
 use Rattle.std.proofs.Common.{refl}
+use Rattle.macho_model.specs.LoadRules.{file_part_inside}
 use Rattle.macho_memory_walks.specs.Readings.{listed}
+use Rattle.macho_model.proofs.SegmentTests.{each_segment}
 use Rattle.macho_model_walks.proofs.accept.check_file_bytes.Goals as goal
 
 pub returns-in-None-clause-ok : goal.returns-in-None-clause-ok
 unfolding listed
-returns-in-None-clause-ok c = c.in-None.ensures.only refl
+returns-in-None-clause-ok c = each_segment c.args.bytes.now (file_part_inside c.args.bytes.now) (c.in-None.ensures.only refl)

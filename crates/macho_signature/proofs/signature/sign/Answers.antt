@@ -3,10 +3,9 @@ use Rattle.macho_bytes.specs.Texts.{put}
 use Rattle.macho_bytes.specs.Layouts.{spelling, ReadsBack}
 use Rattle.macho_structs.specs.Layouts.{code_directory}
 use Rattle.macho_structs.specs.declared.signature.CodeDirectory.{CodeDirectory}
-use Rattle.macho_model.specs.Signature.{directory_for}
 use Rattle.macho_signature.proofs.Texts.{signature_put, length-signature}
 use Rattle.macho_signature.specs.Pages.{digests_of}
-use Rattle.macho_signature.specs.Sizes.{signed_by}
+use Rattle.macho_signature.specs.Sizes.{signed_by, directory_for}
 use Rattle.macho_signature.proofs.signature.sign.Goals as goal
 
 pub returns-clause-done : goal.returns-clause-done

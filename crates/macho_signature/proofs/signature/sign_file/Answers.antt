@@ -2,8 +2,8 @@ use Rattle.std.proofs.Common.{arith, ap, subst, ◌≡◌, ◌++◌, ◌∙◌, 
 use Rattle.macho_bytes.specs.Texts.{put}
 use Rattle.macho_bytes.specs.Layouts.{spelling}
 use Rattle.macho_structs.specs.Layouts.{code_directory}
-use Rattle.macho_model.specs.Signature.{directory_for, signature_text}
-use Rattle.macho_signature.specs.Sizes.{signed_by}
+use Rattle.macho_model.specs.Signature.{signature_text}
+use Rattle.macho_signature.specs.Sizes.{signed_by, directory_for}
 use Rattle.macho_signature.proofs.Texts.{length-signature}
 use Rattle.macho_signature.proofs.Files.{file_signed, signed_stands}
 use Rattle.macho_signature.proofs.signature.sign_file.Goals as goal

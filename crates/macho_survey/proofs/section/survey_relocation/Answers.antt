@@ -2,12 +2,14 @@
 -- with its neighbours, and its addend is that of the model's field.
 use Rattle.std.proofs.Common.{◌≡◌, [], ◌∷◌, ◌++◌, refl, sym, ap, ◌∙◌, subst}
 use Rattle.std.proofs.lemmas.Result.{err_from_is_err_and}
+use Rattle.macho_records.specs.Sections.{segment_name_of}
+use Rattle.macho_model.specs.Links.{header_at}
 use Rattle.macho_model.specs.Objects.{section_at, relocation_at}
 use Rattle.macho_model.specs.Grammar.{IsFile, IsObject}
 use Rattle.macho_model.specs.Needs.{ByRelocation}
 use Rattle.macho_survey.specs.declared.pairs.Seen.{Seen}
 use Rattle.macho_bytes.specs.Texts.{name_of}
-use Rattle.macho_model.specs.Segments.{segment_name, may_hold_pointers}
+use Rattle.macho_model.specs.Segments.{may_hold_pointers}
 use Rattle.macho_survey.specs.declared.findings.Place.{Place}
 use Rattle.macho_survey.specs.declared.findings.Findings.{Findings}
 use Rattle.macho_survey.specs.steps.Found.{IsSurveyed}
@@ -68,7 +70,7 @@ returns-clause-surveyed c l ss us object carried next before =
     let judged_here = is_judged l s c.args.index c.args.object.now c.args.bytes.now c.args.seen object c.requires.section.bytes_are
     c.requires.seen c.requires.bits whole c.requires.section.there carried
     c.requires.index c.word_at-word.result c.word_at-word.ensures in
-    let held : c.args.at.holds_pointers ≡ may_hold_pointers (segment_name l s)
+    let held : c.args.at.holds_pointers ≡ may_hold_pointers (segment_name_of (header_at l s))
     = c.requires.section.holds ∙ ap (λ b. may_hold_pointers (name_of (section_at b c.args.at.section).segname)) (sym object) in
     let more = judged_more l ss us c.args.needs.now c.use_relocation.new.self c.args.findings.now s c.args.index c.word_at-word.result
     c.in_ok-target.target c.args.at.holds_pointers judged_here

@@ -1,6 +1,6 @@
 -- The row is made of the symbol's entry, its name, its section and its address, all of which are the link's.
 use Rattle.std.proofs.Common.{◌≡◌, ◌<◌, List, ℕ, sym, ap, subst, ◌∙◌}
-use Rattle.macho_model.specs.Symbols.{is_global}
+use Rattle.macho_records.specs.Symbols.{is_global}
 use Rattle.macho_model.specs.Objects.{num_symbols, symbol_at}
 use Rattle.macho_model.specs.Exports.{is_listed}
 use Rattle.macho_symbols.specs.Kept.{symbol_id}
