@@ -28,7 +28,7 @@ SOURCES, SOURCES_END = "<!-- sources -->\n", "<!-- end of the sources -->\n"
 
 # The most equations, fields and cases under `run`. The goal for all lines, with comments and types, isn't reached, so it is told and
 # not asked.
-MOST_LINES = 3455
+MOST_LINES = 3067
 GOAL = 3500
 
 # The pages whose tables say which clause carries a sentence.

@@ -39,7 +39,7 @@ def faults():
 def texts():
     """The words of the lines that a refusal or a fault prints, piece by piece, and what may be too many."""
     lines = read("crates", "macho_report", "specs", "Lines.antt")
-    told = lines[lines.index("abbrev pub limit_name"):lines.index("abbrev pub fault_line")]
+    told = lines[lines.index("abbrev pub limit_name"):lines.index("abbrev pub line_of")]
     return [text for text in (text.strip(": ") for text in re.findall(r'codes "([^"]*)"', told)) if len(text) > 3]
 
 
