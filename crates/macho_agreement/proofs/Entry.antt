@@ -17,7 +17,8 @@ use Rattle.macho_model.specs.declared.targets.Target.{Target}
 use Rattle.macho_model.specs.declared.targets.Target.TheVariants as target
 use Rattle.macho_model.specs.Links.{Link}
 use Rattle.macho_model.specs.Segments.{TEXT, segment_rank, list_if, base_of_link}
-use Rattle.macho_model.specs.Placement.{Placed, IsPlaced, IsInOrder, is_segment_named, Follows}
+use Rattle.macho_model.specs.Placement.{Placed, IsPlaced, is_segment_named, Follows}
+use Rattle.macho_model.specs.Spans.{IsInOrder}
 use Rattle.macho_model.specs.Images.{segments_of, is_named, base_of, entries_of_file}
 use Rattle.macho_model.specs.Needs.{imports_of}
 use Rattle.macho_model.specs.Targets.{target_of_name, is_defined}
@@ -25,7 +26,7 @@ use Rattle.macho_model.specs.Consumed.{is_section_target}
 use Rattle.macho_model.specs.Memory.{Choice}
 use Rattle.macho_model.specs.Stands.{IsAt}
 use Rattle.macho_model.specs.Faults.{entry_is_defined}
-use Rattle.macho_model.specs.Agreement.{SegmentPlace, place_by_command, place_told, SegmentsAgree, EntryAgrees}
+use Rattle.macho_model.specs.Agreement.{SegmentsAgree, EntryAgrees}
 use Rattle.macho_model.specs.Addresses.{address_of}
 use Rattle.macho_model.specs.Lists.{of_first, EachNext}
 use Rattle.macho_targets.specs.Laws.{ListsAll, IsOfLink}
@@ -35,6 +36,7 @@ use Rattle.macho_targets.proofs.Places.{places_are_had}
 use Rattle.macho_targets.proofs.Above.{targets_above}
 use Rattle.macho_targets.proofs.Once.{one_element}
 use Rattle.macho_agreement.proofs.Headers.{ranks_rise}
+use Rattle.macho_model.specs.steps.Agreement.{SegmentPlace, place_by_command, place_told}
 
 -- the first segment of a name is told alike by the file and by the placement
 abbrev start_of_first : List PlacedSegment → ℕ
@@ -52,14 +54,14 @@ first_alike (c ∷ cs) (s ∷ segments) e = by (first_alike cs segments (ap (dro
     one = ap (λ (ps : List SegmentPlace). get_or ps 0 (place_told s)) e
 
     test : is_named TEXT c ≡ is_segment_named TEXT s
-    test = ap (λ (q : SegmentPlace). bytes_eq q.name TEXT) one
+    test = ap (λ (q : SegmentPlace). bytes_eq q.0 TEXT) one
 
     by : of_first 0 (λ (s : SegmentCommand). s.vmaddr) (filter (is_named TEXT) cs)
         ≡ start_of_first (filter (is_segment_named TEXT) segments) → (x : Bool)
         → is_segment_named TEXT s ≡ x
         → of_first 0 (λ (s : SegmentCommand). s.vmaddr) (filter (is_named TEXT) (c ∷ cs))
         ≡ start_of_first (filter (is_segment_named TEXT) (s ∷ segments))
-    by rest true is = rw (test, is) (ap (λ (q : SegmentPlace). q.address) one)
+    by rest true is = rw (test, is) (ap (λ (q : SegmentPlace). q.1) one)
     by rest false is = rw (test, is) rest
 
 -- two segments of one name are one

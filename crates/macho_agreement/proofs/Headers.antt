@@ -16,10 +16,9 @@ use Rattle.macho_model.specs.declared.placed.PlacedSegment.{PlacedSegment}
 use Rattle.macho_model.specs.Links.{Link}
 use Rattle.macho_model.specs.Segments.{TEXT, DATA, DATA_CONST, segment_rank, segment_names_of, list_if, OutputKey, output_keys_of}
 use Rattle.macho_model.specs.Placement.{Placed, Follows}
-use Rattle.macho_model.specs.OutputSections.{OutputSection, Merged, InitOffsets, UnwindInfo, Stubs, Slots, merged_in, sections_of_text}
-use Rattle.macho_model.specs.OutputSections.{sections_of_data, sections_of_other, output_sections_in, output_sections_of}
-use Rattle.macho_model.specs.OutputSections.{output_sections_for, output_header, key_of_output}
-use Rattle.macho_model.specs.Order.{StandInOrder}
+use Rattle.macho_model.specs.steps.Outputs.{OutputSection, Merged, InitOffsets, UnwindInfo, Stubs, Slots, merged_in, sections_of_text}
+use Rattle.macho_model.specs.steps.Outputs.{sections_of_data, sections_of_other, output_sections_in, output_sections_of}
+use Rattle.macho_model.specs.steps.Outputs.{output_sections_for, output_header, key_of_output}
 use Rattle.macho_model.specs.Head.{headers_in}
 use Rattle.macho_model.specs.Lists.{EachNext}
 use Rattle.macho_lists.proofs.Orders.{EachLater, each_later}
@@ -145,14 +144,14 @@ header_class l counts p n whole =
     ∙ ap name_of (output_class l counts n k d lt) ∙ whole)
 
 -- THE headers of all segments' names are the output sections
-pub headers-are : (l : Link) (counts : Counts) (p : Placed) → StandInOrder l counts p → EachNext (Follows l) p.segments
+pub headers-are : (l : Link) (counts : Counts) (p : Placed) → map (λ s. text_of s.name) p.segments ≡ segment_names_of l → EachNext (Follows l) p.segments
     → p.output_sections ≡ output_sections_for l counts p → flat_map (headers_in p) p.segments ≡ p.output_sections
 unfolding output_sections_for output_sections_of
-headers-are l counts p order follow are =
+headers-are l counts p texts follow are =
     let names : List (List ℕ) = map name_told p.segments in
     let all : p.output_sections ≡ flat_map (headers_for l counts p) names =
     are ∙ map-flat_map (output_header l p) (output_sections_in l counts) (segment_names_of l)
-    ∙ ap (flat_map (headers_for l counts p)) (sym order.segments) in
+    ∙ ap (flat_map (headers_for l counts p)) (sym texts) in
     let whole : All (IsOfClass segment_of_header (headers_for l counts p)) names =
     All-map (IsOfClass segment_of_header (headers_for l counts p)) name_told p.segments
     (λ k d lt. header_class l counts p (name_told (get_or p.segments k d)) (name_of-name (get_or p.segments k d).name.0)) in

@@ -20,12 +20,15 @@ use Rattle.macho_model.specs.declared.placed.PlacedSegment.{PlacedSegment}
 use Rattle.macho_model.specs.Links.{Link, greatest}
 use Rattle.macho_model.specs.Segments.{PAGEZERO, TEXT, LINKEDIT, SEGMENT_PAGE, segment_rank, segment_names_of}
 use Rattle.macho_model.specs.Placement.{Placed, is_segment_named, head_size, Follows}
-use Rattle.macho_model.specs.OutputSections.{end_of_piece, extent_of}
-use Rattle.macho_model.specs.Order.{least_file_size, row_of, filled_in, used_by, front_of}
+use Rattle.macho_model.specs.Placement.{end_of_piece}
+use Rattle.macho_model.specs.steps.Outputs.{extent_of}
+use Rattle.macho_model.specs.Order.{used_by}
+use Rattle.macho_model.specs.steps.Least.{least_file_size, row_of, filled_in, front_of}
 use Rattle.macho_model.proofs.Least.{LiesInFile, tables_lie}
 use Rattle.macho_model.specs.Lists.{EachNext}
 use Rattle.macho_promise.specs.Promise.{IsLaidOut}
 use Rattle.macho_targets.proofs.Above.{next_follows, rises, positive, text_rank}
+use Rattle.macho_model.proofs.Outputs.{least_of}
 
 -- a file part behind another one begins where that one ends, or later
 pub file_behind : (l : Link) (segments : List PlacedSegment) (d : PlacedSegment) → EachNext (Follows l) segments → (i n j : ℕ) → j ≡ i + n + 1
@@ -60,7 +63,7 @@ last_segment : (l : Link) (counts : Counts) (p : Placed) (d : PlacedSegment) →
 last_segment l counts p d laid =
     let f : PlacedSegment → List ℕ = λ s. text_of s.name in
     let front : List (List ℕ) = (last_name l).0 in
-    let are : map f p.segments ≡ front ++ LINKEDIT ∷ [] = laid.order.segments ∙ (last_name l).1 in
+    let are : map f p.segments ≡ front ++ LINKEDIT ∷ [] = laid.segments ∙ (last_name l).1 in
     let long : length p.segments ≡ length front + 1 = sym (length-map p.segments f) ∙ ap length are ∙ length-append front (LINKEDIT ∷ []) in
     let at : text_of (get_or p.segments (length front) d).name ≡ LINKEDIT =
     sym (get_or-map f p.segments (length front) d (f d) (omega (arith, long)))
@@ -96,10 +99,10 @@ file_parts_end l counts p follow laid k d lt = by (nat_lt k last.number) refl
     tables = get_or p.segments last.number d
 
     sized : tables.file_size ≡ p.linkedit.signature.end - tables.file_offset
-    sized = last_size l counts p tables (laid.least.file_sizes last.number d there) last.named
+    sized = last_size l counts p tables ((least_of laid.least).file_sizes last.number d there) last.named
 
     signature : LiesInFile p.segments p.linkedit.signature
-    signature = tables_lie l counts p laid.order laid.least 4 p.linkedit.signature (omega arith)
+    signature = tables_lie l counts p laid.segments (least_of laid.least) 4 p.linkedit.signature (omega arith)
 
     low : tables.file_offset ≤ p.linkedit.signature.end
     low =
@@ -138,7 +141,7 @@ text_begins l counts p follow laid (suc zero) d lt named =
     let up = rises l p.segments d follow 0 0 1 (omega arith) lt in
     let zero_page = least_rank l (text_of (get_or p.segments 0 d).name) (omega (arith, up, one)) in
     let here : 0 < length p.segments = omega (arith, lt) in
-    let no_bytes : (get_or p.segments 0 d).file_size ≡ 0 = laid.least.file_sizes 0 d here ∙ rw zero_page refl in
+    let no_bytes : (get_or p.segments 0 d).file_size ≡ 0 = (least_of laid.least).file_sizes 0 d here ∙ rw zero_page refl in
     let front = laid.least.front (get_or p.segments 0 d) (here, sym (get_or_default p.segments 0 d (get_or p.segments 0 d) here)) in
     omega (
       arith,
@@ -185,7 +188,7 @@ pub text_holds_head : (l : Link) (counts : Counts) (p : Placed) → IsLaidOut l 
     → All (λ s. is_segment_named TEXT s ≡ true → head_size counts p ≤ s.file_size) p.segments
 text_holds_head l counts p laid k d lt named =
     let s : PlacedSegment = get_or p.segments k d in
-    let sized = text_sized l counts p s ((bytes_eq-Decides (text_of s.name) TEXT).0 named) (laid.least.file_sizes k d lt) in
+    let sized = text_sized l counts p s ((bytes_eq-Decides (text_of s.name) TEXT).0 named) ((least_of laid.least).file_sizes k d lt) in
     let used : ℕ = used_by s (row_of l counts p s (filled_in l counts s)) in
     let more : used ≤ rounded_up SEGMENT_PAGE used = rounded_above used in
     let head : head_size counts p ≤ used = front_used l counts p s named in

@@ -24,6 +24,8 @@ use Rattle.macho_agreement.proofs.Headers.{headers-are}
 use Rattle.macho_agreement.proofs.Heads.{head_ends}
 use Rattle.macho_agreement.proofs.Room.{file_parts_end, text_begins, text_holds_head}
 use Rattle.macho_agreement.proofs.Entry.{file_base, entry_agrees}
+use Rattle.macho_model.proofs.Parts.{in_order_of}
+use Rattle.macho_model.proofs.Outputs.{headers_same}
 
 -- a table that has so many bytes is the range with that room
 ranged : (r : Range64) (size : ℕ) → r.end ≡ r.start + size → record { at = r.start; size = size } ≡ table_of_range r
@@ -37,8 +39,8 @@ commands_counted l counts are = ap (λ (c : Counts). c.commands) are.are
 
 pub lists_all : (l : Link) (counts : Counts) (p : Placed) → IsPlaced l counts p → IsLaidOut l counts p → ListsAll l p
 lists_all l counts p placed laid = record {
-  sections = laid.order.sections;
-  commons = laid.order.commons;
+  sections = placed.whole_list.sections;
+  commons = placed.whole_list.commons;
   slots = placed.whole_list.slots;
 }
 
@@ -59,8 +61,8 @@ tables_agree l counts uuid b p trie reads room fits = record {
 pub head_ties : HeadTies
 head_ties l counts uuid b p says read are placed laid defined fits =
     let reads = head_read l counts uuid b p says.trie says.commands in
-    let headers = headers-are l counts p laid.order placed.in_order.follow laid.sections in
-    let base = file_base l b p placed.in_order placed.base reads.segments in
+    let headers = headers-are l counts p laid.segments placed.follow (laid.sections ∙ headers_same l counts p) in
+    let base = file_base l b p (in_order_of placed) placed.base reads.segments in
     record {
       commands = record {
         segments = reads.segments;
@@ -85,8 +87,8 @@ libraries_said l counts uuid b p says whole = (head_read l counts uuid b p says.
 -- THE room of the segments
 pub segments_have_room : SegmentsHaveRoom
 segments_have_room l counts uuid b p says are placed laid long memory =
-    let follow = placed.in_order.follow in
-    let headers = headers-are l counts p laid.order follow laid.sections in
+    let follow = placed.follow in
+    let headers = headers-are l counts p laid.segments follow (laid.sections ∙ headers_same l counts p) in
     let ends = head_ends l counts uuid b p says (commands_counted l counts are) headers in
     record {
       file = λ k d lt. omega (arith, long, file_parts_end l counts p follow laid k d lt);

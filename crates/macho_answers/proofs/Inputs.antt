@@ -6,6 +6,7 @@ use Rattle.macho_lists.proofs.Members.{all_contains}
 use Rattle.macho_model.specs.Links.{Link, Input, Object, Stub, StubReading}
 use Rattle.macho_model.specs.Lists.{IsNumber}
 use Rattle.macho_promise.specs.Inputs.{IsInput, IsStubInput}
+use Rattle.macho_promise.proofs.Stubs.{library_of}
 use Rattle.macho_stub.proofs.NoNuls.{library_plain}
 use Rattle.macho_found.specs.Names.{IsPlainReading}
 use Rattle.macho_answers.specs.Inputs.{HasBytes, InputsAreRead, InputsAreBytes, InputsArePlain}
@@ -22,8 +23,9 @@ inputs_are_bytes l each file b number = numbered HasBytes l file (Object b) each
 
 reading_plain : (text : List ℕ) (says : StubReading) → IsStubInput text says → IsPlainReading says
 reading_plain text says of =
-    let plain = library_plain text of.library of.in_grammar in
-    subst IsPlainReading (sym of.is) (record { install_name = plain.install_name; names = plain.symbols; weak_names = plain.weak_symbols })
+    let it = library_of text says of in
+    let plain = library_plain text it.library it.in_grammar in
+    subst IsPlainReading (sym it.is) (record { install_name = plain.install_name; names = plain.symbols; weak_names = plain.weak_symbols })
 
 pub inputs_are_plain : InputsArePlain
 inputs_are_plain l each file text says number = reading_plain text says (numbered IsInput l file (Stub text says) each number)

@@ -16,10 +16,11 @@ use Rattle.macho_sizes.proofs.One.{sizes_one}
 use Rattle.macho_found.proofs.Found.{laid_out}
 use Rattle.macho_answers.specs.Kept.{PlacedIsKept, EarlyIsStanding, LateIsStanding}
 use Rattle.macho_answers.proofs.Told.{uncut}
+use Rattle.macho_model.proofs.Parts.{in_segment_of}
 
 -- the unwind information is below 4 GiB
 unwind_low : (l : Link) (counts : Counts) (p : Placed) → IsWhollyPlaced l counts p → NonePasses l counts p → counts.unwind ≤ 2 ^ 32
-unwind_low l counts p whole within = elim whole.placed.in_segment.unwind.1 [
+unwind_low l counts p whole within = elim (in_segment_of whole.placed).unwind.1 [
   | inl none ↦ omega (arith, none, whole.least.rooms.unwind)
   | inr lies ↦ omega (arith, lies.3.from, lies.3.to, (within.files lies.0 lies.1).1, whole.least.rooms.unwind)
 ]

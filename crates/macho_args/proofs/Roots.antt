@@ -23,8 +23,7 @@ use Rattle.macho_args.specs.declared.options.Valued.TheVariants.{Output, Entry, 
 use Rattle.macho_args.specs.declared.options.Valued.TheVariants.{Rpath, LibraryPath, FrameworkPath, Root, Library, Framework}
 use Rattle.macho_args.specs.declared.options.Valued.TheVariants.{Arch, Mllvm, Uuid, Generate}
 use Rattle.macho_args.specs.declared.fault.ArgsFault.TheVariants.{Unknown, Unsupported, BadVersion, BadPlatform, BadUuid, BadNumber, OutOfMemory}
-use Rattle.macho_args.specs.steps.Effects.{HasCause}
-use Rattle.macho_args.specs.Effects.{uuid_of, count_of}
+use Rattle.macho_args.specs.steps.Effects.{HasCause, uuid_of, count_of}
 use Rattle.macho_args.specs.Effects.{◌>>=◌, at_root, joined, with_flag, with_value, with_platform}
 use Rattle.std.specs.FinMap.{get}
 use Rattle.macho_args.specs.Store.{CanonicalPaths, Directories, IsToldCanonical}

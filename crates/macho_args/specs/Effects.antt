@@ -32,18 +32,6 @@ with_flag DeadStripDylibs s = record s { dead_strip_dylibs = true }
 with_flag HeaderpadMaxInstallNames s = record s { headerpad_max_install_names = true }
 with_flag Map s = record s { map_lines = true }
 
--- a run path is kept once
-abbrev pub with_once : List ℕ → List (List ℕ) → List (List ℕ)
-with_once path paths = if list_any (λ old. bytes_eq old path) paths then paths else paths ++ path ∷ []
-
--- 16 bytes in 32 hexadecimal digits
-abbrev pub uuid_of : List ℕ → Option (List ℕ)
-uuid_of text = result_ok (decode_sized text 16)
-
--- how many objects are made: 1 to 10,000
-abbrev pub count_of : List ℕ → Option ℕ
-count_of text = option_and_then (λ n. if n == 0 then None else Some n) (number_up_to 10000 text)
-
 -- a path below a root: one `/` stands between, and none is added where the root ends with it
 unfoldable pub joined : List ℕ → List ℕ → List ℕ
 joined root path = if ends_with nat_eq root (codes "/") then root ++ path else root ++ (codes "/" ++ path)
@@ -61,7 +49,8 @@ with_value set_root Entry i v s = Ok (record s { entry = v })
 with_value set_root InstallName i v s = Ok (record s { install_name = Some v })
 with_value set_root LtoLibrary i v s = Ok (record s { plugin_path = Some v })
 with_value set_root ExportedSymbolsList i v s = Ok (record s { export_list_paths = s.export_list_paths ++ (i, v) ∷ [] })
-with_value set_root Rpath i v s = Ok (record s { rpaths = with_once v s.rpaths })
+-- a run path is kept once
+with_value set_root Rpath i v s = Ok (record s { rpaths = if list_any (λ r. bytes_eq r v) s.rpaths then s.rpaths else s.rpaths ++ v ∷ [] })
 with_value set_root LibraryPath i v s = Ok (record s { lib_search_path = s.lib_search_path ++ v ∷ [] })
 with_value set_root FrameworkPath i v s = Ok (record s { framework_search_path = s.framework_search_path ++ v ∷ [] })
 with_value set_root Root i v s = Ok (set_root v s)
@@ -72,8 +61,12 @@ with_value set_root Framework i v s = Ok (record s { inputs = s.inputs ++ record
 with_value set_root Arch i v s = if bytes_eq v (codes "arm64") then Ok s else Err (BadArch i)
 with_value set_root Mllvm i v s =
     if bytes_eq v (codes "-enable-linkonceodr-outlining") then Ok s else Err (Unsupported i)
-with_value set_root Uuid i v s = ok_or (uuid_of v) (BadUuid i) >>= λ bytes. Ok (record s { uuid = Some bytes })
-with_value set_root Generate i v s = ok_or (count_of v) (BadNumber i) >>= λ n. Ok (record s { generate = Some n })
+-- 16 bytes in 32 hexadecimal digits
+with_value set_root Uuid i v s = ok_or (result_ok (decode_sized v 16)) (BadUuid i) >>= λ bytes. Ok (record s { uuid = Some bytes })
+-- how many objects are made: 1 to 10,000
+with_value set_root Generate i v s =
+    ok_or (option_and_then (λ n. if n == 0 then None else Some n) (number_up_to 10000 v)) (BadNumber i)
+    >>= λ n. Ok (record s { generate = Some n })
 
 -- The three values of `-platform_version`, which is the word i: a platform, the lowest version of the system,
 -- and the version of the SDK.

@@ -4,7 +4,7 @@ ghost use Rattle.std.specs.Prelude.{◌≡◌, ◌+◌, ◌<◌, ◌^◌, ◌∷
 ghost use Rattle.std.specs.Option.{option_map};
 ghost use Rattle.std.specs.String.{string_bytes};
 ghost use Rattle.macho_args.specs.declared.fault.ArgsFault.TheVariants.{OutOfMemory};
-ghost use Rattle.macho_args.specs.Effects.{uuid_of, count_of};
+ghost use Rattle.macho_args.specs.steps.Effects.{uuid_of, count_of};
 
 use crate::fault::ArgsFault;
 use crate::fields::{InputSpec, MachOArgs, PlatformVersion};
@@ -29,8 +29,8 @@ const MAX_GENERATED: u32 = 10_000;
 
 impl MachOArgs {
     ghost use Rattle.macho_args.specs.Settings.{settings_of, framework};
-    ghost use Rattle.macho_args.specs.steps.Effects.{HasCause};
-    ghost use Rattle.macho_args.specs.Effects.{with_flag, with_value, with_once, with_platform};
+    ghost use Rattle.macho_args.specs.steps.Effects.{HasCause, with_once};
+    ghost use Rattle.macho_args.specs.Effects.{with_flag, with_value, with_platform};
     ghost use Rattle.macho_args.specs.steps.KeptRoot.{keep_root};
 
     /// Sets a flag.

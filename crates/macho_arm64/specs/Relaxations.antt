@@ -3,12 +3,13 @@
 use Rattle.std.specs.Prelude.{◌≡◌, ℕ, ◌==◌, ◌&&◌, not, Bool, true, false, if◌then◌else◌, Option, Some, None, List}
 use Rattle.macho_bytes.specs.Numbers.{le_at, le_bytes}
 use Rattle.macho_bytes.specs.Texts.{put}
-use Rattle.macho_model.specs.Words.{is_add, is_ldr, imm12, base_register, written_register, REGISTER_31}
+use Rattle.macho_model.specs.Words.{is_add, is_ldr, imm12, base_register, written_register}
 use Rattle.macho_records.specs.declared.constants.TheConstants.{ARM64_RELOC_PAGE21, ARM64_RELOC_PAGEOFF12, ARM64_RELOC_GOT_LOAD_PAGE21, ARM64_RELOC_GOT_LOAD_PAGEOFF12, ARM64_RELOC_TLVP_LOAD_PAGEOFF12}
 use Rattle.macho_arm64.specs.declared.kinds.RelocationKindInfo.{RelocationKindInfo}
 use Rattle.macho_arm64.specs.declared.relaxation.Relaxation.{Relaxation}
 use Rattle.macho_arm64.specs.declared.relaxation.Relaxation.TheVariants as relaxation
 use Rattle.macho_arm64.specs.Kinds.{kind_at}
+use Rattle.macho_model.specs.Supported.{REGISTER_31}
 
 -- the relaxation of a reference to a defined target, by the type of its relocation
 abbrev pub relaxation_of : ℕ → Option Relaxation

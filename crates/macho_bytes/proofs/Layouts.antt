@@ -4,11 +4,12 @@
 -- plus the lengths before it. There the numbers of the row are read back one by one, and a text is the bytes
 -- themselves. So reading sets, row by row, the fields that the record has. Setting all fields of any record to those
 -- of r gives r: that is true by computing for each layout, and is the only fact asked of one.
-use Rattle.std.proofs.Common.{◌≡◌, ℕ, zero, suc, ◌+◌, ◌*◌, ◌-◌, ◌<◌, ◌≤◌, List, [], ◌∷◌, ◌++◌, length, get_or, take, drop, slice_range, slice_index, refl, sym, ap, ◌∙◌, arith, append_assoc}
+use Rattle.std.proofs.Common.{◌≡◌, ℕ, ◌+◌, ◌*◌, List, [], ◌∷◌, ◌++◌, length, slice_range, slice_index, refl, sym, ap, ◌∙◌, arith, append_assoc}
 use Rattle.std.proofs.lemmas.List.{length-append, append-nil}
 use Rattle.macho_bytes.specs.Numbers.{ByteOrder, little, big, row_bytes, AllBelow}
 use Rattle.macho_bytes.specs.Texts.{Stands}
-use Rattle.macho_bytes.specs.Layouts.{Row, numbers, text, Layout, row_text, row_size, row_read, numbers_at, size_from, size_of, text_from, spelling, read_from, reading, ReadsBack}
+use Rattle.macho_bytes.specs.Layouts.{size_of, reading}
+use Rattle.macho_bytes.specs.Spellings.{Row, numbers, text, Spelled, row_text, row_size, row_read, numbers_at, size_from, text_from, spelling, read_from, ReadsBack}
 use Rattle.macho_bytes.proofs.Numbers.{IsSound, little_is_sound, big_is_sound, number-stands, stands-front, stands-back, length-row_bytes, length-row_little, length-row_big}
 use Rattle.macho_bytes.proofs.Puts.{put-put, length-put}
 
@@ -122,41 +123,42 @@ length-text_long order sound blank r (row ∷ rows) offset front is long =
     (omega (arith, is, length-append front (row_text order r row), length-row_long order sound blank r row long.0)) long.1
 
 -- the length of a spelling, whatever its numbers: it asks only that each text has its length
-pub length-spelling : {R : Type 0} (l : Layout R) (r : R) → IsSound l.order → RowsLong l.blank r l.rows → length (spelling l r) ≡ size_of l
+pub length-spelling : {R : Type 0} (s : Spelled R) (r : R) → IsSound s.layout.order → RowsLong s.blank r s.rows → length (spelling s r) ≡ size_of s.layout
 unfolding spelling
-length-spelling l r sound long = length-text_long l.order sound l.blank r l.rows 0 [] refl long
+length-spelling s r sound long = length-text_long s.layout.order sound s.blank r s.rows 0 [] refl long ∙ s.sized
 
 -- The one lemma for every record: if its fields fit their rows, and filling a blank record with them gives it back.
-pub reads_back : {R : Type 0} (l : Layout R) (r : R) → IsSound l.order → RowsFit l.blank r l.rows → filled l.blank r l.rows ≡ r
-    → ReadsBack l r
+pub reads_back : {R : Type 0} (s : Spelled R) (r : R) → IsSound s.layout.order → RowsFit s.blank r s.rows → filled s.blank r s.rows ≡ r
+    → ReadsBack s r
 unfolding spelling reading
-reads_back l r sound fits whole =
+reads_back s r sound fits whole =
     record {
-      long = length-text_from l.order sound l.blank r l.rows 0 [] refl fits;
-      back = λ bytes i s. read_from-stands l.order sound l.blank r bytes i l.rows 0 l.blank [] refl fits s ∙ whole;
+      long = length-text_from s.layout.order sound s.blank r s.rows 0 [] refl fits ∙ s.sized;
+      back = λ bytes i stands.
+          s.same bytes i ∙ read_from-stands s.layout.order sound s.blank r bytes i s.rows 0 s.blank [] refl fits stands ∙ whole;
     }
 
 -- the same, part by part and for each byte order, as a tactic finds it
-pub length-spelling_little : {R : Type 0} (l : Layout R) (r : R) → l.order ≡ little → RowsFit l.blank r l.rows → filled l.blank r l.rows ≡ r
-    → length (spelling l r) ≡ size_of l
-length-spelling_little l r is fits whole = (reads_back l r (rw is little_is_sound) fits whole).long
+pub length-spelling_little : {R : Type 0} (s : Spelled R) (r : R) → s.layout.order ≡ little → RowsFit s.blank r s.rows → filled s.blank r s.rows ≡ r
+    → length (spelling s r) ≡ size_of s.layout
+length-spelling_little s r is fits whole = (reads_back s r (rw is little_is_sound) fits whole).long
 
-pub reading-stands_little : {R : Type 0} (l : Layout R) (r : R) (bytes : List ℕ) (i : ℕ) → l.order ≡ little → RowsFit l.blank r l.rows
-    → filled l.blank r l.rows ≡ r → Stands bytes (record { at = i; text = spelling l r }) → reading l bytes i ≡ r
-reading-stands_little l r bytes i is fits whole s = (reads_back l r (rw is little_is_sound) fits whole).back bytes i s
+pub reading-stands_little : {R : Type 0} (s : Spelled R) (r : R) (bytes : List ℕ) (i : ℕ) → s.layout.order ≡ little → RowsFit s.blank r s.rows
+    → filled s.blank r s.rows ≡ r → Stands bytes (record { at = i; text = spelling s r }) → reading s.layout bytes i ≡ r
+reading-stands_little s r bytes i is fits whole stands = (reads_back s r (rw is little_is_sound) fits whole).back bytes i stands
 
-pub length-spelling_big : {R : Type 0} (l : Layout R) (r : R) → l.order ≡ big → RowsFit l.blank r l.rows → filled l.blank r l.rows ≡ r
-    → length (spelling l r) ≡ size_of l
-length-spelling_big l r is fits whole = (reads_back l r (rw is big_is_sound) fits whole).long
+pub length-spelling_big : {R : Type 0} (s : Spelled R) (r : R) → s.layout.order ≡ big → RowsFit s.blank r s.rows → filled s.blank r s.rows ≡ r
+    → length (spelling s r) ≡ size_of s.layout
+length-spelling_big s r is fits whole = (reads_back s r (rw is big_is_sound) fits whole).long
 
-pub reading-stands_big : {R : Type 0} (l : Layout R) (r : R) (bytes : List ℕ) (i : ℕ) → l.order ≡ big → RowsFit l.blank r l.rows
-    → filled l.blank r l.rows ≡ r → Stands bytes (record { at = i; text = spelling l r }) → reading l bytes i ≡ r
-reading-stands_big l r bytes i is fits whole s = (reads_back l r (rw is big_is_sound) fits whole).back bytes i s
+pub reading-stands_big : {R : Type 0} (s : Spelled R) (r : R) (bytes : List ℕ) (i : ℕ) → s.layout.order ≡ big → RowsFit s.blank r s.rows
+    → filled s.blank r s.rows ≡ r → Stands bytes (record { at = i; text = spelling s r }) → reading s.layout bytes i ≡ r
+reading-stands_big s r bytes i is fits whole stands = (reads_back s r (rw is big_is_sound) fits whole).back bytes i stands
 
 -- a spelling is its rows' texts, joined
-pub spelling_is : {R : Type 0} (l : Layout R) (r : R) → spelling l r ≡ text_from l.order r [] l.rows
+pub spelling_is : {R : Type 0} (s : Spelled R) (r : R) → spelling s r ≡ text_from s.layout.order r [] s.rows
 unfolding spelling
-spelling_is l r = refl
+spelling_is s r = refl
 
 -- what the write of a little-endian record is proved by: its rows are puts next to each other, and it reads back
 pub ruleset little_record = (

@@ -10,7 +10,8 @@ use Rattle.std.proofs.lemmas.List.Edits.{length-between, get_or-between}
 use Rattle.byteorder.specs.Endian.{little_from, big_from}
 use Rattle.macho_bytes.specs.Numbers.{ByteOrder, little, big, le_at, be_at, le_bytes}
 use Rattle.macho_bytes.specs.Texts.{put}
-use Rattle.macho_bytes.specs.Layouts.{Row, numbers, text, Layout, row_size, row_read, numbers_at, size_from, size_of, read_from, reading}
+use Rattle.macho_bytes.specs.Layouts.{size_of, reading}
+use Rattle.macho_bytes.specs.Spellings.{Row, numbers, text, Spelled, row_size, row_read, numbers_at, size_from, read_from}
 use Rattle.macho_bytes.proofs.Puts.{length-put, get_or-put_below, get_or-put_above, put_stands}
 use Rattle.macho_bytes.proofs.Numbers.{IsSound, number-stands, little_is_sound}
 
@@ -162,28 +163,31 @@ read_from-alike {R = R} order local blank r x y i j offset (row ∷ rows) in_x i
     ap (λ (s : R). read_from order blank x i (offset + row_size blank row) s rows) here ∙ rest
 
 -- a record where two lists agree on its bytes
-pub reading-alike : {R : Type 0} (l : Layout R) → IsLocal l.order → (x y : List ℕ) (i j : ℕ) → i + size_of l ≤ length x
-    → j + size_of l ≤ length y
-    → ((k : ℕ) → k < size_of l → slice_index x (i + k) ≡ slice_index y (j + k)) → reading l x i ≡ reading l y j
+pub reading-alike : {R : Type 0} (s : Spelled R) → IsLocal s.layout.order → (x y : List ℕ) (i j : ℕ) → i + size_of s.layout ≤ length x
+    → j + size_of s.layout ≤ length y
+    → ((k : ℕ) → k < size_of s.layout → slice_index x (i + k) ≡ slice_index y (j + k)) → reading s.layout x i ≡ reading s.layout y j
 unfolding reading
-reading-alike l local x y i j in_x in_y same =
-    read_from-alike l.order local l.blank l.blank x y i j 0 l.rows in_x in_y (record { same = λ k from to. same k to })
+reading-alike s local x y i j in_x in_y same =
+    s.same x i
+    ∙ read_from-alike s.layout.order local s.blank s.blank x y i j 0 s.rows (omega (arith, in_x, s.sized)) (omega (arith, in_y, s.sized))
+    (record { same = λ k from to. same k (omega (arith, to, s.sized)) })
+    ∙ sym (s.same y j)
 
 -- a record after a write that shares no byte with it
-pub reading-put_other : {R : Type 0} (l : Layout R) → IsLocal l.order → (at i : ℕ) (t bytes : List ℕ) → at + length t ≤ length bytes
-    → i + size_of l ≤ length bytes
-    → (i + size_of l ≤ at) ⊎ (at + length t ≤ i) → reading l (put at t bytes) i ≡ reading l bytes i
-reading-put_other l local at i t bytes fits within apart =
-    reading-alike l local (put at t bytes) bytes i i (omega (arith, length-put at t bytes fits)) within
+pub reading-put_other : {R : Type 0} (s : Spelled R) → IsLocal s.layout.order → (at i : ℕ) (t bytes : List ℕ) → at + length t ≤ length bytes
+    → i + size_of s.layout ≤ length bytes
+    → (i + size_of s.layout ≤ at) ⊎ (at + length t ≤ i) → reading s.layout (put at t bytes) i ≡ reading s.layout bytes i
+reading-put_other s local at i t bytes fits within apart =
+    reading-alike s local (put at t bytes) bytes i i (omega (arith, length-put at t bytes fits)) within
     (λ k h. elim apart [
       | inl before ↦ get_or-put_below at t bytes (i + k) fits (omega arith)
       | inr after ↦ get_or-put_above at t bytes (i + k) fits (omega arith)
     ])
 
 -- a record in a part of a list
-pub reading-between : {R : Type 0} (l : Layout R) → IsLocal l.order → (from to i : ℕ) (bytes : List ℕ) → from + i + size_of l ≤ to
+pub reading-between : {R : Type 0} (s : Spelled R) → IsLocal s.layout.order → (from to i : ℕ) (bytes : List ℕ) → from + i + size_of s.layout ≤ to
     → to ≤ length bytes
-    → reading l (slice_range bytes from to) i ≡ reading l bytes (from + i)
-reading-between l local from to i bytes fits within =
-    reading-alike l local (slice_range bytes from to) bytes i (from + i) (omega (arith, length-between bytes from to)) (omega arith)
+    → reading s.layout (slice_range bytes from to) i ≡ reading s.layout bytes (from + i)
+reading-between s local from to i bytes fits within =
+    reading-alike s local (slice_range bytes from to) bytes i (from + i) (omega (arith, length-between bytes from to)) (omega arith)
     (λ k h. get_or-between bytes from to (i + k) 0 (omega arith) ∙ ap (λ (m : ℕ). get_or bytes m 0) (omega arith))

@@ -30,7 +30,8 @@ use Rattle.macho_fixups.specs.declared.run.Fixup.{Fixup}
 use Rattle.macho_fixups.specs.declared.run.FixupSegment.{FixupSegment}
 use Rattle.macho_fixups.specs.declared.words.FixupKind.TheVariants.{Rebase, Bind}
 use Rattle.macho_fixups.specs.Words.{has_word}
-use Rattle.macho_promise.specs.FixupsSay.{IsFixupOf, slot, pointer, kind_for, own_number, fixup_segment, fixup_segments}
+use Rattle.macho_promise.specs.FixupsSay.{IsFixupOf, slot, pointer, kind_for, own_number, fixup_segments}
+use Rattle.macho_parts.specs.steps.Segments.{fixup_segment}
 use Rattle.macho_lists.proofs.Members.{contains_map, contains_all, all_contains}
 use Rattle.macho_standing.specs.Leads.{HasPlace}
 use Rattle.macho_standing.proofs.Apart.{placed_is_carried}

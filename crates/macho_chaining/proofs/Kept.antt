@@ -13,8 +13,8 @@ use Rattle.macho_bytes.proofs.Numbers.{little_is_sound, stands-front}
 use Rattle.macho_bytes.proofs.Puts.{stands_by_bytes}
 use Rattle.macho_model.specs.Needs.{POINTER_SIZE}
 use Rattle.macho_model.specs.Links.{Link}
-use Rattle.macho_model.specs.Placement.{Placed, Span}
-use Rattle.macho_model.specs.Zeros.{IsOutsideSpan}
+use Rattle.macho_model.specs.Placement.{Placed}
+use Rattle.macho_model.specs.Zeros.{Span}
 use Rattle.macho_model.specs.Head.{range_size}
 use Rattle.macho_fixups.specs.declared.run.Fixup.{Fixup}
 use Rattle.macho_fixups.specs.Words.{word_of}
@@ -24,12 +24,15 @@ use Rattle.macho_fixups.specs.Readings.{TableReadsBack}
 use Rattle.macho_promise.specs.FixupsSay.{fixup_segments}
 use Rattle.macho_model.specs.Fixups.{import_format}
 use Rattle.macho_linkedit.specs.declared.imports.ImportTable.{ImportTable}
+use Rattle.macho_linkedit.specs.Imports.{TableStands}
 use Rattle.macho_linkedit.proofs.TableSays.{table_is_said}
+use Rattle.macho_linkedit.proofs.FixupsSaid.{fixups_are_said}
 use Rattle.macho_standing.proofs.TableLength.{table_long}
 use Rattle.macho_chaining.specs.Writing.{text_of_table, text_of_range}
 use Rattle.macho_chaining.specs.Laws.{word_ranges, WordLiesIn, AgreeIn, BytesOutsideStay, WordsStay, FixupsStand, FixupsAreKept}
-use Rattle.macho_chaining.specs.Laws.{ImportsAreKept}
+use Rattle.macho_chaining.specs.Laws.{TableIsOf, ImportsAreKept}
 use Rattle.macho_chaining.proofs.Lying.{words_lie}
+use Rattle.macho_model.specs.Spans.{IsOutsideSpan}
 
 -- a byte outside a range is outside a word in it
 outside_word : (i at : ℕ) (text : List ℕ) (s : Span) → length text ≡ 8 → s.start ≤ at → at + 8 ≤ s.start + s.size → IsOutsideSpan i s
@@ -83,24 +86,32 @@ table_stands l p run t b stand =
 abbrev table_with : Placed → List Fixup → ImportTable → ℕ → List ℕ → List ℕ
 table_with p run t format names = table_text p.base run (fixup_segments p) format t.entries.items names
 
+-- the table stands in its range, the only one of its kind
+table_in : (l : Link) (p : Placed) (run : List Fixup) (t : ImportTable) (b : List ℕ) → FixupsStand l p run t b → TableIsOf l p run t
+    → TableStands b (record { at = p.linkedit.fixups.start; size = range_size p.linkedit.fixups }) p.base run (fixup_segments p) t.format
+    t.entries.items t.names.items
+table_in l p run t b stand is = record {
+  one = stand.one;
+  text = table_stands l p run t b stand;
+  room = omega (arith, is.within, table_long p.base run (fixup_segments p) t.format t.entries.items t.names.items);
+  reads = is.reads;
+}
+
 -- THE laws on the final file.
 pub fixups_kept : FixupsAreKept
+unfolding fixups_are_said
 fixups_kept l p run t b stand is encoded = record {
-  say = record {
-    fixups = run;
-    run = stand.run_is.run;
-    each = stand.run_is.each;
-    all = stand.run_is.all;
-    table = record { at = p.linkedit.fixups.start; size = range_size p.linkedit.fixups };
-    one = stand.one;
-    entries = t.entries.items;
-    text =
-        subst (λ (n : List ℕ). Stands b (record { at = p.linkedit.fixups.start; text = table_with p run t (import_format l) n }))
-        is.table.names_are
-        (subst (λ (f : ℕ). Stands b (record { at = p.linkedit.fixups.start; text = table_with p run t f t.names.items })) is.table.format_is
-        (table_stands l p run t b stand));
-    words = stand.words;
-  };
+  say =
+      fixups_are_said l b p (record { at = p.linkedit.fixups.start; size = range_size p.linkedit.fixups }) run t.format t.entries.items
+      t.names.items stand.run_is is.table (table_in l p run t b stand is) stand.words;
+  run = stand.run_is.run;
+  words = stand.words;
+  entries = t.entries.items;
+  text =
+      subst (λ (n : List ℕ). Stands b (record { at = p.linkedit.fixups.start; text = table_with p run t (import_format l) n }))
+      is.table.names_are
+      (subst (λ (f : ℕ). Stands b (record { at = p.linkedit.fixups.start; text = table_with p run t f t.names.items })) is.table.format_is
+      (table_stands l p run t b stand));
   chain = stand.chain;
   table =
       subst (λ (n : List ℕ). TableReadsBack p.base run (fixup_segments p) (import_format l) t.entries.items n) is.table.names_are
@@ -115,10 +126,4 @@ fixups_kept l p run t b stand is encoded = record {
 pub imports_kept : ImportsAreKept
 imports_kept l p run t b stand is tell =
     table_is_said l b (record { at = p.linkedit.fixups.start; size = range_size p.linkedit.fixups }) p.base run (fixup_segments p) t.format
-    t.entries.items t.names.items is.table is.entries tell
-    (record {
-      one = stand.one;
-      text = table_stands l p run t b stand;
-      room = omega (arith, is.within, table_long p.base run (fixup_segments p) t.format t.entries.items t.names.items);
-      reads = is.reads;
-    })
+    t.entries.items t.names.items is.table is.entries tell (table_in l p run t b stand is)

@@ -13,16 +13,21 @@ use Rattle.macho_model.specs.declared.placed.PlacedSegment.{PlacedSegment}
 use Rattle.macho_model.specs.declared.placed.Slot.{Slot}
 use Rattle.macho_model.specs.Links.{Link, header_at}
 use Rattle.macho_model.specs.Segments.{DATA_CONST}
-use Rattle.macho_model.specs.Placement.{Placed, Span, id_of, section_span, slot_span, SectionLies, LiesInNamed}
-use Rattle.macho_model.specs.Zeros.{in_file, filled_sections}
+use Rattle.macho_model.specs.Placement.{Placed, id_of}
+use Rattle.macho_model.specs.Zeros.{Span}
+use Rattle.macho_model.specs.Spans.{section_span, slot_span, filled_sections}
+use Rattle.macho_model.specs.steps.Parts.{SectionLies, LiesInNamed}
+use Rattle.macho_model.specs.Spans.{in_file}
 use Rattle.macho_fixups.specs.Chains.{place_of}
 use Rattle.macho_fixups.proofs.RunChain.{place_in}
-use Rattle.macho_promise.specs.FixupsSay.{slot, pointer, fixup_segment, fixup_segments}
+use Rattle.macho_promise.specs.FixupsSay.{slot, pointer, fixup_segments}
+use Rattle.macho_parts.specs.steps.Segments.{fixup_segment}
 use Rattle.macho_lists.proofs.Members.{contains_map, contains_filter}
 use Rattle.macho_standing.proofs.Apart.{placed_is_carried}
 use Rattle.macho_standing.proofs.Held.{place_in_file}
 use Rattle.macho_chaining.specs.Chaining.{CanBeChained}
 use Rattle.macho_chaining.specs.Laws.{word_ranges, WordLiesIn, WordsLieInRanges}
+use Rattle.macho_model.proofs.Parts.{in_segment_of}
 
 -- a word in a range of addresses that lies in a segment's file part lies in that range of the file
 lies : (l : Link) (counts : Counts) (p : Placed) (s : PlacedSegment) (m : Span) (a : ℕ) → CanBeChained l counts p → Contains p.segments s
@@ -44,7 +49,7 @@ file_part zeros size file memory filled some = let none : (size == 0) ≡ false 
 pub words_lie : WordsLieInRanges
 unfolding word_ranges
 words_lie l counts p _ can (slot s one) =
-    let held = All-contains (λ (t : Slot). LiesInNamed p DATA_CONST true (slot_span t)) p.slots s can.placed.placed.in_segment.slots
+    let held = All-contains (λ (t : Slot). LiesInNamed p DATA_CONST true (slot_span t)) p.slots s (in_segment_of can.placed.placed).slots
     one in (
       in_file p (slot_span s),
       Contains-append_right (map (λ (q : PlacedSection). in_file p (section_span l q)) (filled_sections l p))
@@ -54,7 +59,7 @@ words_lie l counts p _ can (slot s one) =
     )
 words_lie l counts p _ can (pointer q f one there needs) =
     let inside = can.pointers.inside (id_of q) f (placed_is_carried l p q can.placed.placed.whole_list one) there needs in
-    let held = All-contains (SectionLies l p) p.sections q can.placed.placed.in_segment.sections one in
+    let held = All-contains (SectionLies l p) p.sections q (in_segment_of can.placed.placed).sections one in
     let part = file_part (is_zerofill (header_at l (id_of q))) (header_at l (id_of q)).size held.0.file_size held.0.size inside.1
     (omega (arith, inside.0)) in
     let filled : Contains (filled_sections l p) q =

@@ -7,9 +7,11 @@ use Rattle.macho_model.specs.Links.{Link}
 use Rattle.macho_model.specs.Needs.{POINTER_SIZE}
 use Rattle.macho_model.specs.Images.{tables_of}
 use Rattle.macho_model.specs.ImportTable.{ImportTableSays}
-use Rattle.macho_model.specs.Placement.{Placed, Span, section_span, slot_span}
+use Rattle.macho_model.specs.Placement.{Placed}
+use Rattle.macho_model.specs.Zeros.{Span}
+use Rattle.macho_model.specs.Spans.{section_span, slot_span, IsOutsideSpan, filled_sections}
 use Rattle.macho_model.specs.Values.{BadRebase}
-use Rattle.macho_model.specs.Zeros.{in_file, filled_sections, IsOutsideSpan}
+use Rattle.macho_model.specs.Spans.{in_file}
 use Rattle.macho_model.specs.Head.{range_size}
 use Rattle.macho_fixups.specs.declared.run.Fixup.{Fixup}
 use Rattle.macho_fixups.specs.Calls.{AreEntries}

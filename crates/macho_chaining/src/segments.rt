@@ -1,6 +1,7 @@
 //! The segments of a placement, as fixups see them.
 ghost use Rattle.std.specs.Prelude.{◌≡◌, IfOk};
-ghost use Rattle.macho_promise.specs.FixupsSay.{fixup_segment, fixup_segments};
+ghost use Rattle.macho_promise.specs.FixupsSay.{fixup_segments};
+ghost use Rattle.macho_parts.specs.steps.Segments.{fixup_segment};
 ghost use Rattle.macho_layout.specs.Placements.{placed_of};
 
 use macho_fixups::FixupSegment;

@@ -11,8 +11,6 @@ use Rattle.std.proofs.lemmas.List.Concat.{flat_map-append}
 use Rattle.macho_bytes.specs.Numbers.{little, row_bytes, le_bytes}
 use Rattle.macho_bytes.proofs.Numbers.{length-row_little}
 use Rattle.macho_bytes.specs.Texts.{Stands}
-use Rattle.macho_bytes.specs.Layouts.{spelling}
-use Rattle.macho_records.specs.Layouts.{mach_header}
 use Rattle.macho_records.specs.declared.constants.TheConstants.{LC_BUILD_VERSION, LC_CODE_SIGNATURE, LC_DYLD_CHAINED_FIXUPS}
 use Rattle.macho_records.specs.declared.constants.TheConstants.{LC_DYLD_EXPORTS_TRIE, LC_ID_DYLIB, LC_LOAD_DYLIB, LC_LOAD_DYLINKER, LC_MAIN, LC_RPATH, LC_SYMTAB, LC_UUID}
 use Rattle.macho_records.specs.declared.header.MachHeader.{MachHeader}
@@ -23,7 +21,7 @@ use Rattle.macho_model.specs.Placement.{Placed}
 use Rattle.macho_model.specs.Segments.{list_if}
 use Rattle.macho_model.specs.Head as head
 use Rattle.macho_model.specs.Head.{range_size, head_for}
-use Rattle.macho_model.specs.HeadCommands.{HeadCommand, segment_for, entry_point_for, uuid_for, versions_for, dylinker_for, dylib_for, needed_dylib_for, rpath_for}
+use Rattle.macho_model.specs.HeadCommands.{HeadCommand, segment_for, entry_point_for, uuid_for, versions_for, dylinker_for, dylib_for, needed_dylib_for, rpath_for, header_with}
 use Rattle.macho_model.specs.HeadCommands.{linkedit_for, symtab_for, commands_for, path_command_size, path_filled, DYLINKER}
 use Rattle.macho_model.specs.Addresses.{address_of}
 use Rattle.macho_model.specs.Targets.{target_of_name}
@@ -35,6 +33,8 @@ use Rattle.macho_commands.specs.Heads.{header_of_kind, head_text}
 use Rattle.macho_commands.specs.Laws.{HeadIsSpelled, HeadIsFoundAgain}
 use Rattle.macho_commands.proofs.HeadTexts.{found_said}
 use Rattle.macho_commands.proofs.LinkCommands.{length-uuid, length-path_text}
+use Rattle.macho_bytes.specs.Spellings.{spelling}
+use Rattle.macho_records.specs.Spellings.{mach_header_rows}
 
 -- the texts of commands that are made one like the other
 each_text : {X : Type 0} (f : X → HeadCommand) (g : X → List ℕ) (xs : List X) → ((x : X) → text_said (f x) ≡ g x)
@@ -113,7 +113,7 @@ name_text true name = ap (λ (t : List ℕ). t ∷ []) (path_said LC_LOAD_DYLINK
 name_text false name = ap (λ (t : List ℕ). t ∷ []) (path_said LC_ID_DYLIB (1 ∷ 0 ∷ 0 ∷ []) name)
 
 segments_text : (p : Placed) → map text_said (map (segment_for p) p.segments) ≡ map (head.segment_for p) p.segments
-unfolding text_said
+unfolding text_said spelling
 segments_text p = each_text (segment_for p) (head.segment_for p) p.segments (λ s. refl)
 
 libraries_text : (names : List (List ℕ)) → map text_said (map needed_dylib_for names)
@@ -193,16 +193,16 @@ length-joined : (texts : List (List ℕ)) → length (concat texts) ≡ sum_by l
 length-joined [] = refl
 length-joined (t ∷ texts) = omega (arith, length-joined texts, length-append t (concat texts), sum_by-cons length t texts)
 
-header-long : (h : MachHeader) → length (spelling mach_header h) ≡ 32
+header-long : (h : MachHeader) → length (spelling mach_header_rows h) ≡ 32
 unfolding spelling row_bytes le_bytes
 header-long h = refl
 
 -- THE head of a link
 pub head_spelled : HeadIsSpelled
-unfolding head_text head_for
+unfolding head_text head_for spelling
 head_spelled l counts uuid p trie kind commands executable locals are long =
-    ap (λ (h : MachHeader). spelling mach_header h ++ commands_text commands) header
-    ∙ ap (λ (t : List ℕ). spelling mach_header (head.header_for l p (length texts) (sum_by length texts)) ++ t) (sym all)
+    ap (λ (h : MachHeader). spelling mach_header_rows h ++ commands_text commands) header
+    ∙ ap (λ (t : List ℕ). spelling mach_header_rows (header_with l p (length texts) (sum_by length texts)) ++ t) (sym all)
   where
     texts : List (List ℕ)
     texts = head.commands_for l counts p uuid trie
@@ -221,7 +221,7 @@ head_spelled l counts uuid p trie kind commands executable locals are long =
         omega (
           arith,
           long,
-          length-append (spelling mach_header (header_of_kind kind commands)) (commands_text commands),
+          length-append (spelling mach_header_rows (header_of_kind kind commands)) (commands_text commands),
           header-long (header_of_kind kind commands),
           length-joined texts,
           ap length all,
@@ -230,7 +230,7 @@ head_spelled l counts uuid p trie kind commands executable locals are long =
     told : ℕ → ℕ → Bool → Bool → MachHeader
     told n bytes e t = record (header_of_kind (record { executable = e; thread_locals = t }) commands) { ncmds = n; sizeofcmds = bytes }
 
-    header : header_of_kind kind commands ≡ head.header_for l p (length texts) (sum_by length texts)
+    header : header_of_kind kind commands ≡ header_with l p (length texts) (sum_by length texts)
     header =
         ap (λ (n : ℕ). told n (commands_size commands) kind.executable kind.thread_locals) count
         ∙ ap (λ (n : ℕ). told (length texts) n kind.executable kind.thread_locals) size

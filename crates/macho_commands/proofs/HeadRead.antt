@@ -6,11 +6,11 @@ use Rattle.std.proofs.Common.{◌≡◌, Bool, true, false, List, [], ◌∷◌,
 use Rattle.macho_model.specs.declared.placed.PlacedSegment.{PlacedSegment}
 use Rattle.macho_model.specs.Placement.{Placed}
 use Rattle.macho_model.specs.Segments.{list_if}
-use Rattle.macho_model.specs.Agreement.{SegmentPlace, place_by_command, place_told}
 use Rattle.macho_model.specs.HeadCommands.{HeadCommand, segment_for, entry_point_for}
 use Rattle.macho_commands.specs.Laws.{HeadIsRead}
 use Rattle.macho_commands.proofs.Told.{segment_taken, entry_taken, segments-told, headers-told, entry-told, uuid-told, libraries-told}
 use Rattle.macho_commands.proofs.Told.{fixups-told, trie-told, symbols-told, strings-told, signature-told}
+use Rattle.macho_model.specs.steps.Agreement.{SegmentPlace, place_by_command, place_told}
 
 -- a segment's command tells the placed segment
 places_agree : (p : Placed) (segments : List PlacedSegment) → map place_by_command (map segment_taken (map (segment_for p) segments)) ≡

@@ -8,10 +8,8 @@ use Rattle.std.specs.Prelude.{sum_by}
 use Rattle.std.proofs.lemmas.List.{length-append, length-map}
 use Rattle.std.proofs.lemmas.List.Sums.{sum_by-cons}
 use Rattle.macho_bytes.specs.Texts.{put}
-use Rattle.macho_bytes.specs.Layouts.{spelling, ReadsBack}
 use Rattle.macho_bytes.proofs.Numbers.{stands-front, stands-back}
 use Rattle.macho_bytes.proofs.Puts.{put-put}
-use Rattle.macho_records.specs.Layouts.{mach_header}
 use Rattle.macho_records.specs.declared.header.MachHeader.{MachHeader}
 use Rattle.macho_model.specs.Commands.{header_of, commands_from, commands_of}
 use Rattle.macho_model.specs.HeadCommands.{HeadCommand, command_in, commands_in, size_said, header_for, commands_for}
@@ -21,34 +19,36 @@ use Rattle.macho_commands.specs.Commands.{said_by, size_of_command, commands_tex
 use Rattle.macho_commands.specs.Reading.{ListIsReadable}
 use Rattle.macho_commands.specs.Heads.{header_of_kind, head_text, HeadIsReadable}
 use Rattle.macho_commands.specs.Laws.{FoundIsSaid}
+use Rattle.macho_bytes.specs.Spellings.{spelling, ReadsBack}
+use Rattle.macho_records.specs.Spellings.{mach_header_rows}
 
 -- header and commands, put one behind the other
 pub head_put : (kind : ImageKind) (commands : List Command) (before headed now : List ℕ)
-    → ReadsBack mach_header (header_of_kind kind commands)
+    → ReadsBack mach_header_rows (header_of_kind kind commands)
     → length (commands_text commands) ≡ commands_size commands → 32 + commands_size commands ≤ length before
-    → headed ≡ put 0 (spelling mach_header (header_of_kind kind commands)) before → now ≡ put 32 (commands_text commands) headed
+    → headed ≡ put 0 (spelling mach_header_rows (header_of_kind kind commands)) before → now ≡ put 32 (commands_text commands) headed
     → now ≡ put 0 (head_text kind commands) before
 unfolding head_text
 head_put kind commands before headed now back long room first second =
     second ∙ ap (put 32 (commands_text commands)) first
-    ∙ put-put 0 32 (spelling mach_header (header_of_kind kind commands)) (commands_text commands) before (omega (arith, back.long))
+    ∙ put-put 0 32 (spelling mach_header_rows (header_of_kind kind commands)) (commands_text commands) before (omega (arith, back.long))
     (omega (arith, long))
 
-pub length-head : (kind : ImageKind) (commands : List Command) → ReadsBack mach_header (header_of_kind kind commands)
+pub length-head : (kind : ImageKind) (commands : List Command) → ReadsBack mach_header_rows (header_of_kind kind commands)
     → length (commands_text commands) ≡ commands_size commands → length (head_text kind commands) ≡ 32 + commands_size commands
 unfolding head_text
 length-head kind commands back long =
-    length-append (spelling mach_header (header_of_kind kind commands)) (commands_text commands)
+    length-append (spelling mach_header_rows (header_of_kind kind commands)) (commands_text commands)
     ∙ ap (λ (n : ℕ). n + length (commands_text commands)) back.long ∙ ap (λ (n : ℕ). 32 + n) long
 
 -- THE head is found
-pub head_readable : (kind : ImageKind) (commands : List Command) → ReadsBack mach_header (header_of_kind kind commands)
+pub head_readable : (kind : ImageKind) (commands : List Command) → ReadsBack mach_header_rows (header_of_kind kind commands)
     → ListIsReadable commands
     → HeadIsReadable kind commands
 unfolding head_text header_of commands_of commands_in
 head_readable kind commands back readable = record {
   found = λ b s.
-      let front : List ℕ = spelling mach_header (header_of_kind kind commands) in
+      let front : List ℕ = spelling mach_header_rows (header_of_kind kind commands) in
       let header : header_of b ≡ header_of_kind kind commands = back.back b 0 (stands-front b 0 front (commands_text commands) s) in
       let list = readable.found b 32 (stands-back b 0 32 front (commands_text commands) (omega (arith, back.long)) s) in
       record {

@@ -17,12 +17,12 @@ use Rattle.macho_model.specs.Commands.{commands_end}
 use Rattle.macho_model.specs.Segments.{TEXT, SEGMENT_PAGE, loaded_protection_of}
 use Rattle.macho_model.specs.Placement.{Placed, IsPaged, is_segment_named}
 use Rattle.macho_model.specs.Images.{segments_named, is_named}
-use Rattle.macho_model.specs.LoadRules.{text_holds_commands}
 use Rattle.macho_commands.specs.Laws.{HeadKeepsRules}
 use Rattle.macho_commands.proofs.Told.{segments-told}
 use Rattle.macho_commands.proofs.HeadRules.{and-true, ends-said, each-fits, head-fits}
 use Rattle.macho_commands.proofs.SegmentRules.{record_for, AreOf, are-of, each_tested, neighbours_follow, one_text, named-records}
 use Rattle.macho_commands.proofs.SegmentRules.{named_each}
+use Rattle.macho_model.specs.SegmentRules.{text_holds_commands}
 
 -- what the loader asks of a segment's record
 abbrev pub protected : SegmentCommand → Bool

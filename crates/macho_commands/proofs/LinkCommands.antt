@@ -2,7 +2,7 @@
 --
 -- A command has 8 bytes in front of what it says, and a row of numbers has as many bytes as its width times their count. A command with a
 -- path is filled to a multiple of 8. So the bytes of all commands of a link are a sum over its libraries and paths.
-use Rattle.std.proofs.Common.{◌≡◌, ℕ, ◌+◌, ◌*◌, ◌-◌, Bool, true, false, if◌then◌else◌, List, [], ◌∷◌, ◌++◌, length, map, replicate, slice_index, refl, sym, ap, ◌∙◌, arith, Option, Some, None}
+use Rattle.std.proofs.Common.{◌≡◌, ℕ, ◌+◌, ◌*◌, ◌-◌, Bool, true, false, if◌then◌else◌, List, [], ◌∷◌, ◌++◌, length, map, replicate, slice_index, refl, ◌∙◌, arith, Option, Some, None}
 use Rattle.std.specs.Prelude.{sum_by}
 use Rattle.std.specs.List.{concat}
 use Rattle.std.proofs.lemmas.List.{length-append, length-replicate}
@@ -14,9 +14,10 @@ use Rattle.macho_records.specs.declared.constants.TheConstants.{LC_BUILD_VERSION
 use Rattle.macho_model.specs.Links.{Link}
 use Rattle.macho_model.specs.Needs.{libraries_needed}
 use Rattle.macho_model.specs.Segments.{list_if}
-use Rattle.macho_model.specs.Signature.{uuid_byte, uuid_written}
+use Rattle.macho_model.specs.Signature.{uuid_written}
 use Rattle.macho_model.specs.Head.{command, path_command, versions_for, link_commands}
 use Rattle.macho_model.specs.HeadCommands.{path_command_size, own_commands_size, versions_size, DYLINKER}
+use Rattle.macho_model.specs.steps.Signature.{uuid_byte}
 
 pub length-uuid : (uuid : List ℕ) → length (uuid_written uuid) ≡ 16
 unfolding uuid_written

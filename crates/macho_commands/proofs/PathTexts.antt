@@ -5,9 +5,7 @@
 use Rattle.std.proofs.Common.{◌≡◌, ℕ, ◌+◌, ◌-◌, ◌≤◌, ◌⊎◌, List, ◌++◌, length, replicate, refl, sym, ap, subst, ◌∙◌, arith}
 use Rattle.std.proofs.lemmas.List.{length-append, length-replicate}
 use Rattle.macho_bytes.specs.Texts.{put}
-use Rattle.macho_bytes.specs.Layouts.{spelling, ReadsBack}
 use Rattle.macho_bytes.proofs.Puts.{put-put}
-use Rattle.macho_structs.specs.Layouts.{dylinker_command, dylib_command, rpath_command}
 use Rattle.macho_structs.specs.declared.commands.DylinkerCommand.{DylinkerCommand}
 use Rattle.macho_structs.specs.declared.commands.DylibCommand.{DylibCommand}
 use Rattle.macho_structs.specs.declared.commands.RpathCommand.{RpathCommand}
@@ -17,6 +15,8 @@ use Rattle.macho_model.specs.HeadCommands.{HeadCommand, dylinker_for, dylib_for,
 use Rattle.macho_commands.specs.Texts.{text_said}
 use Rattle.macho_commands.specs.Reading.{IsReadable}
 use Rattle.macho_commands.proofs.Readable.{dylinker_readable, dylib_readable, rpath_readable}
+use Rattle.macho_bytes.specs.Spellings.{spelling, ReadsBack}
+use Rattle.macho_structs.specs.Spellings.{dylinker_command_rows, dylib_command_rows, rpath_command_rows}
 
 -- the bytes of a path with its zeros
 pub length-filled : (front : ℕ) (path : List ℕ) → front + length (path_filled front path) ≡ path_command_size front path
@@ -65,16 +65,16 @@ rpath_sized n = record { cmd = LC_RPATH; cmdsize = n; name_offset = 12 }
 
 pub dylinker_done : (n at : ℕ) (before headed now : List ℕ) → n ≡ path_command_size 12 DYLINKER
     → at + path_command_size 12 DYLINKER ≤ length before
-    → ReadsBack dylinker_command (dylinker_sized n) → headed ≡ put at (spelling dylinker_command (dylinker_sized n)) before
+    → ReadsBack dylinker_command_rows (dylinker_sized n) → headed ≡ put at (spelling dylinker_command_rows (dylinker_sized n)) before
     → now ≡ put (at + 12) (path_filled 12 DYLINKER) headed → Done dylinker_for (path_command_size 12 DYLINKER) at before now
 unfolding text_said
 dylinker_done n at before headed now sized room reads first second =
-    let back : ReadsBack dylinker_command (dylinker_sized (path_command_size 12 DYLINKER)) =
-    subst (λ (k : ℕ). ReadsBack dylinker_command (dylinker_sized k)) sized reads in
-    let text : List ℕ = spelling dylinker_command (dylinker_sized (path_command_size 12 DYLINKER)) in
+    let back : ReadsBack dylinker_command_rows (dylinker_sized (path_command_size 12 DYLINKER)) =
+    subst (λ (k : ℕ). ReadsBack dylinker_command_rows (dylinker_sized k)) sized reads in
+    let text : List ℕ = spelling dylinker_command_rows (dylinker_sized (path_command_size 12 DYLINKER)) in
     record {
       written = path_written at 12 text DYLINKER before headed now back.long room
-          (first ∙ ap (λ (k : ℕ). put at (spelling dylinker_command (dylinker_sized k)) before) sized) second;
+          (first ∙ ap (λ (k : ℕ). put at (spelling dylinker_command_rows (dylinker_sized k)) before) sized) second;
       long = length-path_written 12 text DYLINKER back.long;
       readable = dylinker_readable (dylinker_sized (path_command_size 12 DYLINKER)) (path_filled 12 DYLINKER) refl
           (sym (length-filled 12 DYLINKER)) back;
@@ -82,35 +82,35 @@ dylinker_done n at before headed now sized room reads first second =
 
 pub dylib_done : (number time current compatible : ℕ) (path : List ℕ) (n at : ℕ) (before headed now : List ℕ)
     → (number ≡ LC_ID_DYLIB) ⊎ (number ≡ LC_LOAD_DYLIB) → n ≡ path_command_size 24 path → at + path_command_size 24 path ≤ length before
-    → ReadsBack dylib_command (dylib_sized number time current compatible n)
-    → headed ≡ put at (spelling dylib_command (dylib_sized number time current compatible n)) before
+    → ReadsBack dylib_command_rows (dylib_sized number time current compatible n)
+    → headed ≡ put at (spelling dylib_command_rows (dylib_sized number time current compatible n)) before
     → now ≡ put (at + 24) (path_filled 24 path) headed
     → Done (dylib_for number time current compatible path) (path_command_size 24 path) at before now
 unfolding text_said
 dylib_done number time current compatible path n at before headed now known sized room reads first second =
     let told : ℕ → DylibCommand = dylib_sized number time current compatible in
-    let back : ReadsBack dylib_command (told (path_command_size 24 path)) = subst (λ (k : ℕ). ReadsBack dylib_command (told k)) sized
+    let back : ReadsBack dylib_command_rows (told (path_command_size 24 path)) = subst (λ (k : ℕ). ReadsBack dylib_command_rows (told k)) sized
     reads in
-    let text : List ℕ = spelling dylib_command (told (path_command_size 24 path)) in
+    let text : List ℕ = spelling dylib_command_rows (told (path_command_size 24 path)) in
     record {
       written = path_written at 24 text path before headed now back.long room
-          (first ∙ ap (λ (k : ℕ). put at (spelling dylib_command (told k)) before) sized) second;
+          (first ∙ ap (λ (k : ℕ). put at (spelling dylib_command_rows (told k)) before) sized) second;
       long = length-path_written 24 text path back.long;
       readable = dylib_readable (told (path_command_size 24 path)) (path_filled 24 path) known (sym (length-filled 24 path)) back;
     }
 
 pub rpath_done : (path : List ℕ) (n at : ℕ) (before headed now : List ℕ) → n ≡ path_command_size 12 path
     → at + path_command_size 12 path ≤ length before
-    → ReadsBack rpath_command (rpath_sized n) → headed ≡ put at (spelling rpath_command (rpath_sized n)) before
+    → ReadsBack rpath_command_rows (rpath_sized n) → headed ≡ put at (spelling rpath_command_rows (rpath_sized n)) before
     → now ≡ put (at + 12) (path_filled 12 path) headed → Done (rpath_for path) (path_command_size 12 path) at before now
 unfolding text_said
 rpath_done path n at before headed now sized room reads first second =
-    let back : ReadsBack rpath_command (rpath_sized (path_command_size 12 path)) = subst
-    (λ (k : ℕ). ReadsBack rpath_command (rpath_sized k)) sized reads in
-    let text : List ℕ = spelling rpath_command (rpath_sized (path_command_size 12 path)) in
+    let back : ReadsBack rpath_command_rows (rpath_sized (path_command_size 12 path)) = subst
+    (λ (k : ℕ). ReadsBack rpath_command_rows (rpath_sized k)) sized reads in
+    let text : List ℕ = spelling rpath_command_rows (rpath_sized (path_command_size 12 path)) in
     record {
       written = path_written at 12 text path before headed now back.long room
-          (first ∙ ap (λ (k : ℕ). put at (spelling rpath_command (rpath_sized k)) before) sized) second;
+          (first ∙ ap (λ (k : ℕ). put at (spelling rpath_command_rows (rpath_sized k)) before) sized) second;
       long = length-path_written 12 text path back.long;
       readable = rpath_readable (rpath_sized (path_command_size 12 path)) (path_filled 12 path) refl (sym (length-filled 12 path)) back;
     }

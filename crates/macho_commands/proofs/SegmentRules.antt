@@ -17,10 +17,10 @@ use Rattle.macho_model.specs.Links.{Link}
 use Rattle.macho_model.specs.Segments.{TEXT, segment_rank}
 use Rattle.macho_model.specs.Placement.{Placed, is_segment_named, Follows}
 use Rattle.macho_model.specs.Images.{segments_of, is_named}
-use Rattle.macho_model.specs.LoadRules.{begins_behind}
 use Rattle.macho_model.specs.HeadCommands.{segment_for}
 use Rattle.macho_model.specs.Lists.{EachNext}
 use Rattle.macho_commands.proofs.Told.{segment_taken}
+use Rattle.macho_model.specs.SegmentRules.{begins_behind}
 
 -- the record of a placed segment
 abbrev pub record_for : Placed → PlacedSegment → SegmentCommand

@@ -12,14 +12,14 @@ use Rattle.std.proofs.lemmas.Bool.{cases_lt}
 use Rattle.std.proofs.lemmas.List.{length-append, take_all, get_or_default}
 use Rattle.std.proofs.lemmas.List.Sums.{sum_by_more, sum_by_more_le}
 use Rattle.macho_bytes.specs.Texts.{put}
-use Rattle.macho_bytes.specs.Layouts.{spelling, ReadsBack}
 use Rattle.macho_bytes.proofs.Puts.{length-put}
 use Rattle.macho_bytes.proofs.Sequences.{MoreTexts, texts_begin, texts_go_on, texts_end}
-use Rattle.macho_records.specs.Layouts.{section_header}
 use Rattle.macho_records.specs.declared.header.SectionHeader.{SectionHeader}
 use Rattle.macho_commands.specs.declared.command.Command.{Command}
 use Rattle.macho_commands.specs.Commands.{text_of, size_of_command}
 use Rattle.macho_commands.specs.steps.Writing.{EachReadsBack}
+use Rattle.macho_bytes.specs.Spellings.{spelling, ReadsBack}
+use Rattle.macho_records.specs.Spellings.{section_header_rows}
 
 -- texts of one length joined end to end
 pub length-flat_map_same : {X : Type 0} (f : X → List ℕ) (w : ℕ) (xs : List X)
@@ -32,44 +32,44 @@ length-flat_map_same f w (x ∷ xs) each =
 
 -- the first i of some headers are put, one behind the other
 pub record HeadersSoFar (at place i : ℕ) (headers : List SectionHeader) (before now : List ℕ) : Type 0 where
-  pub texts : MoreTexts (spelling section_header) at place (take i headers) before now
+  pub texts : MoreTexts (spelling section_header_rows) at place (take i headers) before now
   pub here : place ≡ at + 80 * i
-  pub each : (k : ℕ) (d : SectionHeader) → k < i → ReadsBack section_header (get_or headers k d)
+  pub each : (k : ℕ) (d : SectionHeader) → k < i → ReadsBack section_header_rows (get_or headers k d)
 
 pub headers_begin : (at : ℕ) (headers : List SectionHeader) (out : List ℕ) → at ≤ length out → HeadersSoFar at at 0 headers out out
 headers_begin at headers out fits = record {
-  texts = record { written = texts_begin (spelling section_header) at out fits; ends = omega arith };
+  texts = record { written = texts_begin (spelling section_header_rows) at out fits; ends = omega arith };
   here = omega arith;
   each = λ k d lt. absurd (omega arith);
 }
 
 pub headers_go_on : (at place i : ℕ) (headers : List SectionHeader) (d : SectionHeader) (before out now : List ℕ) → i < length headers
-    → at + 80 * length headers ≤ length before → HeadersSoFar at place i headers before out → ReadsBack section_header (get_or headers i d)
-    → now ≡ put place (spelling section_header (get_or headers i d)) out → HeadersSoFar at (place + 80) (i + 1) headers before now
+    → at + 80 * length headers ≤ length before → HeadersSoFar at place i headers before out → ReadsBack section_header_rows (get_or headers i d)
+    → now ≡ put place (spelling section_header_rows (get_or headers i d)) out → HeadersSoFar at (place + 80) (i + 1) headers before now
 headers_go_on at place i headers d before out now lt room so_far back is =
     let step : 80 * (i + 1) ≤ 80 * length headers = omega arith in
-    let long : length (spelling section_header (get_or headers i d)) ≡ 80 = back.long in
+    let long : length (spelling section_header_rows (get_or headers i d)) ≡ 80 = back.long in
     record {
-      texts = texts_go_on (spelling section_header) at place (place + 80) i headers (get_or headers i d) before out now lt
+      texts = texts_go_on (spelling section_header_rows) at place (place + 80) i headers (get_or headers i d) before out now lt
           (get_or_default headers i d (get_or headers i d) lt) so_far.texts (omega (arith, long)) (omega (arith, so_far.here)) is;
       here = omega (arith, so_far.here);
       each = λ k e below. elim (cases_lt k i) [
         | inl less ↦ so_far.each k e less
         | inr last ↦
             let same : k ≡ i = omega arith in
-            let Back : ℕ → Type 0 = λ n. ReadsBack section_header (get_or headers n e) in
-            subst Back (sym same) (subst (ReadsBack section_header) (get_or_default headers i d e lt) back)
+            let Back : ℕ → Type 0 = λ n. ReadsBack section_header_rows (get_or headers n e) in
+            subst Back (sym same) (subst (ReadsBack section_header_rows) (get_or_default headers i d e lt) back)
       ];
     }
 
 pub headers_end : (at place i : ℕ) (headers : List SectionHeader) (before now : List ℕ) → length headers ≤ i
     → HeadersSoFar at place i headers before now
-    → (now ≡ put at (flat_map (spelling section_header) headers) before)
-    × (length (flat_map (spelling section_header) headers) ≡ 80 * length headers)
-    × EachReadsBack section_header headers
+    → (now ≡ put at (flat_map (spelling section_header_rows) headers) before)
+    × (length (flat_map (spelling section_header_rows) headers) ≡ 80 * length headers)
+    × EachReadsBack section_header_rows headers
 headers_end at place i headers before now past so_far = (
-  (texts_end (spelling section_header) at place i headers before now past so_far.texts).written,
-  length-flat_map_same (spelling section_header) 80 headers (λ k d lt. (so_far.each k d (omega arith)).long),
+  (texts_end (spelling section_header_rows) at place i headers before now past so_far.texts).written,
+  length-flat_map_same (spelling section_header_rows) 80 headers (λ k d lt. (so_far.each k d (omega arith)).long),
   record { each = λ k d lt. so_far.each k d (omega arith) },
 )
 

@@ -10,7 +10,7 @@ use Rattle.std.proofs.lemmas.List.{append-nil}
 use Rattle.std.proofs.lemmas.List.Folds.{flat_map-map}
 use Rattle.macho_bytes.specs.Layouts.{reading, size_of}
 use Rattle.macho_bytes.specs.Texts.{name_of}
-use Rattle.macho_records.specs.Layouts.{segment_command, symtab_command, symtab_entry}
+use Rattle.macho_records.specs.Layouts.{segment_command, symtab_entry}
 use Rattle.macho_structs.specs.Layouts.{entry_point_command, dylib_command, uuid_command}
 use Rattle.macho_records.specs.declared.header.SegmentCommand.{SegmentCommand}
 use Rattle.macho_records.specs.declared.header.SectionHeader.{SectionHeader}
@@ -25,8 +25,8 @@ use Rattle.macho_model.specs.Placement.{Placed}
 use Rattle.macho_model.specs.Segments.{list_if}
 use Rattle.macho_model.specs.Commands.{Command, numbered, path_of}
 use Rattle.macho_model.specs.Agreement.{section_headers_at, section_headers_of}
-use Rattle.macho_model.specs.Images.{segments_of, Table, table_of_command, tables_of, tries_of, signatures_of, symbols_range}
-use Rattle.macho_model.specs.Images.{strings_range, symbol_tables_of, string_tables_of, entries_of_file, libraries_of}
+use Rattle.macho_model.specs.Images.{segments_of, Table, table_of_command, tables_of, tries_of, signatures_of}
+use Rattle.macho_model.specs.Images.{symbol_tables_of, string_tables_of, entries_of_file, libraries_of}
 use Rattle.macho_model.specs.Signature.{uuid_written}
 use Rattle.macho_model.specs.Head.{headers_in}
 use Rattle.macho_model.specs.HeadCommands.{HeadCommand, Segment, EntryPoint, Uuid, Dylib, LinkeditData, Symtab, segment_for}
@@ -37,11 +37,13 @@ use Rattle.macho_model.specs.HeadCommands.{commands_in, behind}
 use Rattle.macho_commands.proofs.Numbered.{in_segment, in_entry_point, in_uuid, in_dylib, in_symtab, in_linkedit}
 use Rattle.macho_commands.proofs.Walked.{said_with, chosen_in}
 use Rattle.macho_commands.proofs.Listed.{pieces-are, all_kept, none_kept, entry_kept, entry_dropped}
+use Rattle.macho_records.specs.Spellings.{segment_command_rows, symtab_command_rows}
+use Rattle.macho_model.specs.steps.Images.{symbols_range, strings_range}
 
 -- what is taken of a command
 abbrev pub segment_taken : HeadCommand → SegmentCommand
 segment_taken (Segment command headers) = command
-segment_taken _ = segment_command.blank
+segment_taken _ = segment_command_rows.blank
 
 abbrev pub headers_taken : HeadCommand → List SectionHeader
 headers_taken (Segment command headers) = headers
@@ -57,7 +59,7 @@ uuid_taken _ = []
 
 abbrev pub symtab_taken : HeadCommand → SymtabCommand
 symtab_taken (Symtab command) = command
-symtab_taken _ = symtab_command.blank
+symtab_taken _ = symtab_command_rows.blank
 
 abbrev pub table_taken : HeadCommand → Table
 table_taken (LinkeditData command) = record { at = command.dataoff; size = command.datasize }

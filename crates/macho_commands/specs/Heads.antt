@@ -1,8 +1,6 @@
 -- The head of an image: its header, and the load commands behind it (`mach-o/loader.h`).
 use Rattle.std.specs.Prelude.{◌≡◌, ℕ, ◌+◌, if◌then◌else◌, List, ◌++◌, length, map}
 use Rattle.macho_bytes.specs.Texts.{Stands}
-use Rattle.macho_bytes.specs.Layouts.{spelling}
-use Rattle.macho_records.specs.Layouts.{mach_header}
 use Rattle.macho_records.specs.declared.constants.TheConstants.{CPU_SUBTYPE_ARM64_ALL, CPU_TYPE_ARM64, MH_DYLDLINK, MH_DYLIB, MH_EXECUTE, MH_HAS_TLV_DESCRIPTORS, MH_MAGIC_64, MH_NOUNDEFS, MH_PIE, MH_TWOLEVEL}
 use Rattle.macho_records.specs.declared.header.MachHeader.{MachHeader}
 use Rattle.macho_model.specs.Commands.{header_of}
@@ -10,6 +8,8 @@ use Rattle.macho_model.specs.HeadCommands.{commands_in}
 use Rattle.macho_commands.specs.declared.head.ImageKind.{ImageKind}
 use Rattle.macho_commands.specs.declared.command.Command.{Command}
 use Rattle.macho_commands.specs.Commands.{said_by, commands_text, commands_size}
+use Rattle.macho_bytes.specs.Spellings.{spelling}
+use Rattle.macho_records.specs.Spellings.{mach_header_rows}
 
 -- no name is left undefined, for the dynamic linker, by two levels of names; an executable may be slid
 abbrev pub flags_of : ImageKind → ℕ
@@ -30,7 +30,7 @@ header_of_kind kind commands = record {
 }
 
 unfoldable pub head_text : ImageKind → List Command → List ℕ
-head_text kind commands = spelling mach_header (header_of_kind kind commands) ++ commands_text commands
+head_text kind commands = spelling mach_header_rows (header_of_kind kind commands) ++ commands_text commands
 
 -- a file says the header, and what each of the commands does
 pub record HeadIsFound (kind : ImageKind) (commands : List Command) (b : List ℕ) : Type 0 where

@@ -13,20 +13,22 @@ use Rattle.macho_model.specs.Links.{Link}
 use Rattle.macho_model.specs.Needs.{libraries_needed}
 use Rattle.macho_model.specs.Targets.{target_of_name}
 use Rattle.macho_model.specs.Segments.{TEXT, list_if}
-use Rattle.macho_model.specs.Placement.{Placed, IsInOrder, is_segment_named}
+use Rattle.macho_model.specs.Placement.{Placed, is_segment_named}
+use Rattle.macho_model.specs.Spans.{IsInOrder}
 use Rattle.macho_model.specs.Addresses.{address_of}
 use Rattle.macho_model.specs.Images.{segments_of, segments_named, tables_of, tries_of, signatures_of, symbol_tables_of, string_tables_of, entries_of_file, libraries_of}
-use Rattle.macho_model.specs.LoadRules.{image_head_fits, needed_in_image, protections_fit, file_part_inside, segment_is_paged, segment_ends, begins_behind, text_holds_commands}
+use Rattle.macho_model.specs.LoadRules.{image_head_fits, needed_in_image, protections_fit}
 use Rattle.macho_model.specs.Agreement.{SegmentsAgree, section_headers_of, table_of_range}
 use Rattle.macho_model.specs.Signature.{UuidSays}
 use Rattle.macho_model.specs.Head as head
-use Rattle.macho_model.specs.Head.{headers_in, describes_thread_locals, head_for, HeadSays}
-use Rattle.macho_model.specs.HeadCommands.{commands_in, commands_for, CommandsSay}
+use Rattle.macho_model.specs.Head.{headers_in, head_for, HeadSays}
+use Rattle.macho_model.specs.HeadCommands.{commands_in, commands_for, CommandsSay, describes_thread_locals}
 use Rattle.macho_model.specs.Lists.{EachNext}
 use Rattle.macho_commands.specs.declared.head.ImageKind.{ImageKind}
 use Rattle.macho_commands.specs.declared.command.Command.{Command}
 use Rattle.macho_commands.specs.Commands.{said_by, commands_size}
 use Rattle.macho_commands.specs.Heads.{head_text, HeadIsFound, HeadIsReadable}
+use Rattle.macho_model.specs.SegmentRules.{segment_ends, begins_behind, file_part_inside, segment_is_paged, text_holds_commands}
 
 -- What the readings of a file find of a link's load commands, with an exports trie of so many bytes.
 pub record HeadReads (l : Link) (counts : Counts) (uuid b : List ℕ) (p : Placed) (trie : ℕ) : Type 0 where

@@ -2,12 +2,13 @@
 ghost use Rattle.std.specs.Prelude.{◌≡◌, ◌+◌, ◌*◌, ◌<◌, ◌≤◌, ◌^◌, length};
 ghost use Rattle.std.specs.List.{flat_map};
 ghost use Rattle.macho_bytes.specs.Texts.{put};
-ghost use Rattle.macho_bytes.specs.Layouts.{spelling};
 ghost use Rattle.macho_records.specs.Layouts.{section_header};
 ghost use Rattle.macho_commands.specs.Texts.{text_said};
 ghost use Rattle.macho_commands.specs.Commands.{segment_said};
 ghost use Rattle.macho_commands.specs.Reading.{IsReadable};
 ghost use Rattle.macho_commands.specs.steps.Writing.{EachReadsBack};
+ghost use Rattle.macho_bytes.specs.Spellings.{spelling};
+ghost use Rattle.macho_records.specs.Spellings.{section_header_rows};
 
 use macho_model::PlacedSegment;
 use macho_records::{LC_SEGMENT_64, SectionHeader, SegmentCommand};
@@ -47,9 +48,9 @@ pub(crate) fn write_segment(
 /// Writes section headers one behind the other.
 fn write_headers(headers: &[SectionHeader], out: &mut [u8], at: usize)
     requires { at + 80 * length headers.now ≤ length out.old }
-    ensures written { out.new ≡ put at (flat_map (spelling section_header) headers.now) out.old }
-    ensures long { length (flat_map (spelling section_header) headers.now) ≡ 80 * length headers.now }
-    ensures back { EachReadsBack section_header headers.now }
+    ensures written { out.new ≡ put at (flat_map (spelling section_header_rows) headers.now) out.old }
+    ensures long { length (flat_map (spelling section_header_rows) headers.now) ≡ 80 * length headers.now }
+    ensures back { EachReadsBack section_header_rows headers.now }
 {
     let mut place = at;
     for header in headers {

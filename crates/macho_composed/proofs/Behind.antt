@@ -7,10 +7,12 @@ use Rattle.macho_model.specs.declared.placed.Counts.{Counts}
 use Rattle.macho_model.specs.declared.placed.PlacedSegment.{PlacedSegment}
 use Rattle.macho_model.specs.declared.placed.Range64.{Range64}
 use Rattle.macho_model.specs.Links.{Link}
-use Rattle.macho_model.specs.Placement.{Placed, Span, AreApart, range_span, linkedit_ranges}
+use Rattle.macho_model.specs.Placement.{Placed, linkedit_ranges}
+use Rattle.macho_model.specs.Zeros.{Span}
+use Rattle.macho_model.specs.Spans.{AreApart, range_span}
 use Rattle.macho_model.specs.Lists.{of_first}
 use Rattle.macho_model.specs.Addresses.{offset_in_file}
-use Rattle.macho_model.specs.Zeros.{in_file}
+use Rattle.macho_model.specs.Spans.{in_file}
 use Rattle.macho_fixups.specs.declared.run.Fixup.{Fixup}
 use Rattle.macho_model.proofs.EachBelow.{and_right}
 use Rattle.macho_lists.proofs.Members.{contains_first, filter_contains, all_contains}
@@ -32,7 +34,7 @@ unfolding offset_in_file
 offset_low l counts p n a g = by (filter (λ (t : PlacedSegment). nat_le t.address a && nat_lt a (t.address + t.file_size)) p.segments) refl
   where
     ends : All (λ (s : PlacedSegment). s.file_offset + s.file_size ≤ p.linkedit.signature.end) p.segments
-    ends = file_parts_end l counts p g.placed.in_order.follow g.laid_out
+    ends = file_parts_end l counts p g.placed.follow g.laid_out
 
     by : (found : List PlacedSegment)
         → filter (λ (t : PlacedSegment). nat_le t.address a && nat_lt a (t.address + t.file_size)) p.segments ≡ found

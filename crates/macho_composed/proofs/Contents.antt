@@ -15,9 +15,11 @@ use Rattle.macho_model.specs.declared.placed.PlacedSection.{PlacedSection}
 use Rattle.macho_model.specs.declared.placed.Slot.{Slot}
 use Rattle.macho_model.specs.declared.placed.Stub.{Stub}
 use Rattle.macho_model.specs.Links.{Link}
-use Rattle.macho_model.specs.Placement.{Placed, Span, AreApart, IsPlaced, section_span, slot_span, stub_span}
+use Rattle.macho_model.specs.Placement.{Placed, IsPlaced}
+use Rattle.macho_model.specs.Zeros.{Span}
+use Rattle.macho_model.specs.Spans.{AreApart, section_span, slot_span, stub_span, filled_sections}
 use Rattle.macho_model.specs.Addresses.{offset_in_file}
-use Rattle.macho_model.specs.Zeros.{in_file, filled_sections}
+use Rattle.macho_model.specs.Spans.{in_file}
 use Rattle.macho_model.specs.Needs.{POINTER_SIZE}
 use Rattle.macho_fixups.specs.declared.run.Fixup.{Fixup}
 use Rattle.macho_lists.proofs.Orders.{EachLater, later_pairs}

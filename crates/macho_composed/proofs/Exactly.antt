@@ -3,11 +3,11 @@ use Rattle.std.proofs.Common.{◌≡◌, ℕ, suc, ◌<◌, ◌≤◌, ◌⊎◌
 use Rattle.std.proofs.lemmas.Bool.{cases_lt}
 use Rattle.std.proofs.lemmas.List.Elements.{All-nil, All-cons}
 use Rattle.macho_bytes.specs.Texts.{Part, IsOutside}
-use Rattle.macho_model.specs.Placement.{Span}
-use Rattle.macho_model.specs.Zeros.{IsOutsideSpan}
+use Rattle.macho_model.specs.Zeros.{Span}
 use Rattle.macho_lists.proofs.Members.{contains_first, contains_later, contains_cases, nil_contains}
 use Rattle.macho_ranges.specs.Parts.{LiesInRange, LieInRanges}
 use Rattle.macho_filling.specs.Filled.{ArePartsOf}
+use Rattle.macho_model.specs.Spans.{IsOutsideSpan}
 
 -- parts fill ranges, one by one; an empty part stands anywhere
 abbrev pub Fills : Part → Span → Type 0

@@ -6,7 +6,7 @@ use Rattle.std.proofs.lemmas.Bool.{cases_lt}
 use Rattle.std.proofs.lemmas.List.Sums.{sum_by-cons}
 use Rattle.std.proofs.lemmas.List.{length-append, length-map, get_or_append_left, get_or-append-add}
 use Rattle.std.proofs.lemmas.List.Edits.{get_or-between}
-use Rattle.macho_bytes.specs.Layouts.{spelling, size_of, ReadsBack}
+use Rattle.macho_bytes.specs.Layouts.{size_of}
 use Rattle.macho_bytes.specs.Texts.{Part, end_of, Stands}
 use Rattle.macho_bytes.proofs.Puts.{stands_by_bytes}
 use Rattle.macho_records.specs.Layouts.{symtab_entry, mach_header}
@@ -26,6 +26,8 @@ use Rattle.macho_linkedit.proofs.Rows.{names_long, name_size}
 use Rattle.macho_sealing.specs.Heads.{AreHeadParts, head_bytes}
 use Rattle.macho_sealing.specs.declared.commands.HeadParts.{HeadParts}
 use Rattle.macho_sealing.proofs.Joined.{parts_said}
+use Rattle.macho_bytes.specs.Spellings.{spelling, ReadsBack}
+use Rattle.macho_records.specs.Spellings.{symtab_entry_rows}
 
 entries_long : (place : ℕ) (rows : List SymbolRow) → length (entries_from place rows) ≡ length rows
 entries_long place [] = refl
@@ -61,9 +63,9 @@ strings_counted l counts p t counted has =
     let long : length t.strings ≡ length (strings_of_rows (map (row_of l counts p) (table_symbols l))) = ap length has.strings_are in
     omega (arith, rows, told, long)
 
-pub symbols_long : (entries : List SymtabEntry) → All (ReadsBack symtab_entry) entries
-    → length (flat_map (spelling symtab_entry) entries) ≡ size_of symtab_entry * length entries
-symbols_long entries back = length-flat_map_same (spelling symtab_entry) (size_of symtab_entry) entries (λ i d lt. (back i d lt).long)
+pub symbols_long : (entries : List SymtabEntry) → All (ReadsBack symtab_entry_rows) entries
+    → length (flat_map (spelling symtab_entry_rows) entries) ≡ size_of symtab_entry * length entries
+symbols_long entries back = length-flat_map_same (spelling symtab_entry_rows) (size_of symtab_entry) entries (λ i d lt. (back i d lt).long)
 
 -- the load commands that a file tells end where the text of its head does
 pub head_ends : (l : Link) (counts : Counts) (uuid : List ℕ) (p : Placed) (h : HeadParts) (trie : ℕ) (b : List ℕ)

@@ -6,17 +6,19 @@
 use Rattle.std.proofs.Common.{◌≡◌, ℕ, ◌+◌, ◌-◌, ◌*◌, ◌/◌, ◌^◌, ◌≤◌, List, [], ◌∷◌, length, drop, replicate, refl, sym, ap, subst, ◌∙◌}
 use Rattle.std.proofs.Common.{arith}
 use Rattle.std.specs.List.{flat_map}
-use Rattle.macho_bytes.specs.Layouts.{spelling, size_of}
+use Rattle.macho_bytes.specs.Layouts.{size_of}
 use Rattle.macho_bytes.specs.Texts.{Part, Stands, put}
 use Rattle.macho_bytes.proofs.Numbers.{stands-front}
 use Rattle.macho_records.specs.Layouts.{symtab_entry}
 use Rattle.macho_model.specs.declared.placed.Counts.{Counts}
 use Rattle.macho_model.specs.Links.{Link}
-use Rattle.macho_model.specs.Placement.{Placed, range_span}
+use Rattle.macho_model.specs.Placement.{Placed}
+use Rattle.macho_model.specs.Spans.{range_span}
 use Rattle.macho_model.specs.Images.{fixups_header}
 use Rattle.macho_model.specs.Head.{HeadSays, range_size}
 use Rattle.macho_model.specs.HeadCommands.{CommandsSay}
-use Rattle.macho_model.specs.OutputSections.{POINTER_EXPONENT, piece}
+use Rattle.macho_model.specs.steps.Outputs.{POINTER_EXPONENT}
+use Rattle.macho_model.specs.Spans.{piece}
 use Rattle.macho_model.specs.WrittenSum.{SYMBOL_SIZE}
 use Rattle.macho_model.specs.SymbolEntries.{SymbolsSay}
 use Rattle.macho_model.specs.Zeros.{IsZeroElsewhere}
@@ -43,6 +45,8 @@ use Rattle.macho_composed.proofs.Standing.{are_standing}
 use Rattle.macho_composed.proofs.Behind.{TablesBegin}
 use Rattle.macho_composed.proofs.Zeros.{AreTold, zero_elsewhere}
 use Rattle.macho_composed.proofs.Lengths.{symbols_counted, strings_counted, symbols_long, head_ends, stands_joined}
+use Rattle.macho_bytes.specs.Spellings.{spelling}
+use Rattle.macho_records.specs.Spellings.{symtab_entry_rows}
 
 -- the laws that are called
 pub record PartLaws : Type 0 where
@@ -156,7 +160,7 @@ symbols_say laws l counts uuid p b ready w seen =
 
     text : Stands b (record { at = p.linkedit.symtab.start; text = table_text m.table })
     text =
-        stands_joined b p.linkedit.symtab.start p.linkedit.strtab.start (flat_map (spelling symtab_entry) m.table.entries)
+        stands_joined b p.linkedit.symtab.start p.linkedit.strtab.start (flat_map (spelling symtab_entry_rows) m.table.entries)
         m.table.strings
         (next ∙ ap (λ (n : ℕ). p.linkedit.symtab.start + n) (sym (symbols_long m.table.entries m.back)))
         (subst (λ (t : List ℕ). Stands b (record { at = p.linkedit.symtab.start; text = t })) m.entries_are

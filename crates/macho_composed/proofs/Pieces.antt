@@ -4,7 +4,8 @@ use Rattle.std.proofs.lemmas.List.{append-nil, length-replicate}
 use Rattle.std.proofs.lemmas.List.Elements.{All-nil, All-cons, Contains-append_right}
 use Rattle.macho_bytes.specs.Texts.{put, Part}
 use Rattle.macho_bytes.specs.Images.{zeros}
-use Rattle.macho_model.specs.Placement.{Span, AreApart}
+use Rattle.macho_model.specs.Zeros.{Span}
+use Rattle.macho_model.specs.Spans.{AreApart}
 use Rattle.macho_lists.proofs.Members.{all_contains, contains_first}
 use Rattle.macho_lists.proofs.Orders.{EachLater}
 use Rattle.macho_ranges.specs.Parts.{written, LiesInRange, LieInRanges, IsMadeOf}

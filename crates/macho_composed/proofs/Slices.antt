@@ -6,7 +6,7 @@ use Rattle.std.proofs.lemmas.List.Edits.{length-between, get_or-between}
 use Rattle.std.proofs.lemmas.List.{get_or_append_left, length-append}
 use Rattle.std.proofs.lemmas.List.Elements.{All-nil, All-cons}
 use Rattle.macho_bytes.specs.Texts.{Part, end_of, Stands}
-use Rattle.macho_model.specs.Placement.{Span}
+use Rattle.macho_model.specs.Zeros.{Span}
 use Rattle.macho_ranges.specs.Parts.{part_now}
 use Rattle.macho_composed.proofs.Exactly.{Fills, FillRanges}
 

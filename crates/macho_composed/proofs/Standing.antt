@@ -12,9 +12,9 @@ use Rattle.macho_model.specs.declared.placed.PlacedSection.{PlacedSection}
 use Rattle.macho_model.specs.declared.placed.Stub.{Stub}
 use Rattle.macho_model.specs.Links.{Link, header_at}
 use Rattle.macho_model.specs.WrittenSum.{STUB_SIZE}
-use Rattle.macho_model.specs.Placement.{Placed, Span, id_of}
+use Rattle.macho_model.specs.Placement.{Placed, id_of}
+use Rattle.macho_model.specs.Zeros.{Span}
 use Rattle.macho_model.specs.Addresses.{offset_in_file}
-use Rattle.macho_model.specs.Zeros.{filled_sections}
 use Rattle.macho_fixups.specs.declared.run.Fixup.{Fixup}
 use Rattle.macho_fixups.specs.Chains.{AllStand}
 use Rattle.macho_lists.proofs.Members.{all_contains, contains_all, contains_map, contains_filter}
@@ -32,6 +32,7 @@ use Rattle.macho_composed.proofs.Slices.{text_in, slices_same, byte_same, now_fi
 use Rattle.macho_composed.proofs.Contents.{Grounds, section_ranges, slot_ranges, filled_parts, sections_fill, contents_fill, contents_made}
 use Rattle.macho_composed.proofs.Contents.{words_made}
 use Rattle.macho_composed.proofs.Behind.{TablesBegin, all_made}
+use Rattle.macho_model.specs.Spans.{filled_sections}
 
 -- and the laws on words
 pub record WordLaws (l : Link) (counts : Counts) (p : Placed) : Type 0 where

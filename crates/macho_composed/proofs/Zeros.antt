@@ -11,13 +11,16 @@ use Rattle.std.proofs.lemmas.List.Edits.{get_or-between}
 use Rattle.macho_bytes.specs.Texts.{Part, end_of, Stands, IsOutside}
 use Rattle.macho_bytes.proofs.Puts.{get_or-put_above}
 use Rattle.macho_model.specs.Links.{Link}
-use Rattle.macho_model.specs.Placement.{Placed, Span, range_span}
+use Rattle.macho_model.specs.Placement.{Placed}
+use Rattle.macho_model.specs.Zeros.{Span}
+use Rattle.macho_model.specs.Spans.{range_span, IsOutsideSpan}
 use Rattle.macho_model.specs.Addresses.{offset_in_file}
 use Rattle.macho_model.specs.Commands.{commands_end}
 use Rattle.macho_model.specs.Head.{range_size}
 use Rattle.macho_model.specs.Images.{fixups_header, tables_of, tries_of, symbol_tables_of, string_tables_of, signatures_of}
 use Rattle.macho_model.specs.ImportTable.{names_text}
-use Rattle.macho_model.specs.Zeros.{in_file, contents_of, fixups_content, IsOutsideSpan, IsZeroElsewhere}
+use Rattle.macho_model.specs.Zeros.{contents_of, IsZeroElsewhere}
+use Rattle.macho_model.specs.Spans.{in_file}
 use Rattle.macho_fixups.specs.declared.run.Fixup.{Fixup}
 use Rattle.macho_fixups.specs.Tables.{names_place}
 use Rattle.macho_promise.specs.FixupsSay.{fixup_segments}
@@ -27,6 +30,7 @@ use Rattle.macho_chaining.specs.Laws.{TableIsOf}
 use Rattle.macho_standing.proofs.TableLength.{table_long}
 use Rattle.macho_composed.specs.Written.{Texts, text_parts, content_ranges, AreStanding}
 use Rattle.macho_composed.proofs.Slices.{all_front, all_back, each_all}
+use Rattle.macho_model.specs.steps.Zeros.{fixups_content}
 
 -- The tables and the head of the file, as it tells them: each as long as its text, but for the fixup table.
 pub record AreTold (p : Placed) (run : List Fixup) (t : Texts) (b : List ℕ) : Type 0 where

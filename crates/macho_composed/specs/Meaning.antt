@@ -1,9 +1,7 @@
 -- What the texts of a link's file say, each by itself, as their writers hand it on.
 use Rattle.std.specs.Prelude.{◌≡◌, ℕ, List, map, length, All}
 use Rattle.std.specs.List.{flat_map}
-use Rattle.macho_bytes.specs.Layouts.{spelling, ReadsBack}
 use Rattle.macho_bytes.specs.Texts.{Stands}
-use Rattle.macho_records.specs.Layouts.{symtab_entry}
 use Rattle.macho_model.specs.declared.placed.Counts.{Counts}
 use Rattle.macho_model.specs.Links.{Link}
 use Rattle.macho_model.specs.Placement.{Placed}
@@ -36,6 +34,8 @@ use Rattle.macho_sealing.specs.Signing.{IsSignerOf}
 use Rattle.macho_ranges.specs.Parts.{written}
 use Rattle.macho_composed.specs.Whole.{IsReady}
 use Rattle.macho_composed.specs.Written.{AreContents, Texts, TextsFit, text_parts}
+use Rattle.macho_bytes.specs.Spellings.{spelling, ReadsBack}
+use Rattle.macho_records.specs.Spellings.{symtab_entry_rows}
 
 -- The fixup table is that of a link's run and imports.
 pub record FixupsMean (l : Link) (p : Placed) (run : List Fixup) (text : List ℕ) : Type 0 where
@@ -57,9 +57,9 @@ pub record TrieMeans (l : Link) (p : Placed) (text : List ℕ) : Type 0 where
 pub record SymbolsMean (l : Link) (counts : Counts) (p : Placed) (symbols strings : List ℕ) : Type 0 where
   pub table : SymbolTable
   pub rows : HasRows (symbol_rows l counts p) table
-  pub entries_are : symbols ≡ flat_map (spelling symtab_entry) table.entries
+  pub entries_are : symbols ≡ flat_map (spelling symtab_entry_rows) table.entries
   pub strings_are : strings ≡ table.strings
-  pub back : All (ReadsBack symtab_entry) table.entries
+  pub back : All (ReadsBack symtab_entry_rows) table.entries
 
 -- What is made of consumed sections is made of a link's.
 pub record MadeMeans (l : Link) (counts : Counts) (p : Placed) (initializers unwind : List ℕ) : Type 0 where

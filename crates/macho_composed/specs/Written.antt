@@ -5,9 +5,11 @@ use Rattle.macho_bytes.specs.Texts.{Part, Stands, IsOutside}
 use Rattle.macho_bytes.specs.Images.{zeros}
 use Rattle.macho_model.specs.declared.placed.Counts.{Counts}
 use Rattle.macho_model.specs.Links.{Link}
-use Rattle.macho_model.specs.Placement.{Placed, Span, head_size, stub_span, slot_span, section_span}
+use Rattle.macho_model.specs.Placement.{Placed, head_size}
+use Rattle.macho_model.specs.Zeros.{Span}
+use Rattle.macho_model.specs.Spans.{stub_span, slot_span, section_span, IsOutsideSpan, filled_sections}
 use Rattle.macho_model.specs.Addresses.{offset_in_file}
-use Rattle.macho_model.specs.Zeros.{in_file, filled_sections, IsOutsideSpan}
+use Rattle.macho_model.specs.Spans.{in_file}
 use Rattle.macho_fixups.specs.declared.run.Fixup.{Fixup}
 use Rattle.macho_fixups.specs.Chains.{AllStand}
 use Rattle.macho_promise.specs.FixupsSay.{fixup_segments}

@@ -2,7 +2,7 @@
 --
 -- Which imports are noted tells the number of an import and nothing else, so it decides no question that treats all imports alike.
 -- A plain pointer that is extern leads where its symbol does.
-use Rattle.std.proofs.Common.{◌≡◌, ℕ, Bool, true, false, ◌&&◌, ◌||◌, ◌==◌, if◌then◌else◌, List, Option, Some, None, refl, ap, ◌∙◌, arith}
+use Rattle.std.proofs.Common.{◌≡◌, ℕ, Bool, true, false, ◌==◌, if◌then◌else◌, List, Option, Some, None, refl, ap, ◌∙◌, arith}
 use Rattle.std.proofs.lemmas.Bool.Decides.{nat_tests}
 use Rattle.std.specs.List.{position_or_len}
 use Rattle.std.specs.Str.{bytes_eq}
@@ -13,7 +13,8 @@ use Rattle.macho_model.specs.declared.targets.Target.TheVariants as target
 use Rattle.macho_model.specs.Links.{Link, SectionId}
 use Rattle.macho_model.specs.Resolution.{SymbolId, Definition, Symbol, Library, ImageBase, entry_at, name_at, definition_of}
 use Rattle.macho_model.specs.Needs.{relocation_in, imports_of}
-use Rattle.macho_model.specs.Targets.{target_with, target_of, target_of_relocation, own_target, definition_target}
+use Rattle.macho_model.specs.Targets.{target_of, target_of_relocation, own_target, definition_target}
+use Rattle.macho_model.specs.Uses.{target_with}
 use Rattle.macho_model.specs.Consumed.{is_plain_pointer}
 use Rattle.macho_symbols.specs.Kept.{symbol_id}
 

@@ -14,7 +14,8 @@ use Rattle.macho_model.specs.Objects.{section_at, relocation_at}
 use Rattle.macho_model.specs.Links.{Link, SectionId, object_of}
 use Rattle.macho_model.specs.Needs.{relocation_in, unwind_sections, PERSONALITY_PLACE}
 use Rattle.macho_model.specs.declared.targets.Target.{Target}
-use Rattle.macho_model.specs.Targets.{target_of_relocation, target_with, is_defined, is_import}
+use Rattle.macho_model.specs.Targets.{target_of_relocation, is_defined, is_import}
+use Rattle.macho_model.specs.Uses.{target_with}
 use Rattle.macho_model.specs.Consumed.{EntryId, is_plain_pointer, entry_count, relocations_in_entry, entries_of_link, keeps}
 use Rattle.macho_model.specs.Consumed.{LSDA_PLACE}
 use Rattle.macho_model.specs.Faults.{IsBadEntry}

@@ -13,7 +13,8 @@ use Rattle.macho_object.specs.Views.{FileBytes}
 use Rattle.macho_model.specs.Objects.{num_symbols, section_at, relocation_at}
 use Rattle.macho_model.specs.Links.{Link, SectionId, object_of, header_at}
 use Rattle.macho_model.specs.Needs.{relocations_at, relocation_in, initializer_sections}
-use Rattle.macho_model.specs.Targets.{target_of_relocation, target_with}
+use Rattle.macho_model.specs.Targets.{target_of_relocation}
+use Rattle.macho_model.specs.Uses.{target_with}
 use Rattle.macho_model.specs.Consumed.{is_plain_pointer, bytes_of_section, is_section_target, initializer_section_fits}
 use Rattle.macho_model.specs.Consumed.{initializer_slot_fits}
 use Rattle.macho_model.specs.Faults.{IsBadInitializer}

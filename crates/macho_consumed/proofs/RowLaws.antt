@@ -9,8 +9,10 @@ use Rattle.std.proofs.lemmas.Grind.{flat_map-append}
 use Rattle.std.specs.List.{range_with_len, flat_map, Contains}
 use Rattle.macho_model.specs.declared.rules.UnwindRule.TheVariants.{U3}
 use Rattle.macho_model.specs.Links.{Link, SectionId, header_at}
-use Rattle.macho_model.specs.Needs.{Use, ByInitializer, ByPersonality, relocations_at, initializer_sections, unwind_sections}
-use Rattle.macho_model.specs.Needs.{personality_uses, PERSONALITY_PLACE}
+use Rattle.macho_model.specs.Needs.{relocations_at, initializer_sections, unwind_sections}
+use Rattle.macho_model.specs.Uses.{Use, ByInitializer, ByPersonality}
+use Rattle.macho_model.specs.Needs.{PERSONALITY_PLACE}
+use Rattle.macho_model.specs.Uses.{personality_uses}
 use Rattle.macho_model.specs.Targets.{target_of_relocation}
 use Rattle.macho_model.specs.Consumed.{EntryId, entry_count, entries_of_link, relocations_in_entry, START_PLACE}
 use Rattle.macho_model.specs.Made.{initializers_of}
@@ -23,6 +25,7 @@ use Rattle.macho_consumed.specs.Laws.{InitializersAreUsed, PersonalitiesAreUsed}
 use Rattle.macho_consumed.proofs.Tests.{left_of, right_of}
 use Rattle.macho_consumed.proofs.Members.{in_range}
 use Rattle.macho_consumed.proofs.Joined.{map_joined, joined_map, joined_agree}
+use Rattle.macho_model.proofs.Uses.{initializers_are}
 
 -- what is made of each row of initializers
 made : {Z : Type 0} (l : Link) (g : Initializer → Z) (f : SectionId → ℕ → Z) → ((s : SectionId) (r : ℕ)
@@ -48,8 +51,7 @@ made_of_rows l g f same =
     (λ slot d. made l g f same s (relocations_at l s (8 * slot)))))
 
 pub are_rows : InitializersAreRows
-unfolding initializers_of
-are_rows l = made_of_rows l (target_of_initializer l) (target_of_relocation l) (λ s r. refl)
+are_rows l = initializers_are l ∙ made_of_rows l (target_of_initializer l) (target_of_relocation l) (λ s r. refl)
 
 -- and as many
 pub are_many : (l : Link) → length (initializers_of l) ≡ length (initializer_rows l)

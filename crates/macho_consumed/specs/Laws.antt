@@ -3,7 +3,7 @@ use Rattle.std.specs.Prelude.{◌≡◌, List, map, option_map, option_to_list}
 use Rattle.std.specs.List.{flat_map}
 use Rattle.macho_model.specs.declared.targets.Target.{Target}
 use Rattle.macho_model.specs.Links.{Link, SectionId}
-use Rattle.macho_model.specs.Needs.{Use, ByInitializer, ByPersonality}
+use Rattle.macho_model.specs.Uses.{Use, ByInitializer, ByPersonality}
 use Rattle.macho_model.specs.Targets.{target_of_relocation}
 use Rattle.macho_model.specs.Made.{initializers_of}
 use Rattle.macho_parts.specs.Noted.{uses_of_initializers, uses_of_personalities}

@@ -9,7 +9,7 @@ use Rattle.macho_model.specs.declared.placed.PlacedSection.{PlacedSection}
 use Rattle.macho_model.specs.Links.{Link, SectionId, header_at}
 use Rattle.macho_model.specs.Fields.{Field, field_of, fields_of, content_of}
 use Rattle.macho_model.specs.Placement.{Placed, id_of}
-use Rattle.macho_model.specs.Stands.{IsOutsideField, kind_of}
+use Rattle.macho_model.specs.Stands.{kind_of}
 use Rattle.macho_model.specs.Values.{FieldOf, DoesNotFit}
 use Rattle.macho_fixups.specs.declared.run.Fixup.{Fixup}
 use Rattle.macho_parts.specs.Filled.{FieldIsSet, IsFilled}
@@ -19,6 +19,7 @@ use Rattle.macho_fields.specs.Faults.{NoneStandsIn}
 use Rattle.macho_fields.specs.steps.Sections.{is_field, fields_to, FieldIsFine, IsFilledTo}
 use Rattle.macho_fields.proofs.Numbered.{chosen_member, chosen_of, chosen_all, IsChosen}
 use Rattle.macho_fields.proofs.One.{place_only}
+use Rattle.macho_model.specs.Spans.{IsOutsideField}
 
 abbrev pub Behind : Link → Placed → PlacedSection → List Fixup → List ℕ → List Fixup → Type 0
 Behind l p q asked text run = IsFilledTo l p q (header_at l (id_of q)).nreloc asked text run

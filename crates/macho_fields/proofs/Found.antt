@@ -20,13 +20,18 @@ use Rattle.macho_model.specs.declared.targets.Target.{Target}
 use Rattle.macho_model.specs.declared.targets.Target.TheVariants as target
 use Rattle.macho_model.specs.Links.{Link, SectionId, section_id, header_at, carried_of, is_template}
 use Rattle.macho_model.specs.Resolution.{chosen_commons}
-use Rattle.macho_model.specs.Needs.{ByRelocation, distinct, uses_of, carried_uses, relocation_in}
-use Rattle.macho_model.specs.Targets.{same_target, slots_of, stubs_of, slot_of_use, stub_of_use, slot_of_relocation, stub_of_relocation, target_of_relocation}
-use Rattle.macho_model.specs.Placement.{Placed, IsPlaced, TemplateHolds, template_sections, id_of}
+use Rattle.macho_model.specs.Needs.{distinct, relocation_in}
+use Rattle.macho_model.specs.Uses.{ByRelocation, uses_of, carried_uses}
+use Rattle.macho_model.specs.Targets.{same_target, slots_of, stubs_of, target_of_relocation}
+use Rattle.macho_model.specs.Uses.{slot_of_use, stub_of_use, slot_of_relocation, stub_of_relocation}
+use Rattle.macho_model.specs.Placement.{Placed, IsPlaced, template_sections, id_of}
+use Rattle.macho_model.specs.steps.Parts.{TemplateHolds}
 use Rattle.macho_model.proofs.EachBelow.{true_or_false}
 use Rattle.macho_fields.specs.Looks.{IsThere, HasSlot, HasStub, IsFound}
 use Rattle.macho_fields.specs.Laws.{LeadsInside, TargetsAreKept}
 use Rattle.macho_fields.proofs.Once.{placed_once, same_target_is}
+use Rattle.macho_model.proofs.Uses.{slots_are, stubs_are}
+use Rattle.macho_model.proofs.Parts.{aligned_of, template_of, same_order}
 
 -- behind another element
 pub behind : {X : Type 0} (y : X) (xs : List X) (x : X) → Contains xs x → Contains (y ∷ xs) x
@@ -151,20 +156,18 @@ used l s r carried among =
 slot_there : (l : Link) (counts : Counts) (p : Placed) (s : SectionId) (r : ℕ) (t : Target) → IsPlaced l counts p
     → Contains (carried_of l) s → r < (header_at l s).nreloc
     → slot_of_relocation (relocation_in l s r).r_type (target_of_relocation l s r) ≡ Some t → HasSlot p t
-unfolding slots_of
 slot_there l counts p s r t placed carried among asks =
-    let listed = in_distinct (filter_map (slot_of_use l) (uses_of l)) t
-    (in_filter_map (slot_of_use l) (uses_of l) (ByRelocation s r) t (used l s r carried among) asks) in
+    let listed : Contains (slots_of l) t = subst (λ (xs : List Target). Contains xs t) (sym (slots_are l)) (in_distinct (filter_map (slot_of_use l) (uses_of l)) t
+    (in_filter_map (slot_of_use l) (uses_of l) (ByRelocation s r) t (used l s r carried among) asks)) in
     let m = of_map (λ (x : Slot). x.target) p.slots t (subst (λ (xs : List Target). Contains xs t) (sym placed.whole_list.slots) listed) in
     (m.of, m.there, m.is)
 
 stub_there : (l : Link) (counts : Counts) (p : Placed) (s : SectionId) (r : ℕ) (t : Target) → IsPlaced l counts p
     → Contains (carried_of l) s → r < (header_at l s).nreloc
     → stub_of_relocation (relocation_in l s r).r_type (target_of_relocation l s r) ≡ Some t → HasStub p t
-unfolding stubs_of
 stub_there l counts p s r t placed carried among asks =
-    let listed = in_distinct (filter_map (stub_of_use l) (uses_of l)) t
-    (in_filter_map (stub_of_use l) (uses_of l) (ByRelocation s r) t (used l s r carried among) asks) in
+    let listed : Contains (stubs_of l) t = subst (λ (xs : List Target). Contains xs t) (sym (stubs_are l)) (in_distinct (filter_map (stub_of_use l) (uses_of l)) t
+    (in_filter_map (stub_of_use l) (uses_of l) (ByRelocation s r) t (used l s r carried among) asks)) in
     let m = of_map (λ (x : Stub). target.Import x.import) p.stubs t
     (subst (λ (xs : List Target). Contains xs t) (sym placed.whole_list.stubs) listed) in
     (m.of, m.there, m.is)
@@ -179,13 +182,13 @@ is_there l counts p (target.Section file section offset) placed kept =
     let id = section_id file section in
     let m = of_map id_of p.sections id
     (Contains-permutation (carried_of l) (map id_of p.sections) id
-    (IsPermutation-sym (map id_of p.sections) (carried_of l) placed.whole_list.sections) kept) in
+    (IsPermutation-sym (map id_of p.sections) (carried_of l) (same_order placed.whole_list.sections)) kept) in
     (m.of, m.there, ap (λ (s : SectionId). s.file) m.is, ap (λ (s : SectionId). s.section) m.is)
 is_there l counts p (target.Common id) placed kept =
     let ids = map (λ (x : PlacedCommon). x.id) p.commons in
     let all = range_with_len 0 (length (chosen_commons l)) in
     let m = of_map (λ (x : PlacedCommon). x.id) p.commons id
-    (Contains-permutation all ids id (IsPermutation-sym ids all placed.whole_list.commons)
+    (Contains-permutation all ids id (IsPermutation-sym ids all (same_order placed.whole_list.commons))
     (in_range (length (chosen_commons l)) id kept)) in
     (m.of, m.there, m.is)
 is_there l counts p (target.Import id) placed kept = tt
@@ -208,7 +211,7 @@ found l counts p placed kept = record {
       (λ t asks. slot_there l counts p s r t placed carried among asks);
   stubs = λ s r carried among. if_some (HasStub p) (stub_of_relocation (relocation_in l s r).r_type (target_of_relocation l s r))
       (λ t asks. stub_there l counts p s r t placed carried among asks);
-  aligned = λ s there. All-contains (λ (x : Slot). x.address % 8 ≡ 0) p.slots s placed.aligned.slots there;
-  template = λ q there is. told l counts p q p.template placed.template
+  aligned = λ s there. All-contains (λ (x : Slot). x.address % 8 ≡ 0) p.slots s (aligned_of placed).slots there;
+  template = λ q there is. told l counts p q p.template (template_of placed)
       (in_filter (λ x. is_template (header_at l (id_of x))) p.sections q there is);
 }

@@ -23,7 +23,9 @@ use Rattle.macho_model.specs.Objects.{num_sections, num_symbols}
 use Rattle.macho_model.specs.Grammar.{IsObject}
 use Rattle.macho_model.proofs.ObjectLaws.{object_keeps}
 use Rattle.macho_model.specs.Links.{Input, Object, Dylib, Stub, Link, no_input, object_bytes, object_of, SectionId, header_at, is_carried, sections_of_file, sections_of, carried_of}
-use Rattle.macho_model.specs.Resolution.{SymbolId, Definition, Symbol, Library, ImageBase, entry_at, name_at, symbols_of_file, symbols_of, section_of_symbol, stands_in_carried, is_definition, is_strong, is_weak, has_name, strong_of, weak_of, commons_of, greatest_of, libraries_with, DSO_HANDLE, first_or, definition_of, is_symbol, same_symbol, is_chosen, chosen_commons}
+use Rattle.macho_model.specs.Resolution.{SymbolId, Definition, Symbol, Library, ImageBase, entry_at, name_at, symbols_of_file, symbols_of, section_of_symbol, stands_in_carried, is_definition, has_name, strong_of, commons_of, greatest_of, libraries_with, definition_of, is_symbol, same_symbol, chosen_commons}
+use Rattle.macho_model.specs.steps.Resolved.{is_strong, is_weak, weak_of, DSO_HANDLE, first_or}
+use Rattle.macho_model.specs.LinkLaws.{is_chosen}
 use Rattle.macho_model.specs.Needs.{relocation_in, section_named, symbol_of_relocation, imports_of}
 use Rattle.macho_model.specs.Targets.{own_target, definition_target, target_of, target_of_relocation}
 use Rattle.macho_model.proofs.EachBelow.{true_or_false, and_left, and_right, or_right, equal_is}
@@ -33,6 +35,8 @@ use Rattle.macho_fields.specs.Laws.{ObjectsAreWhole, LeadsInside, TargetsAreKept
 use Rattle.macho_fields.proofs.Through.{any_default}
 use Rattle.macho_fields.proofs.Found.{below_range, split, behind, in_filter, in_map, of_map, in_flat_map, in_range}
 use Rattle.macho_fields.proofs.Nexts.{section_exists, symbol_exists}
+use Rattle.macho_model.proofs.Resolved.{definition_is_first}
+use Rattle.macho_model.specs.steps.Resolved.{first_definition}
 
 -- an element of joined lists is one of some list
 record IsJoined {X Y : Type 0} (f : X → List Y) (xs : List X) (y : Y) : Type 0 where
@@ -258,8 +262,8 @@ of_common l name s h =
     }
 
 defines_name : (l : Link) (name : List ℕ) (s : SymbolId) → definition_of l name ≡ Some (Symbol s) → Defines l name s
-unfolding definition_of
-defines_name l name s h = elim (first_symbol (strong_of l name) _ s h) [
+unfolding first_definition
+defines_name l name s h = elim (first_symbol (strong_of l name) _ s (sym (definition_is_first l name) ∙ h)) [
   | inl strong ↦ of_strong l name s strong
   | inr h1 ↦ elim (first_symbol (weak_of l name) _ s h1) [
     | inl weak ↦ of_weak l name s weak

@@ -19,13 +19,17 @@ use Rattle.macho_model.specs.declared.targets.Target.TheVariants as target
 use Rattle.macho_model.specs.Objects.{num_sections}
 use Rattle.macho_model.specs.Links.{Input, Object, Dylib, Stub as StubInput, Link, SectionId, header_at, is_carried, sections_of_file, sections_of, carried_of}
 use Rattle.macho_model.specs.Resolution.{chosen_commons}
-use Rattle.macho_model.specs.Needs.{distinct, uses_of}
-use Rattle.macho_model.specs.Targets.{same_target, slots_of, stubs_of, slot_of_use, stub_of_use}
+use Rattle.macho_model.specs.Needs.{distinct}
+use Rattle.macho_model.specs.Uses.{uses_of}
+use Rattle.macho_model.specs.Targets.{same_target}
+use Rattle.macho_model.specs.Uses.{slot_of_use, stub_of_use}
 use Rattle.macho_model.specs.Placement.{Placed, IsPlaced, id_of}
 use Rattle.macho_model.specs.Lists.{of_first}
 use Rattle.macho_model.specs.Addresses.{section_address, common_address, slot_address}
 use Rattle.macho_model.proofs.EachBelow.{true_or_false, and_left, and_right, is_equal, equal_is, unequal_is}
 use Rattle.macho_fields.specs.Looks.{stub_address, IsPlacedOnce}
+use Rattle.macho_model.proofs.Uses.{slots_are, stubs_are}
+use Rattle.macho_model.proofs.Parts.{same_order}
 
 -- how many elements pass a test
 abbrev pub one : Bool → ℕ
@@ -222,13 +226,13 @@ count_distinct t (x ∷ xs) = distinct_kept t x (distinct same_target xs) (same_
 
 -- THE law.
 pub placed_once : (l : Link) (counts : Counts) (p : Placed) → IsPlaced l counts p → IsPlacedOnce p
-unfolding section_address common_address slot_address stub_address slots_of stubs_of
+unfolding section_address common_address slot_address stub_address
 placed_once l counts p placed = record {
   sections = λ q here.
       let few : count (is_id (id_of q)) (map id_of p.sections) ≤ 1 =
       omega (
         arith,
-        count_reordered (is_id (id_of q)) (map id_of p.sections) (carried_of l) placed.whole_list.sections,
+        count_reordered (is_id (id_of q)) (map id_of p.sections) (carried_of l) (same_order placed.whole_list.sections),
         carried_once l
             (id_of q),
       ) in
@@ -240,20 +244,20 @@ placed_once l counts p placed = record {
       let few : count (λ m. m == c.id) ids ≤ 1 =
       omega (
         arith,
-        count_reordered (λ m. m == c.id) ids (range_with_len 0 (length (chosen_commons l))) placed.whole_list.commons,
+        count_reordered (λ m. m == c.id) ids (range_with_len 0 (length (chosen_commons l))) (same_order placed.whole_list.commons),
         (count_range c.id 0 (length (chosen_commons l))).0,
       ) in
       first_is (λ (x : PlacedCommon). x.address) (λ x. x.id == c.id) p.commons c
       (omega (arith, few, count_map (λ m. m == c.id) (λ (x : PlacedCommon). x.id) p.commons)) here (equal_is c.id c.id refl);
   slots = λ s here.
       let few : count (λ t. same_target t s.target) (map (λ (x : Slot). x.target) p.slots) ≤ 1 =
-      subst (λ (xs : List Target). count (λ t. same_target t s.target) xs ≤ 1) (sym placed.whole_list.slots)
+      subst (λ (xs : List Target). count (λ t. same_target t s.target) xs ≤ 1) (sym (placed.whole_list.slots ∙ slots_are l))
       (count_distinct s.target (filter_map (slot_of_use l) (uses_of l))) in
       first_is (λ (x : Slot). x.address) (λ x. same_target x.target s.target) p.slots s
       (omega (arith, few, count_map (λ t. same_target t s.target) (λ (x : Slot). x.target) p.slots)) here (target_itself s.target);
   stubs = λ s here.
       let few : count (λ t. same_target t (target.Import s.import)) (map (λ (x : Stub). target.Import x.import) p.stubs) ≤ 1 =
-      subst (λ (xs : List Target). count (λ t. same_target t (target.Import s.import)) xs ≤ 1) (sym placed.whole_list.stubs)
+      subst (λ (xs : List Target). count (λ t. same_target t (target.Import s.import)) xs ≤ 1) (sym (placed.whole_list.stubs ∙ stubs_are l))
       (count_distinct (target.Import s.import) (filter_map (stub_of_use l) (uses_of l))) in
       first_is (λ (x : Stub). x.address) (λ x. x.import == s.import) p.stubs s
       (omega (arith, few, count_map (λ t. same_target t (target.Import s.import)) (λ (x : Stub). target.Import x.import) p.stubs)) here

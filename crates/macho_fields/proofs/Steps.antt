@@ -18,7 +18,7 @@ use Rattle.macho_model.specs.Links.{Link, SectionId, object_of, header_at, carri
 use Rattle.macho_model.specs.Needs.{relocation_in}
 use Rattle.macho_model.specs.Fields.{Field, field_of, content_of, is_prefix_type, is_pair, is_difference, is_with_addend, takes_addend}
 use Rattle.macho_model.specs.Placement.{Placed, id_of}
-use Rattle.macho_model.specs.Stands.{IsOutsideField, Says, kind_of}
+use Rattle.macho_model.specs.Stands.{Says, kind_of}
 use Rattle.macho_model.specs.Values.{needs_fixup}
 use Rattle.macho_model.specs.Supported.{RelocationsAreSupported}
 use Rattle.macho_model.proofs.EachBelow.{true_or_false, and_left, and_right, either}
@@ -32,6 +32,7 @@ use Rattle.macho_fields.specs.steps.Sections.{is_field, fields_to, FieldIsFine, 
 use Rattle.macho_fields.proofs.Puts.{same_bytes, number_stands}
 use Rattle.macho_fields.proofs.Numbered.{one_if, chosen, chosen_more}
 use Rattle.macho_fields.proofs.One.{one_set, one_fine, one_changes, one_asks}
+use Rattle.macho_model.specs.Spans.{IsOutsideField}
 
 -- two fields of a section share no byte
 abbrev pub AreApart : Field → Field → Type 0

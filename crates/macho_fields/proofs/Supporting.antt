@@ -11,11 +11,12 @@ use Rattle.macho_model.specs.declared.targets.Target.{Target}
 use Rattle.macho_model.specs.declared.targets.Target.TheVariants as target
 use Rattle.macho_model.specs.Links.{Link, SectionId, header_at, carried_of}
 use Rattle.macho_model.specs.Needs.{relocation_in}
-use Rattle.macho_model.specs.Targets.{target_of_relocation, is_defined, is_import, slot_of_relocation, stub_of_relocation, goes_by_slot}
+use Rattle.macho_model.specs.Targets.{target_of_relocation, is_defined, is_import}
+use Rattle.macho_model.specs.Uses.{slot_of_relocation, stub_of_relocation, goes_by_slot}
 use Rattle.macho_model.specs.Fields.{field_of, content_of, has_subtrahend, has_addend, is_prefix_type}
-use Rattle.macho_model.specs.Words.{is_adrp, is_branch, is_ldr, written_register, REGISTER_31}
+use Rattle.macho_model.specs.Words.{is_adrp, is_branch, is_ldr, written_register}
 use Rattle.macho_model.specs.Rows.{has_form, is_none, difference_fits, pointer_fits, defined_or_import, is_supported}
-use Rattle.macho_model.specs.Supported.{may_be_called, takes_offset, load_fits}
+use Rattle.macho_model.specs.Supported.{may_be_called, takes_offset, load_fits, REGISTER_31}
 use Rattle.macho_model.specs.Stands.{Kind, Pointer, Difference, Branch, Page, Offset, SlotPage, SlotOffset, SlotDistance, kind_of}
 use Rattle.macho_model.specs.Placement.{Placed}
 use Rattle.macho_model.proofs.EachBelow.{true_or_false, and_left, and_right, either, is_equal}

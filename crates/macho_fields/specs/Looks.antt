@@ -12,7 +12,8 @@ use Rattle.macho_records.specs.declared.constants.TheConstants.{ARM64_RELOC_ADDE
 use Rattle.macho_model.specs.Objects.{num_symbols}
 use Rattle.macho_model.specs.Links.{Link, SectionId, object_of, header_at, carried_of, is_template}
 use Rattle.macho_model.specs.Needs.{relocation_in}
-use Rattle.macho_model.specs.Targets.{target_of, target_of_relocation, slot_of_relocation, stub_of_relocation}
+use Rattle.macho_model.specs.Targets.{target_of, target_of_relocation}
+use Rattle.macho_model.specs.Uses.{slot_of_relocation, stub_of_relocation}
 use Rattle.macho_model.specs.Placement.{Placed, id_of}
 use Rattle.macho_model.specs.Lists.{of_first}
 use Rattle.macho_model.specs.Addresses.{section_address, common_address, slot_address}

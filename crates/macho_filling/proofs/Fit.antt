@@ -13,9 +13,9 @@ use Rattle.macho_model.specs.declared.placed.PlacedSegment.{PlacedSegment}
 use Rattle.macho_model.specs.Objects.{num_symbols, section_at}
 use Rattle.macho_model.specs.Links.{Object, Link, SectionId, no_input, header_at, is_carried, sections_of, carried_of}
 use Rattle.macho_model.specs.WrittenSum.{STUB_SIZE}
-use Rattle.macho_model.specs.Placement.{Placed, IsPlaced, IsPaged, SectionLies, id_of}
+use Rattle.macho_model.specs.Placement.{Placed, IsPlaced, IsPaged, id_of}
+use Rattle.macho_model.specs.steps.Parts.{SectionLies}
 use Rattle.macho_model.specs.Addresses.{offset_in_file}
-use Rattle.macho_model.specs.Zeros.{filled_sections}
 use Rattle.macho_lists.proofs.Members.{all_contains, contains_all, contains_filter, filter_contains}
 use Rattle.macho_targets.proofs.OfLink.{IsSectionOf, section_of}
 use Rattle.macho_parts.specs.Views.{object_view, views_of}
@@ -23,17 +23,19 @@ use Rattle.macho_places.proofs.Telling.{symbol_here}
 use Rattle.macho_filling.specs.Fitting.{HasRoom, SectionFits}
 use Rattle.macho_filling.specs.Laws.{SectionsHaveRoom, StubsHaveRoom, SymbolsAreKnown}
 use Rattle.macho_filling.proofs.Viewing.{placed_carried, view_is}
+use Rattle.macho_model.proofs.Parts.{in_segment_of}
+use Rattle.macho_model.specs.Spans.{filled_sections}
 
 -- a section's end is that of its segment or before
 section_low : (l : Link) (counts : Counts) (p : Placed) (q : PlacedSection) → IsPlaced l counts p
     → All (λ s. s.address + s.size ≤ 2 ^ 64) p.segments
     → Contains p.sections q → q.address + (header_at l (id_of q)).size ≤ 2 ^ 64
 section_low l counts p q placed ends here =
-    let lies = all_contains (SectionLies l p) p.sections q placed.in_segment.sections here in
+    let lies = all_contains (SectionLies l p) p.sections q (in_segment_of placed).sections here in
     let s = lies.0 in
     let there : Contains p.segments s = (q.segment, (lies.1).0, (lies.1).1) in
     let end = all_contains (λ (t : PlacedSegment). t.address + t.size ≤ 2 ^ 64) p.segments s ends there in
-    let paged = all_contains IsPaged p.segments s placed.in_order.paged there in
+    let paged = all_contains IsPaged p.segments s placed.paged there in
     by s (not (is_zerofill (header_at l (id_of q))) && not ((header_at l (id_of q)).size == 0)) (lies.3).to end paged.file_size
   where
     by : (s : PlacedSegment) (b : Bool) → q.address + (header_at l (id_of q)).size ≤ s.address + (if b then s.file_size else s.size)

@@ -8,8 +8,10 @@ use Rattle.macho_bytes.specs.Texts.{Part, end_of}
 use Rattle.macho_model.specs.declared.placed.PlacedSection.{PlacedSection}
 use Rattle.macho_model.specs.declared.placed.Stub.{Stub}
 use Rattle.macho_model.specs.Links.{Link}
-use Rattle.macho_model.specs.Placement.{Placed, Span, section_span, stub_span}
-use Rattle.macho_model.specs.Zeros.{in_file, filled_sections}
+use Rattle.macho_model.specs.Placement.{Placed}
+use Rattle.macho_model.specs.Zeros.{Span}
+use Rattle.macho_model.specs.Spans.{section_span, stub_span, filled_sections}
+use Rattle.macho_model.specs.Spans.{in_file}
 use Rattle.macho_ranges.specs.Parts.{LiesInRange, LieInRanges}
 use Rattle.macho_filling.specs.Filled.{ArePartsOf, IsSectionPart, IsStubPart}
 use Rattle.macho_filling.specs.Laws.{LieInside, SectionPartsLie, StubPartsLie}

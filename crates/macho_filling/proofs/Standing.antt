@@ -12,10 +12,10 @@ use Rattle.macho_model.specs.Links.{Link, header_at}
 use Rattle.macho_model.specs.WrittenSum.{STUB_SIZE}
 use Rattle.macho_model.specs.Placement.{Placed, id_of}
 use Rattle.macho_model.specs.Addresses.{offset_in_file}
-use Rattle.macho_model.specs.Zeros.{filled_sections}
 use Rattle.macho_parts.specs.Filled.{IsFilled, StubIsSet, bytes_in_file}
 use Rattle.macho_filling.specs.Filled.{ArePartsOf, IsSectionPart, IsStubPart}
 use Rattle.macho_filling.specs.Laws.{SectionPartsFill, StubPartsSet}
+use Rattle.macho_model.specs.Spans.{filled_sections}
 
 no_text : (xs : List ℕ) → length xs ≡ 0 → xs ≡ []
 no_text [] e = refl

@@ -6,9 +6,9 @@ use Rattle.macho_model.specs.declared.placed.Stub.{Stub}
 use Rattle.macho_model.specs.Links.{Link}
 use Rattle.macho_model.specs.Placement.{Placed}
 use Rattle.macho_model.specs.Addresses.{offset_in_file}
-use Rattle.macho_model.specs.Zeros.{filled_sections}
 use Rattle.macho_parts.specs.Filled.{IsFilled, StubIsSet}
 use Rattle.macho_ranges.specs.Parts.{written}
+use Rattle.macho_model.specs.Spans.{filled_sections}
 
 -- parts are those of some things, one by one
 abbrev pub ArePartsOf : {X : Type 0} → (X → Part → Type 0) → List X → List Part → Type 0

@@ -5,9 +5,10 @@ use Rattle.macho_model.specs.declared.placed.Counts.{Counts}
 use Rattle.macho_model.specs.declared.placed.Stub.{Stub}
 use Rattle.macho_model.specs.Links.{Link, header_at, carried_of}
 use Rattle.macho_model.specs.WrittenSum.{STUB_SIZE}
-use Rattle.macho_model.specs.Placement.{Placed, IsPlaced, id_of, section_span, stub_span}
+use Rattle.macho_model.specs.Placement.{Placed, IsPlaced, id_of}
+use Rattle.macho_model.specs.Spans.{section_span, stub_span, filled_sections}
 use Rattle.macho_model.specs.Addresses.{offset_in_file}
-use Rattle.macho_model.specs.Zeros.{in_file, filled_sections}
+use Rattle.macho_model.specs.Spans.{in_file}
 use Rattle.macho_parts.specs.Views.{views_of}
 use Rattle.macho_parts.specs.Filled.{IsFilled, StubIsSet, bytes_in_file}
 use Rattle.macho_symbols.specs.Kept.{ResolvedRows, IsResolved, HasSymbol}

@@ -7,7 +7,8 @@ use Rattle.std.proofs.Math.Nat.{mul-le-mul_left}
 use Rattle.std.proofs.lemmas.Bool.{cases_lt}
 use Rattle.macho_model.specs.Segments.{SEGMENT_PAGE}
 use Rattle.macho_fixups.specs.declared.run.Fixup.{Fixup}
-use Rattle.macho_fixups.specs.Runs.{pages_with, pages_of, is_in}
+use Rattle.macho_fixups.specs.Runs.{pages_of, is_in}
+use Rattle.macho_fixups.specs.steps.Runs.{pages_with}
 use Rattle.macho_fixups.specs.Laws.{PagesAreBounded, RoomGrows, NoFixupNoPages}
 use Rattle.macho_fixups.proofs.Cuts.{pages_of-below, pages_with-in, pages_with-out}
 

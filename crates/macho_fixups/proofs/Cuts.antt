@@ -14,7 +14,8 @@ use Rattle.macho_model.specs.Images.{NO_START}
 use Rattle.macho_model.specs.Segments.{SEGMENT_PAGE}
 use Rattle.macho_fixups.specs.declared.run.Fixup.{Fixup}
 use Rattle.macho_fixups.specs.declared.run.FixupSegment.{FixupSegment}
-use Rattle.macho_fixups.specs.Runs.{AreSorted, pages_with, pages_of, start_of, is_in}
+use Rattle.macho_fixups.specs.Runs.{pages_of, start_of, is_in}
+use Rattle.macho_fixups.specs.steps.Runs.{pages_with, AreSorted}
 use Rattle.macho_fixups.specs.steps.Cuts.{AreBelow, AreBelowFrom, IsSkip, IsCut}
 
 -- nothing is passed yet

@@ -14,11 +14,12 @@ use Rattle.macho_bytes.proofs.Sequences.{MoreTexts, texts_begin, texts_go_on, te
 use Rattle.macho_model.specs.Images.{NO_START}
 use Rattle.macho_model.specs.Segments.{SEGMENT_PAGE}
 use Rattle.macho_fixups.specs.declared.run.Fixup.{Fixup}
-use Rattle.macho_fixups.specs.Runs.{AreSorted, start_of}
+use Rattle.macho_fixups.specs.Runs.{start_of}
 use Rattle.macho_fixups.specs.steps.Cuts.{IsCut}
 use Rattle.macho_fixups.specs.steps.Cuts.{IsSkip}
 use Rattle.macho_fixups.specs.Tables.{page_starts_text}
 use Rattle.macho_fixups.proofs.Cuts.{start_of-here, start_of-none, cut_of, below_cut}
+use Rattle.macho_fixups.specs.steps.Runs.{AreSorted}
 
 -- in front of the cut pages are lower
 lower : (fixups : List Fixup) (next number : ℕ) → IsCut fixups next (number * SEGMENT_PAGE) → (j : ℕ) (e : Fixup) → j < next

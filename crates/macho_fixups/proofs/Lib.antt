@@ -19,3 +19,4 @@ pub mod Puts
 pub mod FileChains
 pub mod NamesRead
 pub mod WordsBeside
+pub mod Rows

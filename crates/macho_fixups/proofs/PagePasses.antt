@@ -10,7 +10,8 @@ use Rattle.macho_model.specs.Segments.{SEGMENT_PAGE}
 use Rattle.macho_fixups.specs.declared.run.Fixup.{Fixup}
 use Rattle.macho_fixups.specs.declared.run.FixupSegment.{FixupSegment}
 use Rattle.macho_fixups.specs.declared.words.FixupKind.TheVariants.{Rebase}
-use Rattle.macho_fixups.specs.Runs.{AreSorted, pages_with, pages_of}
+use Rattle.macho_fixups.specs.Runs.{pages_of}
+use Rattle.macho_fixups.specs.steps.Runs.{pages_with, AreSorted}
 use Rattle.macho_fixups.specs.steps.Cuts.{AreBelow, IsSkip, IsCut, IsNextBelow, IsNoneBelow}
 use Rattle.macho_fixups.proofs.Cuts.{cut_of, below_cut, pages_of-above, pages_of-below, pages_with-out, pages_with-in, pages_of-none}
 

@@ -10,14 +10,15 @@ use Rattle.std.specs.Prelude.{Contains}
 use Rattle.std.proofs.lemmas.Bool.{cases_lt}
 use Rattle.std.proofs.lemmas.List.Elements.{All-contains, All-contains_itself}
 use Rattle.macho_model.specs.Segments.{SEGMENT_PAGE}
-use Rattle.macho_model.specs.Chain.{ChainSegment, OnChain, OnPageChain, IsFileWord, STRIDE, next_of}
+use Rattle.macho_model.specs.Chain.{ChainSegment, OnChain, OnPageChain, IsFileWord, next_of}
 use Rattle.macho_model.specs.Needs.{POINTER_SIZE}
 use Rattle.macho_model.specs.Chain as chain
 use Rattle.macho_fixups.specs.declared.words.FixupKind.TheVariants.{Rebase}
 use Rattle.macho_fixups.specs.declared.run.Fixup.{Fixup}
 use Rattle.macho_fixups.specs.declared.run.FixupSegment.{FixupSegment}
 use Rattle.macho_fixups.specs.Words.{IsWordOf}
-use Rattle.macho_fixups.specs.Runs.{AreFixups, AreSegments, Holds, pages_with, pages_of}
+use Rattle.macho_fixups.specs.Runs.{AreFixups, AreSegments, Holds, pages_of}
+use Rattle.macho_fixups.specs.steps.Runs.{pages_with}
 use Rattle.macho_fixups.specs.Chains.{starts_in, chain_seen, step_of, AllStand, IsPageWord, IsStepOf, ChainIsRun}
 use Rattle.macho_fixups.proofs.Cuts.{pages_with-in, pages_with-out}
 use Rattle.macho_fixups.proofs.SegmentWrites.{no_segment}

@@ -6,14 +6,14 @@ use Rattle.std.proofs.Common.{◌≡◌, ℕ, ◌+◌, ◌*◌, ◌/◌, ◌≤�
 use Rattle.std.proofs.lemmas.Bool.Decides.{nat_tests}
 use Rattle.std.proofs.lemmas.List.{length-append}
 use Rattle.macho_bytes.specs.Texts.{put}
-use Rattle.macho_bytes.specs.Layouts.{spelling}
 use Rattle.macho_bytes.proofs.Puts.{put_nothing}
 use Rattle.macho_fixups.proofs.PutOrder.{put_in_front}
-use Rattle.macho_structs.specs.Layouts.{chained_starts_in_segment}
 use Rattle.macho_model.specs.Segments.{SEGMENT_PAGE}
 use Rattle.macho_fixups.specs.declared.run.Fixup.{Fixup}
 use Rattle.macho_fixups.specs.declared.run.FixupSegment.{FixupSegment}
 use Rattle.macho_fixups.specs.Tables.{starts_text, starts_size, starts_record, page_starts_text}
+use Rattle.macho_bytes.specs.Spellings.{spelling}
+use Rattle.macho_structs.specs.Spellings.{chained_starts_in_segment_rows}
 
 -- a segment without pages
 pub nothing_told : (base at pages : ℕ) (fixups : List Fixup) (s : FixupSegment) (out : List ℕ) → pages ≡ 0 → at ≤ length out
@@ -33,15 +33,15 @@ room_of pages some =
 
 -- a segment with pages
 pub segment_told : (base at pages : ℕ) (fixups : List Fixup) (s : FixupSegment) (out a b : List ℕ) → (pages ≡ 0 → ⊥)
-    → at + starts_size pages ≤ length out → length (spelling chained_starts_in_segment (starts_record base s pages)) ≡ 22
+    → at + starts_size pages ≤ length out → length (spelling chained_starts_in_segment_rows (starts_record base s pages)) ≡ 22
     → length (page_starts_text fixups (s.address / SEGMENT_PAGE) pages) ≡ 2 * pages
     → a ≡ put (at + 22) (page_starts_text fixups (s.address / SEGMENT_PAGE) pages) out
-    → b ≡ put at (spelling chained_starts_in_segment (starts_record base s pages)) a
+    → b ≡ put at (spelling chained_starts_in_segment_rows (starts_record base s pages)) a
     → (b ≡ put at (starts_text base fixups s pages) out) × (length (starts_text base fixups s pages) ≡ starts_size pages)
 unfolding starts_text
 segment_told base at pages fixups s out a b some room head rest first second =
     let no : (pages == 0) ≡ false = grind (arith, nat_tests) in
-    let record_text : List ℕ = spelling chained_starts_in_segment (starts_record base s pages) in
+    let record_text : List ℕ = spelling chained_starts_in_segment_rows (starts_record base s pages) in
     let pages_text : List ℕ = page_starts_text fixups (s.address / SEGMENT_PAGE) pages in
     let text : starts_text base fixups s pages ≡ record_text ++ pages_text = rw no refl in
     let size : starts_size pages ≡ 22 + 2 * pages = rw no refl in (

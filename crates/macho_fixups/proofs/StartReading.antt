@@ -14,11 +14,9 @@ use Rattle.std.proofs.lemmas.List.Sums.{sum_by-cons}
 use Rattle.std.proofs.lemmas.List.FromFn.{length-range_with_len, get_or-range_with_len}
 use Rattle.macho_bytes.specs.Numbers.{little, le_at, le_bytes}
 use Rattle.macho_bytes.specs.Texts.{Stands}
-use Rattle.macho_bytes.specs.Layouts.{spelling, ReadsBack}
 use Rattle.macho_bytes.proofs.Numbers.{little_is_sound, number-stands, stands-front, stands-back}
 use Rattle.macho_bytes.proofs.Layouts.{length-spelling, reads_back}
 use Rattle.macho_bytes.proofs.Tables.{EachLong, length-table, table-stands}
-use Rattle.macho_structs.specs.Layouts.{chained_starts_in_segment}
 use Rattle.macho_structs.specs.declared.fixups.ChainedStartsInSegment.{ChainedStartsInSegment}
 use Rattle.macho_model.specs.Images.{Table, starts_place, starts_offset, segment_starts, segment_starts_place}
 use Rattle.macho_model.specs.Segments.{SEGMENT_PAGE}
@@ -30,6 +28,8 @@ use Rattle.macho_fixups.proofs.FirstWords.{start_text}
 use Rattle.macho_fixups.specs.Calls.{FitsTable}
 use Rattle.macho_fixups.proofs.Cuts.{pages_of-no_bytes}
 use Rattle.macho_fixups.proofs.SegmentWrites.{offset_at, sum_bound}
+use Rattle.macho_bytes.specs.Spellings.{spelling, ReadsBack}
+use Rattle.macho_structs.specs.Spellings.{chained_starts_in_segment_rows}
 
 -- each start has two bytes
 two_bytes : (fixups : List Fixup) (first pages : ℕ) → EachLong (start_text fixups first) 2 (range_with_len 0 pages)
@@ -44,13 +44,13 @@ length-page_starts fixups first pages =
     length-table (start_text fixups first) 2 (range_with_len 0 pages) (two_bytes fixups first pages)
     ∙ ap (λ (n : ℕ). 2 * n) (length-range_with_len 0 pages)
 
-pub record_long : (r : ChainedStartsInSegment) → length (spelling chained_starts_in_segment r) ≡ 22
-record_long r = length-spelling chained_starts_in_segment r little_is_sound (refl, (refl, (refl, (refl, (refl, tt)))))
+pub record_long : (r : ChainedStartsInSegment) → length (spelling chained_starts_in_segment_rows r) ≡ 22
+record_long r = length-spelling chained_starts_in_segment_rows r little_is_sound (refl, (refl, (refl, (refl, (refl, tt)))))
 
 -- a segment's text by its pages
 pub text_some : (base pages : ℕ) (fixups : List Fixup) (s : FixupSegment) → 0 < pages
     → starts_text base fixups s pages
-    ≡ spelling chained_starts_in_segment (starts_record base s pages) ++ page_starts_text fixups (s.address / SEGMENT_PAGE) pages
+    ≡ spelling chained_starts_in_segment_rows (starts_record base s pages) ++ page_starts_text fixups (s.address / SEGMENT_PAGE) pages
 unfolding starts_text
 text_some base pages fixups s some = let other : (pages == 0) ≡ false = grind (arith, nat_tests) in rw other refl
 
@@ -65,7 +65,7 @@ text_long base fixups s =
             arith,
             size,
             ap length (text_some base (pages_of s fixups) fixups s some),
-            length-append (spelling chained_starts_in_segment (starts_record base s (pages_of s fixups)))
+            length-append (spelling chained_starts_in_segment_rows (starts_record base s (pages_of s fixups)))
                 (page_starts_text fixups (s.address / SEGMENT_PAGE) (pages_of s fixups)),
             record_long (starts_record base s (pages_of s fixups)),
             length-page_starts fixups (s.address / SEGMENT_PAGE) (pages_of s fixups),
@@ -138,9 +138,9 @@ start_stands b fixups p first pages page s lt =
 
 -- the record of a segment reads back
 record_back : (base pages : ℕ) (s : FixupSegment) → pages ≤ 65535 → s.address < 2 ^ 64
-    → ReadsBack chained_starts_in_segment (starts_record base s pages)
+    → ReadsBack chained_starts_in_segment_rows (starts_record base s pages)
 record_back base pages s few fits =
-    reads_back chained_starts_in_segment (starts_record base s pages) little_is_sound (
+    reads_back chained_starts_in_segment_rows (starts_record base s pages) little_is_sound (
       ((omega arith, tt), refl),
       (
         ((omega arith, (omega arith, tt)), refl),
@@ -196,9 +196,9 @@ record_read base at fixups segments b t k d fits place offsets texts lt some =
     record {
       offset = offset;
       is = (record_back base pages s (fits.pages k d lt) small).back b (segment_starts_place b t k)
-          (stands-front b (segment_starts_place b t k) (spelling chained_starts_in_segment (starts_record base s pages)) _ parts);
+          (stands-front b (segment_starts_place b t k) (spelling chained_starts_in_segment_rows (starts_record base s pages)) _ parts);
       behind = stands-back b (segment_starts_place b t k) (segment_starts_place b t k + 22)
-          (spelling chained_starts_in_segment (starts_record base s pages))
+          (spelling chained_starts_in_segment_rows (starts_record base s pages))
           (page_starts_text fixups (s.address / SEGMENT_PAGE) pages) (omega (arith, record_long (starts_record base s pages))) parts;
     }
   where
@@ -222,7 +222,7 @@ record_read base at fixups segments b t k d fits place offsets texts lt some =
 
     parts : Stands b (record {
       at = segment_starts_place b t k;
-      text = spelling chained_starts_in_segment (starts_record base s pages)
+      text = spelling chained_starts_in_segment_rows (starts_record base s pages)
           ++ page_starts_text fixups (s.address / SEGMENT_PAGE) pages;
     })
     parts =

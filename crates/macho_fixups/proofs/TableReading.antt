@@ -14,9 +14,7 @@ use Rattle.std.proofs.lemmas.List.{length-append, ext_get_or, get_or-map, length
 use Rattle.std.proofs.lemmas.List.FromFn.{length-range_with_len, get_or-range_with_len, length-enumerate_from, get_or-enumerate_from}
 use Rattle.macho_bytes.specs.Numbers.{little, le_at, le_bytes}
 use Rattle.macho_bytes.specs.Texts.{Stands}
-use Rattle.macho_bytes.specs.Layouts.{spelling, ReadsBack}
 use Rattle.macho_bytes.proofs.Numbers.{little_is_sound, number-stands, stands-front, stands-back}
-use Rattle.macho_structs.specs.Layouts.{chained_fixups_header}
 use Rattle.macho_structs.specs.declared.fixups.ChainedStartsInSegment.{ChainedStartsInSegment}
 use Rattle.macho_structs.specs.declared.fixups.ChainedFixupsHeader.{ChainedFixupsHeader}
 use Rattle.macho_model.specs.Images.{Table, fixups_header, starts_place, starts_offset, segment_starts, segment_starts_place}
@@ -38,6 +36,8 @@ use Rattle.macho_fixups.proofs.TableTexts.{header_long}
 use Rattle.macho_fixups.proofs.EntryReading.{entry_read}
 use Rattle.macho_fixups.proofs.TableTaken.{table_taken}
 use Rattle.macho_fixups.proofs.StartReading.{no_offset, record_read, start_stands}
+use Rattle.macho_bytes.specs.Spellings.{spelling, ReadsBack}
+use Rattle.macho_structs.specs.Spellings.{chained_fixups_header_rows}
 
 -- lists of numbers that agree at each place
 same_map : (f g : ℕ → ℕ) (n : ℕ) → ((k : ℕ) → k < n → f k ≡ g k) → map f (range_with_len 0 n) ≡ map g (range_with_len 0 n)
@@ -127,7 +127,7 @@ told_are b t fixups segments starts =
 pub table_reads_back : (base : ℕ) (fixups : List Fixup) (segments : List FixupSegment) (format : ℕ) (imports : List ImportEntry)
     (names : List ℕ)
     → FitsTable base fixups segments → AreEntries format imports → All EntryFits imports
-    → ReadsBack chained_fixups_header (table_header fixups segments format imports)
+    → ReadsBack chained_fixups_header_rows (table_header fixups segments format imports)
     → length (image_starts_text base fixups segments) ≡ image_starts_size fixups segments
     → length (names) + names_place fixups segments format imports ≡ length (table_text base fixups segments format imports names)
     → TableReadsBack base fixups segments format imports names
@@ -139,7 +139,7 @@ table_reads_back base fixups segments format imports names fits known entry_fits
     header = table_header fixups segments format imports
 
     head : List ℕ
-    head = spelling chained_fixups_header header
+    head = spelling chained_fixups_header_rows header
 
     entries : List ℕ
     entries = flat_map (entry_text format) imports

@@ -12,10 +12,8 @@ use Rattle.std.proofs.lemmas.Bool.Decides.{nat_tests}
 use Rattle.std.proofs.lemmas.List.{length-append, append_assoc}
 use Rattle.std.proofs.lemmas.List.Sums.{sum_by-cons}
 use Rattle.macho_bytes.specs.Texts.{put}
-use Rattle.macho_bytes.specs.Layouts.{spelling}
 use Rattle.macho_bytes.proofs.Numbers.{little_is_sound}
 use Rattle.macho_bytes.proofs.Layouts.{length-spelling}
-use Rattle.macho_structs.specs.Layouts.{chained_fixups_header}
 use Rattle.macho_structs.specs.declared.fixups.ChainedFixupsHeader.{ChainedFixupsHeader}
 use Rattle.macho_bytes.proofs.Puts.{put-put}
 use Rattle.macho_model.specs.Images.{import_entry_size}
@@ -27,6 +25,8 @@ use Rattle.macho_fixups.specs.Tables.{segment_size, starts_size, image_starts_si
 use Rattle.macho_fixups.specs.Calls.{AreEntries, FitsTable, all_pages}
 use Rattle.macho_fixups.proofs.SegmentWrites.{sum_bound}
 use Rattle.macho_fixups.proofs.PutOrder.{put_in_front}
+use Rattle.macho_bytes.specs.Spellings.{spelling}
+use Rattle.macho_structs.specs.Spellings.{chained_fixups_header_rows}
 
 -- four texts put next to each other, the first of them last
 pub joined : (b c d : ℕ) (h s i n out : List ℕ) → b ≡ length h → c ≡ b + length s → d ≡ c + length i → d + length n ≤ length out
@@ -44,8 +44,8 @@ pub joined_long : (h s i n : List ℕ) → length (h ++ (s ++ (i ++ n))) ≡ len
 joined_long h s i n = omega (arith, length-append h (s ++ (i ++ n)), length-append s (i ++ n), length-append i n)
 
 -- the header has 28 bytes
-pub header_long : (h : ChainedFixupsHeader) → length (spelling chained_fixups_header h) ≡ 28
-header_long h = length-spelling chained_fixups_header h little_is_sound (refl, tt)
+pub header_long : (h : ChainedFixupsHeader) → length (spelling chained_fixups_header_rows h) ≡ 28
+header_long h = length-spelling chained_fixups_header_rows h little_is_sound (refl, tt)
 
 -- an entry has at most eight bytes
 entry_at_most : (format : ℕ) → import_entry_size format ≤ 8

@@ -2,6 +2,7 @@ pub mod Words
 pub mod Runs
 pub mod Tables
 pub mod Chains
+pub mod Rows
 pub mod Readings
 pub mod Laws
 pub mod Calls

@@ -1,7 +1,8 @@
 -- What both writers ask of fixups and segments, and the pages that have a chain. Pages have 16 KiB.
-use Rattle.std.specs.Prelude.{◌≡◌, ℕ, ◌+◌, ◌-◌, ◌/◌, ◌%◌, ◌^◌, ◌≤◌, ◌⊎◌, ◌==◌, ◌&&◌, nat_le, nat_lt, max, if◌then◌else◌, Bool, List, [], ◌∷◌, All, Contains}
+use Rattle.std.specs.Prelude.{◌≡◌, ℕ, ◌+◌, ◌-◌, ◌/◌, ◌%◌, ◌^◌, ◌≤◌, ◌⊎◌, ◌==◌, ◌&&◌, nat_le, nat_lt, if◌then◌else◌, Bool, List, [], ◌∷◌, map, All, Contains}
 use Rattle.std.specs.List.{AllPairs}
 use Rattle.macho_model.specs.Images.{NO_START}
+use Rattle.macho_model.specs.Links.{greatest}
 use Rattle.macho_model.specs.Segments.{SEGMENT_PAGE}
 use Rattle.macho_model.specs.Chain.{STRIDE}
 use Rattle.macho_model.specs.Needs.{POINTER_SIZE}
@@ -9,17 +10,13 @@ use Rattle.macho_fixups.specs.declared.run.Fixup.{Fixup}
 use Rattle.macho_fixups.specs.declared.run.FixupSegment.{FixupSegment}
 use Rattle.macho_fixups.specs.Words.{FitsOrdinal}
 
--- the fixups stand in order, and no word begins inside another
-abbrev pub AreSorted : List Fixup → Type 0
-AreSorted fixups = AllPairs (λ f g. f.address + POINTER_SIZE ≤ g.address) fixups
-
 -- a word at an address stands whole in the file part of a segment
 abbrev pub Holds : FixupSegment → ℕ → Type 0
 Holds s a = (s.address ≤ a) × (a + POINTER_SIZE ≤ s.address + s.file_size)
 
 -- Fixups that chains can hold: both writers ask this of them.
 pub record AreFixups (segments : List FixupSegment) (fixups : List Fixup) : Type 0 where
-  pub sorted : AreSorted fixups
+  pub sorted : AllPairs (λ f g. f.address + POINTER_SIZE ≤ g.address) fixups
   pub steps : All (λ f. f.address % STRIDE ≡ 0) fixups
   pub in_page : All (λ f. f.address % SEGMENT_PAGE + POINTER_SIZE ≤ SEGMENT_PAGE) fixups
   pub in_segment : All (λ f. (s : FixupSegment) × Contains segments s × Holds s f.address) fixups
@@ -37,14 +34,10 @@ pub record AreSegments (segments : List FixupSegment) : Type 0 where
 abbrev pub is_in : FixupSegment → ℕ → Bool
 is_in s a = nat_le s.address a && nat_lt a (s.address + s.file_size)
 
--- the pages of a segment up to that of an address in it, none for another
-abbrev pub pages_with : FixupSegment → Fixup → ℕ
-pages_with s f = if is_in s f.address then f.address / SEGMENT_PAGE - s.address / SEGMENT_PAGE + 1 else 0
-
 -- the pages of a segment up to the last one with a fixup
 unfoldable pub pages_of : FixupSegment → List Fixup → ℕ
-pages_of s [] = 0
-pages_of s (f ∷ fixups) = max (pages_with s f) (pages_of s fixups)
+pages_of s fixups =
+    greatest (map (λ f. if is_in s f.address then f.address / SEGMENT_PAGE - s.address / SEGMENT_PAGE + 1 else 0) fixups)
 
 -- the start of a page by its number: the offset of its first fixup, or that there is none
 unfoldable pub start_of : List Fixup → ℕ → ℕ

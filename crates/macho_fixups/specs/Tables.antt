@@ -4,8 +4,6 @@ use Rattle.std.specs.Prelude.{ℕ, ◌+◌, ◌*◌, ◌-◌, ◌/◌, ◌^◌, 
 use Rattle.std.specs.Int.{w32, cast_unsigned}
 use Rattle.std.specs.List.{flat_map, range_with_len}
 use Rattle.macho_bytes.specs.Numbers.{le_bytes, rounded_up}
-use Rattle.macho_bytes.specs.Layouts.{spelling}
-use Rattle.macho_structs.specs.Layouts.{chained_fixups_header, chained_starts_in_segment}
 use Rattle.macho_structs.specs.declared.fixups.ChainedFixupsHeader.{ChainedFixupsHeader}
 use Rattle.macho_structs.specs.declared.fixups.ChainedStartsInSegment.{ChainedStartsInSegment}
 use Rattle.macho_model.specs.Images.{import_entry_size, POINTER_FORMAT, IMPORT_ADDEND_FORMAT}
@@ -15,6 +13,8 @@ use Rattle.macho_fixups.specs.declared.run.Fixup.{Fixup}
 use Rattle.macho_fixups.specs.declared.run.FixupSegment.{FixupSegment}
 use Rattle.macho_fixups.specs.declared.imports.ImportEntry.{ImportEntry}
 use Rattle.macho_fixups.specs.Runs.{pages_of, start_of}
+use Rattle.macho_bytes.specs.Spellings.{spelling}
+use Rattle.macho_structs.specs.Spellings.{chained_fixups_header_rows, chained_starts_in_segment_rows}
 
 -- the starts of so many pages from a number on, two bytes each
 unfoldable pub page_starts_text : List Fixup → ℕ → ℕ → List ℕ
@@ -39,7 +39,7 @@ starts_record base s pages = record {
 unfoldable pub starts_text : ℕ → List Fixup → FixupSegment → ℕ → List ℕ
 starts_text base fixups s pages =
     if pages == 0 then []
-    else spelling chained_starts_in_segment (starts_record base s pages) ++ page_starts_text fixups (s.address / SEGMENT_PAGE) pages
+    else spelling chained_starts_in_segment_rows (starts_record base s pages) ++ page_starts_text fixups (s.address / SEGMENT_PAGE) pages
 
 unfoldable pub segment_text : ℕ → List Fixup → FixupSegment → List ℕ
 segment_text base fixups s = starts_text base fixups s (pages_of s fixups)
@@ -88,10 +88,10 @@ table_header fixups segments format imports = record {
   symbols_format = 0;
 }
 
--- THE table.
+-- the table.
 unfoldable pub table_text : ℕ → List Fixup → List FixupSegment → ℕ → List ImportEntry → List ℕ → List ℕ
 table_text base fixups segments format imports names =
-    spelling chained_fixups_header (table_header fixups segments format imports)
+    spelling chained_fixups_header_rows (table_header fixups segments format imports)
     ++ (image_starts_text base fixups segments ++ (flat_map (entry_text format) imports ++ names))
 
 -- the bytes that are kept for a table of so many entries, bytes of names and pages

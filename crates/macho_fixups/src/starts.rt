@@ -3,9 +3,10 @@ ghost use Rattle.std.specs.Prelude.{◌≡◌, ◌+◌, ◌*◌, ◌/◌, ◌%�
 ghost use Rattle.std.specs.List.{flat_map};
 ghost use Rattle.macho_bytes.specs.Texts.{put};
 ghost use Rattle.macho_model.specs.Segments.{SEGMENT_PAGE};
-ghost use Rattle.macho_fixups.specs.Runs.{AreSorted, AreSegments, pages_of, start_of};
+ghost use Rattle.macho_fixups.specs.Runs.{AreSegments, pages_of, start_of};
 ghost use Rattle.macho_fixups.specs.steps.Cuts.{IsCut, AreBelow, IsRunOf};
 ghost use Rattle.macho_fixups.specs.Tables.{page_starts_text, starts_size, starts_text};
+ghost use Rattle.macho_fixups.specs.steps.Runs.{AreSorted};
 
 use crate::run::{Fixup, FixupSegment, SegmentRun, has_next, skip_below};
 use macho_model::{NO_START, POINTER_FORMAT, SEGMENT_PAGE};

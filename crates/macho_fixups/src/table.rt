@@ -11,11 +11,12 @@ ghost use Rattle.std.specs.Prelude.{◌≡◌, ◌+◌, ◌*◌, ◌<◌, ◌≤
 ghost use Rattle.std.specs.List.{flat_map};
 ghost use Rattle.macho_bytes.specs.Texts.{put};
 ghost use Rattle.macho_model.specs.Images.{import_entry_size};
-ghost use Rattle.macho_fixups.specs.Runs.{AreSorted, AreSegments, pages_of};
+ghost use Rattle.macho_fixups.specs.Runs.{AreSegments, pages_of};
 ghost use Rattle.macho_fixups.specs.steps.Cuts.{AreBelow};
 ghost use Rattle.macho_fixups.specs.Tables.{image_starts_text, image_starts_size, offsets_text, segment_text, segment_size, table_room, table_text, names_place};
 ghost use Rattle.macho_fixups.specs.Readings.{TableReadsBack};
 ghost use Rattle.macho_fixups.specs.Calls.{AreEntries, FitsTable, all_pages};
+ghost use Rattle.macho_fixups.specs.steps.Runs.{AreSorted};
 
 use crate::imports::{ImportEntry, entry_size, write_imports};
 use crate::run::{Fixup, FixupSegment};

@@ -6,7 +6,8 @@ use Rattle.std.specs.Prelude.{Contains}
 use Rattle.std.proofs.lemmas.Bool.{cases_lt}
 use Rattle.macho_lists.proofs.Members.{contains_first, contains_later}
 use Rattle.macho_model.specs.Links.{greatest}
-use Rattle.macho_model.specs.OutputSections.{Piece, end_of_piece, around}
+use Rattle.macho_model.specs.OutputSections.{around}
+use Rattle.macho_model.specs.Placement.{Piece, end_of_piece}
 
 abbrev start_of : Piece → ℕ
 start_of c = c.start

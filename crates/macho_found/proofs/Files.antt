@@ -16,9 +16,11 @@ use Rattle.macho_model.specs.declared.placed.Range64.{Range64}
 use Rattle.macho_model.specs.declared.placed.Stub.{Stub}
 use Rattle.macho_model.specs.Links.{Link, header_at}
 use Rattle.macho_model.specs.Segments.{TEXT, DATA_CONST}
-use Rattle.macho_model.specs.Placement.{Placed, Span, id_of, section_span, slot_span, stub_span, range_span, LiesInNamed, SectionLies}
-use Rattle.macho_model.specs.Placement.{RangeLies}
-use Rattle.macho_model.specs.Zeros.{filled_sections}
+use Rattle.macho_model.specs.Placement.{Placed, id_of}
+use Rattle.macho_model.specs.Zeros.{Span}
+use Rattle.macho_model.specs.Spans.{section_span, slot_span, stub_span, range_span, filled_sections}
+use Rattle.macho_model.specs.steps.Parts.{LiesInNamed, SectionLies}
+use Rattle.macho_model.specs.steps.Parts.{RangeLies}
 use Rattle.macho_placing.specs.Laws.{IsWhollyPlaced}
 use Rattle.macho_agreement.proofs.Entry.{one_named}
 use Rattle.macho_agreement.proofs.Room.{file_parts_end}
@@ -26,6 +28,7 @@ use Rattle.macho_ranges.proofs.Backed.{offset_is}
 use Rattle.macho_found.specs.Files.{StandsInFile, stubs_span, PartsStand}
 use Rattle.macho_found.proofs.Found.{laid_out}
 use Rattle.macho_found.proofs.Rows.{stubs_follow}
+use Rattle.macho_model.proofs.Parts.{in_order_of, in_segment_of}
 
 -- an empty range
 stands_empty : (p : Placed) (m : Span) → m.size ≡ 0 → StandsInFile p m
@@ -36,13 +39,13 @@ stands_in : (l : Link) (counts : Counts) (p : Placed) (s : PlacedSegment) (m : S
     → s.address ≤ m.start → m.start + m.size ≤ s.address + s.file_size → StandsInFile p m
 stands_in l counts p s m whole has from to = record {
   each = λ i lt.
-      let here = offset_is l p s (m.start + i) whole.placed.in_order has (omega (arith, from)) (omega (arith, to, lt)) in
-      let first = offset_is l p s m.start whole.placed.in_order has from (omega (arith, to, lt)) in
+      let here = offset_is l p s (m.start + i) (in_order_of whole.placed) has (omega (arith, from)) (omega (arith, to, lt)) in
+      let first = offset_is l p s m.start (in_order_of whole.placed) has from (omega (arith, to, lt)) in
       omega (arith, here, first, from);
   ends = λ some.
-      let first = offset_is l p s m.start whole.placed.in_order has from (omega (arith, to, some)) in
+      let first = offset_is l p s m.start (in_order_of whole.placed) has from (omega (arith, to, some)) in
       let end = all_contains (λ (u : PlacedSegment). u.file_offset + u.file_size ≤ p.linkedit.signature.end) p.segments s
-      (file_parts_end l counts p whole.placed.in_order.follow (laid_out l counts p whole)) has in
+      (file_parts_end l counts p whole.placed.follow (laid_out l counts p whole)) has in
       omega (arith, first, end, from, to);
 }
 
@@ -63,7 +66,7 @@ section_stands : (l : Link) (counts : Counts) (p : Placed) (q : PlacedSection) �
     → StandsInFile p (section_span l q)
 section_stands l counts p q whole has =
     let both = filter_contains (λ x. not (is_zerofill (header_at l (id_of x)))) p.sections q has in
-    let lies = all_contains (SectionLies l p) p.sections q whole.placed.in_segment.sections both.0 in
+    let lies = all_contains (SectionLies l p) p.sections q (in_segment_of whole.placed).sections both.0 in
     elim (cases_eq (header_at l (id_of q)).size 0) [
       | inl none ↦ stands_empty p (section_span l q) none
       | inr some ↦
@@ -81,9 +84,9 @@ all_stubs_stand l counts p d whole = elim (cases_lt 0 (length p.stubs)) [
   | inl some ↦
       let last : ℕ = length p.stubs - 1 in
       let below : last < length p.stubs = omega (arith, some) in
-      let one = whole.placed.in_segment.stubs 0 d some in
-      let two = whole.placed.in_segment.stubs last d below in
-      let same : one.0 ≡ two.0 = one_named l p.segments TEXT one.0 two.0 whole.placed.in_order.follow one.1 two.1 one.2 two.2 in
+      let one = (in_segment_of whole.placed).stubs 0 d some in
+      let two = (in_segment_of whole.placed).stubs last d below in
+      let same : one.0 ≡ two.0 = one_named l p.segments TEXT one.0 two.0 whole.placed.follow one.1 two.1 one.2 two.2 in
       let far = stubs_follow l counts p whole last d below in
       let end = ap (λ (s : PlacedSegment). s.address + s.file_size) same in
       stands_in l counts p one.0 (stubs_span p d) whole one.1 one.3.from (omega (arith, two.3.to, far, end, some))
@@ -92,9 +95,9 @@ all_stubs_stand l counts p d whole = elim (cases_lt 0 (length p.stubs)) [
 pub parts_stand : PartsStand
 parts_stand l counts p whole = record {
   sections = contains_all (λ q. StandsInFile p (section_span l q)) (filled_sections l p) (λ q has. section_stands l counts p q whole has);
-  slots = λ k d lt. stands_named l counts p DATA_CONST (slot_span (get_or p.slots k d)) whole (whole.placed.in_segment.slots k d lt);
-  stubs = λ k d lt. stands_named l counts p TEXT (stub_span (get_or p.stubs k d)) whole (whole.placed.in_segment.stubs k d lt);
+  slots = λ k d lt. stands_named l counts p DATA_CONST (slot_span (get_or p.slots k d)) whole ((in_segment_of whole.placed).slots k d lt);
+  stubs = λ k d lt. stands_named l counts p TEXT (stub_span (get_or p.stubs k d)) whole ((in_segment_of whole.placed).stubs k d lt);
   all_stubs = λ d. all_stubs_stand l counts p d whole;
-  init_offsets = range_stands l counts p p.init_offsets whole whole.placed.in_segment.init_offsets;
-  unwind = range_stands l counts p p.unwind whole whole.placed.in_segment.unwind;
+  init_offsets = range_stands l counts p p.init_offsets whole (in_segment_of whole.placed).init_offsets;
+  unwind = range_stands l counts p p.unwind whole (in_segment_of whole.placed).unwind;
 }

@@ -15,8 +15,10 @@ use Rattle.macho_model.specs.Links.{Link}
 use Rattle.macho_model.specs.Segments.{TEXT}
 use Rattle.macho_model.specs.Head.{headers_in}
 use Rattle.macho_model.specs.HeadCommands.{size_said}
-use Rattle.macho_model.specs.Placement.{Placed, head_size, is_segment_named, range_span}
-use Rattle.macho_model.specs.OutputSections.{POINTER_EXPONENT, piece}
+use Rattle.macho_model.specs.Placement.{Placed, head_size, is_segment_named}
+use Rattle.macho_model.specs.Spans.{range_span}
+use Rattle.macho_model.specs.steps.Outputs.{POINTER_EXPONENT}
+use Rattle.macho_model.specs.Spans.{piece}
 use Rattle.macho_model.proofs.Least.{tables_in_order}
 use Rattle.macho_promise.specs.Sizes.{AreCounts, counts_with, commands_size}
 use Rattle.macho_placing.specs.Laws.{IsWhollyPlaced, NonePasses}
@@ -27,9 +29,10 @@ use Rattle.macho_sealing.specs.Heads.{commands_of_parts}
 use Rattle.macho_sealing.proofs.Joined.{parts_said}
 use Rattle.macho_found.specs.Heads.{HeadersStand, TablesEnd, TablesStandLow, HeadsHaveRoom}
 use Rattle.macho_found.proofs.Found.{laid_out}
+use Rattle.macho_model.proofs.Outputs.{least_of, headers_same}
 
 pub headers_stand : HeadersStand
-headers_stand l counts p whole = record { are = headers-are l counts p whole.order whole.placed.in_order.follow whole.sections }
+headers_stand l counts p whole = record { are = headers-are l counts p whole.order.segments whole.placed.follow (whole.sections ∙ headers_same l counts p) }
 
 -- the tables one behind the other
 pub record TablesFollow (p : Placed) : Type 0 where
@@ -43,7 +46,7 @@ pub tables_follow : (l : Link) (counts : Counts) (p : Placed) → IsWhollyPlaced
 tables_follow l counts p whole =
     let rooms = whole.least.rooms in
     let d = piece POINTER_EXPONENT (range_span p.linkedit.fixups) in
-    let order = tables_in_order l counts p whole.least in
+    let order = tables_in_order l counts p (least_of whole.least) in
     record {
       fixups = (omega (arith, rooms.fixups), omega (arith, rooms.fixups, order 1 5 d (omega arith) (omega arith)));
       trie = (omega (arith, rooms.trie), omega (arith, rooms.trie, order 2 5 d (omega arith) (omega arith)));
@@ -87,12 +90,12 @@ commands_counted l counts are = ap (λ (c : Counts). c.commands) are.are
 -- the head lies in the file
 head_inside : (l : Link) (counts : Counts) (p : Placed) → IsWhollyPlaced l counts p → head_size counts p ≤ p.linkedit.signature.end
 head_inside l counts p whole =
-    let text = whole.placed.in_order.begins in
+    let text = whole.placed.begins in
     let laid = laid_out l counts p whole in
     let holds = all_contains (λ s. is_segment_named TEXT s ≡ true → head_size counts p ≤ s.file_size) p.segments text.0
     (text_holds_head l counts p laid) text.1 text.2 in
     let end = all_contains (λ (s : PlacedSegment). s.file_offset + s.file_size ≤ p.linkedit.signature.end) p.segments text.0
-    (file_parts_end l counts p whole.placed.in_order.follow laid) text.1 in
+    (file_parts_end l counts p whole.placed.follow laid) text.1 in
     omega (arith, holds, end)
 
 pub heads_room : HeadsHaveRoom

@@ -18,7 +18,8 @@ use Rattle.macho_model.specs.Links.{Link, SectionId, section_id, object_of, head
 use Rattle.macho_model.specs.Resolution.{SymbolId, Definition, Symbol, Library, ImageBase, symbols_of, entry_at, name_at, definition_of}
 use Rattle.macho_model.specs.Resolution.{stands_in_carried, section_of_symbol}
 use Rattle.macho_model.specs.Needs.{relocation_in, section_named, imports_of}
-use Rattle.macho_model.specs.Targets.{own_target, definition_target, target_with, target_of}
+use Rattle.macho_model.specs.Targets.{own_target, definition_target, target_of}
+use Rattle.macho_model.specs.Uses.{target_with}
 use Rattle.macho_model.specs.Targets.{target_of_relocation}
 use Rattle.macho_targets.specs.Laws.{IsOfLink}
 use Rattle.macho_model.specs.Grammar.{ObjectsAreRead}

@@ -15,7 +15,9 @@ use Rattle.macho_model.specs.declared.targets.Target.TheVariants as target
 use Rattle.macho_model.specs.Links.{Link, SectionId, section_id, header_at}
 use Rattle.macho_model.specs.Targets.{is_import}
 use Rattle.macho_model.specs.Segments.{DATA}
-use Rattle.macho_model.specs.Placement.{Placed, IsPlaced, id_of, common_span, SectionLies, LiesInNamed}
+use Rattle.macho_model.specs.Placement.{Placed, IsPlaced, id_of}
+use Rattle.macho_model.specs.Spans.{common_span}
+use Rattle.macho_model.specs.steps.Parts.{SectionLies, LiesInNamed}
 use Rattle.macho_placing.specs.Laws.{NonePasses}
 use Rattle.macho_targets.specs.Laws.{IsOfLink}
 use Rattle.macho_targets.proofs.Places.{section_place, common_place}
@@ -25,6 +27,7 @@ use Rattle.macho_found.specs.Targets.{PlacesAreLow, PlacesAreAbove}
 use Rattle.macho_found.proofs.Found.{things_listed}
 use Rattle.macho_found.proofs.Segments.{base_is, segment_ends}
 use Rattle.macho_found.proofs.Tables.{in_memory, file_below}
+use Rattle.macho_model.proofs.Parts.{in_segment_of}
 
 -- a segment ends below 2 ^ 64
 below : (l : Link) (counts : Counts) (p : Placed) (s : PlacedSegment) → IsPlaced l counts p → NonePasses l counts p → Contains p.segments s
@@ -37,7 +40,7 @@ below l counts p s placed within has =
 pub section_low : (l : Link) (counts : Counts) (p : Placed) (q : PlacedSection) → IsPlaced l counts p → NonePasses l counts p
     → Contains p.sections q → q.address + (header_at l (id_of q)).size < 2 ^ 64
 section_low l counts p q placed within has =
-    let lies = all_contains (SectionLies l p) p.sections q placed.in_segment.sections has in
+    let lies = all_contains (SectionLies l p) p.sections q (in_segment_of placed).sections has in
     let s : PlacedSegment = lies.0 in
     let one : Contains p.segments s = (q.segment, lies.1.0, lies.1.1) in
     let memory = in_memory (not (is_zerofill (header_at l (id_of q))) && not ((header_at l (id_of q)).size == 0)) s.file_size s.size
@@ -47,7 +50,7 @@ section_low l counts p q placed within has =
 pub common_low : (l : Link) (counts : Counts) (p : Placed) (c : PlacedCommon) → IsPlaced l counts p → NonePasses l counts p
     → Contains p.commons c → c.address < 2 ^ 64
 common_low l counts p c placed within has =
-    let lies = all_contains (λ x. LiesInNamed p DATA false (common_span l x)) p.commons c placed.in_segment.commons has in
+    let lies = all_contains (λ x. LiesInNamed p DATA false (common_span l x)) p.commons c (in_segment_of placed).commons has in
     omega (arith, lies.3.to, below l counts p lies.0 placed within lies.1)
 
 pub places_low : PlacesAreLow

@@ -20,14 +20,21 @@ use Rattle.macho_model.specs.Lists.{IsNumber, of_first}
 use Rattle.macho_model.specs.Commands.{Command, numbered, path_of}
 use Rattle.macho_model.specs.Objects.{num_symbols, symbol_at, symbol_name, strings_of, install_name_of}
 use Rattle.macho_model.specs.Links.{Link, Input, Object, Dylib, Stub}
-use Rattle.macho_model.specs.Resolution.{SymbolId, Definition, Symbol, Library, ImageBase, strong_of, weak_of, greatest_of, library_of_input}
-use Rattle.macho_model.specs.Resolution.{is_offered_symbol, offers, libraries_with, first_or, definition_of, DSO_HANDLE}
-use Rattle.macho_model.specs.Needs.{is_library, is_imported, imports_of, name_used, uses_of, distinct, libraries_needed, import_library}
+use Rattle.macho_model.specs.Resolution.{SymbolId, Definition, Symbol, Library, ImageBase, strong_of, greatest_of, library_of_input}
+use Rattle.macho_model.specs.steps.Resolved.{weak_of}
+use Rattle.macho_model.specs.Resolution.{offers, libraries_with}
+use Rattle.macho_model.specs.steps.Resolved.{is_offered_symbol, first_or, DSO_HANDLE}
+use Rattle.macho_model.specs.Needs.{is_imported, imports_of, distinct, libraries_needed, import_library}
+use Rattle.macho_model.specs.steps.Resolved.{is_library}
+use Rattle.macho_model.specs.Uses.{name_used, uses_of}
 use Rattle.macho_agreement.proofs.Names.{name_of-name}
 use Rattle.macho_standing.proofs.Distinct.{of_distinct}
 use Rattle.macho_standing.proofs.Members.{of_filter_map}
 use Rattle.macho_parts.specs.Views.{IsPlain}
 use Rattle.macho_found.specs.Names.{StubsArePlain, ImportsArePlain, ImportsAreTellable, LibrariesAreWhole}
+use Rattle.macho_model.proofs.Uses.{imports_are}
+use Rattle.macho_model.proofs.Resolved.{definition_is_first}
+use Rattle.macho_model.specs.steps.Resolved.{first_definition}
 
 -- a text that doesn't begin with a NUL begins with its first byte
 first_stays : (x k : ℕ) (xs : List ℕ) → take (1 + k) (x ∷ xs) ≡ x ∷ take k xs
@@ -105,21 +112,20 @@ some_library [] false e = cc
 some_library (file ∷ files) b e = (file, contains_first file files)
 
 imported_plain : (l : Link) (name : List ℕ) → StubsArePlain l → is_imported l name ≡ true → IsPlain name
-unfolding definition_of libraries_with
+unfolding first_definition libraries_with
 imported_plain l name plain e =
     let found = some_library (libraries_with l name) (bytes_eq name DSO_HANDLE)
-    (no_symbol (greatest_of l name) _ (no_symbol (weak_of l name) _ (no_symbol (strong_of l name) _ e))) in
+    (no_symbol (greatest_of l name) _ (no_symbol (weak_of l name) _ (no_symbol (strong_of l name) _ (ap is_library (sym (definition_is_first l name)) ∙ e)))) in
     let m = map_contains (λ (i : ℕ × Input). i.0) (filter (λ i. offers name i.1) (enumerate_from 0 l.inputs)) found.0 found.1 in
     let of = filter_contains (λ (i : ℕ × Input). offers name i.1) (enumerate_from 0 l.inputs) m.0 m.1 in
     offered_plain l name m.0.0 m.0.1 plain (enumerate_contains l.inputs m.0 of.0) of.1
 
 pub imports_plain : ImportsArePlain
-unfolding imports_of
 imports_plain l plain =
-    contains_all IsPlain (distinct bytes_eq (filter (is_imported l) (filter_map (name_used l) (uses_of l))))
+    subst (All IsPlain) (sym (imports_are l)) (contains_all IsPlain (distinct bytes_eq (filter (is_imported l) (filter_map (name_used l) (uses_of l))))
     (λ name has. imported_plain l name plain
     (filter_contains (is_imported l) (filter_map (name_used l) (uses_of l)) name
-    (of_distinct bytes_eq (filter (is_imported l) (filter_map (name_used l) (uses_of l))) name has)).1)
+    (of_distinct bytes_eq (filter (is_imported l) (filter_map (name_used l) (uses_of l))) name has)).1))
 
 pub imports_tellable : ImportsAreTellable
 imports_tellable l plain few = record { plain = imports_plain l plain; libraries_few = few }

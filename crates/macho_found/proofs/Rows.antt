@@ -20,11 +20,16 @@ use Rattle.macho_model.specs.Targets.{slots_of, stubs_of}
 use Rattle.macho_model.specs.Resolution.{chosen_commons}
 use Rattle.macho_model.specs.Segments.{PAGEZERO, TEXT, DATA_CONST, DATA, LINKEDIT, has_section_in, other_segments, segment_names_of}
 use Rattle.macho_model.specs.Segments.{list_if}
-use Rattle.macho_model.specs.Placement.{slot_span, stub_span}
-use Rattle.macho_model.specs.OutputSections.{InitOffsets, UnwindInfo, Stubs, Slots, merged_in, is_zeros, is_code, output_sections_in}
-use Rattle.macho_model.specs.OutputSections.{output_sections_of, Piece, piece, pieces_of, WORD_EXPONENT, POINTER_EXPONENT}
+use Rattle.macho_model.specs.Spans.{slot_span, stub_span}
+use Rattle.macho_model.specs.OutputSections.{is_zeros, is_code}
+use Rattle.macho_model.specs.steps.Outputs.{InitOffsets, UnwindInfo, Stubs, Slots, merged_in, output_sections_in}
+use Rattle.macho_model.specs.steps.Outputs.{output_sections_of, pieces_of, WORD_EXPONENT, POINTER_EXPONENT}
+use Rattle.macho_model.specs.Placement.{Piece}
+use Rattle.macho_model.specs.Spans.{piece}
 use Rattle.macho_model.specs.Order.{BeginsLeast}
 use Rattle.macho_found.specs.Slots.{StubsFollow, SlotsFollow}
+use Rattle.macho_model.proofs.Parts.{aligned_of}
+use Rattle.macho_model.proofs.Outputs.{least_of}
 
 -- among chosen ones
 in_list_if : {X : Type 0} (b : Bool) (x : X) → b ≡ true → Contains (list_if b (x ∷ [])) x
@@ -132,15 +137,15 @@ unfolding pieces_of
 stubs_follow l counts p whole k d lt =
     let long : length p.stubs ≡ length (stubs_of l) =
     sym (length-map p.stubs (λ (s : Stub). target.Import s.import)) ∙ ap length whole.placed.whole_list.stubs in
-    let next = all_contains (λ o. EachNext BeginsLeast (pieces_of l p o)) (output_sections_of l counts) Stubs whole.least.pieces
+    let next = all_contains (λ o. EachNext BeginsLeast (pieces_of l p o)) (output_sections_of l counts) Stubs (least_of whole.least).pieces
     (stubs_there l counts (omega (arith, lt, long))) in
-    stubs_row p.stubs next whole.placed.aligned.stubs k d lt
+    stubs_row p.stubs next (aligned_of whole.placed).stubs k d lt
 
 pub slots_follow : SlotsFollow
 unfolding pieces_of
 slots_follow l counts p whole k d lt =
     let long : length p.slots ≡ length (slots_of l) =
     sym (length-map p.slots (λ (s : Slot). s.target)) ∙ ap length whole.placed.whole_list.slots in
-    let next = all_contains (λ o. EachNext BeginsLeast (pieces_of l p o)) (output_sections_of l counts) Slots whole.least.pieces
+    let next = all_contains (λ o. EachNext BeginsLeast (pieces_of l p o)) (output_sections_of l counts) Slots (least_of whole.least).pieces
     (slots_there l counts (omega (arith, lt, long))) in
-    slots_row p.slots next whole.placed.aligned.slots k d lt
+    slots_row p.slots next (aligned_of whole.placed).slots k d lt

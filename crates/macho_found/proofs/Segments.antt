@@ -18,7 +18,7 @@ use Rattle.macho_model.specs.Lists.{EachNext}
 use Rattle.macho_fixups.specs.declared.run.Fixup.{Fixup}
 use Rattle.macho_fixups.specs.declared.run.FixupSegment.{FixupSegment}
 use Rattle.macho_fixups.specs.Runs.{Holds}
-use Rattle.macho_promise.specs.FixupsSay.{fixup_segment}
+use Rattle.macho_parts.specs.steps.Segments.{fixup_segment}
 use Rattle.macho_placing.specs.Laws.{NonePasses}
 use Rattle.macho_placing.proofs.Lists.{pairs_map}
 use Rattle.macho_agreement.proofs.Room.{file_parts_end}
@@ -70,8 +70,8 @@ rising l segments follow =
 pub segments_rise : SegmentsRise
 segments_rise l counts p whole within =
     let ss : List PlacedSegment = p.segments in
-    let order = rising l ss whole.placed.in_order.follow in
-    let paged = whole.placed.in_order.paged in
+    let order = rising l ss whole.placed.follow in
+    let paged = whole.placed.paged in
     record {
       in_order = pairs_map (λ (s t : FixupSegment). s.address + s.size ≤ t.address) fixup_segment ss
           (λ i j d lt below. (order i j d lt below).0);
@@ -96,4 +96,4 @@ words_room l counts p fixups whole =
     All-map
     (λ (s : FixupSegment). (f : Fixup) → Contains fixups f → Holds s f.address → s.file_offset + s.file_size ≤ p.linkedit.signature.end)
     fixup_segment p.segments
-    (λ k d lt f has holds. file_parts_end l counts p whole.placed.in_order.follow (laid_out l counts p whole) k d lt)
+    (λ k d lt f has holds. file_parts_end l counts p whole.placed.follow (laid_out l counts p whole) k d lt)

@@ -25,8 +25,10 @@ use Rattle.macho_model.specs.SymbolTable.{table_symbols}
 use Rattle.macho_linkedit.specs.TableRows.{SymbolRow, row_of, symbol_rows}
 use Rattle.macho_model.specs.ImportTable.{fixup_count}
 use Rattle.macho_model.specs.Values.{needs_fixup}
-use Rattle.macho_model.specs.Placement.{Placed, id_of, range_span}
-use Rattle.macho_model.specs.OutputSections.{POINTER_EXPONENT, piece}
+use Rattle.macho_model.specs.Placement.{Placed, id_of}
+use Rattle.macho_model.specs.Spans.{range_span}
+use Rattle.macho_model.specs.steps.Outputs.{POINTER_EXPONENT}
+use Rattle.macho_model.specs.Spans.{piece}
 use Rattle.macho_promise.specs.Sizes.{AreCounts, counts_with, unwind_size, text_size}
 use Rattle.macho_parts.specs.Asked.{field_fixup, slot_fixup, fixups_in, fixups_asked}
 use Rattle.macho_placing.specs.Laws.{IsWhollyPlaced}

@@ -22,10 +22,15 @@ use Rattle.macho_model.specs.declared.targets.Target.{Target}
 use Rattle.macho_model.specs.declared.targets.Target.TheVariants as target
 use Rattle.macho_model.specs.Links.{Link}
 use Rattle.macho_model.specs.Segments.{PAGEZERO, TEXT, DATA_CONST}
-use Rattle.macho_model.specs.Needs.{Use, ByRelocation, ByInitializer, ByPersonality, ByName, uses_of, relocation_in}
-use Rattle.macho_model.specs.Targets.{same_target, is_import, slots_of, stubs_of, slot_of_use, stub_of_use, slot_of_relocation}
-use Rattle.macho_model.specs.Targets.{stub_of_relocation, target_of_relocation}
-use Rattle.macho_model.specs.Placement.{Placed, IsPlaced, is_segment_named, slot_span, stub_span, LiesInNamed}
+use Rattle.macho_model.specs.Needs.{relocation_in}
+use Rattle.macho_model.specs.Uses.{Use, ByRelocation, ByInitializer, ByPersonality, ByName, uses_of}
+use Rattle.macho_model.specs.Targets.{same_target, is_import, slots_of, stubs_of}
+use Rattle.macho_model.specs.Uses.{slot_of_use, stub_of_use, slot_of_relocation}
+use Rattle.macho_model.specs.Targets.{target_of_relocation}
+use Rattle.macho_model.specs.Uses.{stub_of_relocation}
+use Rattle.macho_model.specs.Placement.{Placed, IsPlaced, is_segment_named}
+use Rattle.macho_model.specs.Spans.{slot_span, stub_span}
+use Rattle.macho_model.specs.steps.Parts.{LiesInNamed}
 use Rattle.macho_placing.specs.Laws.{NonePasses}
 use Rattle.macho_targets.proofs.Above.{segment_above}
 use Rattle.macho_targets.proofs.Once.{same_targets}
@@ -38,6 +43,8 @@ use Rattle.macho_fields.proofs.Once.{placed_once}
 use Rattle.macho_found.specs.Slots.{StubsStand}
 use Rattle.macho_found.proofs.Segments.{base_is, segment_ends}
 use Rattle.macho_found.proofs.Tables.{file_below}
+use Rattle.macho_model.proofs.Uses.{slots_are, stubs_are}
+use Rattle.macho_model.proofs.Parts.{aligned_of, in_order_of, in_segment_of}
 
 -- what needs a stub needs a slot
 slot_too : (type : ℕ) (t u : Target) → stub_of_relocation type t ≡ Some u → slot_of_relocation type t ≡ Some u
@@ -61,11 +68,11 @@ use_too l (ByPersonality s r) t e = cc
 use_too l (ByName name) t e = cc
 
 slot_listed : (l : Link) (t : Target) → Contains (stubs_of l) t → Contains (slots_of l) t
-unfolding slots_of stubs_of
 slot_listed l t has =
-    let made = of_filter_map (stub_of_use l) (uses_of l) t (of_distinct same_target (filter_map (stub_of_use l) (uses_of l)) t has) in
-    in_distinct same_target same_targets (filter_map (slot_of_use l) (uses_of l)) t
-    (in_filter_map (slot_of_use l) (uses_of l) made.0 t made.1 (use_too l made.0 t made.2))
+    let made = of_filter_map (stub_of_use l) (uses_of l) t (of_distinct same_target (filter_map (stub_of_use l) (uses_of l)) t
+    (subst (λ (ts : List Target). Contains ts t) (stubs_are l) has)) in
+    subst (λ (ts : List Target). Contains ts t) (sym (slots_are l)) (in_distinct same_target same_targets (filter_map (slot_of_use l) (uses_of l)) t
+    (in_filter_map (slot_of_use l) (uses_of l) made.0 t made.1 (use_too l made.0 t made.2)))
 
 stub_has_slot : (l : Link) (counts : Counts) (p : Placed) (s : Stub) → IsPlaced l counts p → Contains p.stubs s
     → HasSlot p (target.Import s.import)
@@ -80,11 +87,11 @@ stub_has_slot l counts p s placed has =
 -- the segments of stubs and slots
 stub_in : (l : Link) (counts : Counts) (p : Placed) (s : Stub) → IsPlaced l counts p → Contains p.stubs s
     → LiesInNamed p TEXT true (stub_span s)
-stub_in l counts p s placed has = all_contains (λ x. LiesInNamed p TEXT true (stub_span x)) p.stubs s placed.in_segment.stubs has
+stub_in l counts p s placed has = all_contains (λ x. LiesInNamed p TEXT true (stub_span x)) p.stubs s (in_segment_of placed).stubs has
 
 slot_in : (l : Link) (counts : Counts) (p : Placed) (t : Slot) → IsPlaced l counts p → Contains p.slots t
     → LiesInNamed p DATA_CONST true (slot_span t)
-slot_in l counts p t placed has = all_contains (λ x. LiesInNamed p DATA_CONST true (slot_span x)) p.slots t placed.in_segment.slots has
+slot_in l counts p t placed has = all_contains (λ x. LiesInNamed p DATA_CONST true (slot_span x)) p.slots t (in_segment_of placed).slots has
 
 named_other : (name other : List ℕ) (s : PlacedSegment) → is_segment_named name s ≡ true → bytes_eq name other ≡ false
     → bytes_eq (text_of s.name) other ≡ false
@@ -94,14 +101,14 @@ named_other name other s named e = ap (λ (n : List ℕ). bytes_eq n other) ((by
 text_at : (l : Link) (counts : Counts) (p : Placed) (s : PlacedSegment) → IsPlaced l counts p → Contains p.segments s
     → is_segment_named TEXT s ≡ true → s.address ≡ p.base
 text_at l counts p s placed has named =
-    let begins = placed.in_order.begins in
-    ap (λ (u : PlacedSegment). u.address) (one_named l p.segments TEXT s begins.0 placed.in_order.follow has begins.1 named begins.2)
+    let begins = placed.begins in
+    ap (λ (u : PlacedSegment). u.address) (one_named l p.segments TEXT s begins.0 placed.follow has begins.1 named begins.2)
     ∙ begins.3 ∙ sym placed.base
 
 stub_before : (l : Link) (counts : Counts) (p : Placed) (s : Stub) (t : Slot) → IsPlaced l counts p → Contains p.stubs s
     → Contains p.slots t
     → s.address < t.address
-stub_before l counts p s t placed stub slot = by (before_or_one l p.segments a.0 b.0 placed.in_order.follow a.1 b.1)
+stub_before l counts p s t placed stub slot = by (before_or_one l p.segments a.0 b.0 placed.follow a.1 b.1)
   where
     a : LiesInNamed p TEXT true (stub_span s)
     a = stub_in l counts p s placed stub
@@ -113,7 +120,7 @@ stub_before l counts p s t placed stub slot = by (before_or_one l p.segments a.0
     text = text_at l counts p a.0 placed a.1 a.2
 
     above : p.base ≤ b.0.address
-    above = segment_above l p b.1.0 b.0 placed.in_order placed.base (b.1.1, b.1.2) (named_other DATA_CONST PAGEZERO b.0 b.2 refl)
+    above = segment_above l p b.1.0 b.0 (in_order_of placed) placed.base (b.1.1, b.1.2) (named_other DATA_CONST PAGEZERO b.0 b.2 refl)
 
     by : (a.0 ≡ b.0) ⊎ StandsBefore a.0 b.0 ⊎ StandsBefore b.0 a.0 → s.address < t.address
     by (inl same) =
@@ -145,7 +152,7 @@ stubs_stand l counts p sound =
     record {
       once = placed_once l counts p placed;
       slots = λ s has. stub_has_slot l counts p s placed has;
-      aligned = λ t has. all_contains (λ (x : Slot). x.address % 8 ≡ 0) p.slots t placed.aligned.slots has;
+      aligned = λ t has. all_contains (λ (x : Slot). x.address % 8 ≡ 0) p.slots t (aligned_of placed).slots has;
       behind = λ s t stub slot. stub_before l counts p s t placed stub slot;
       low = λ s t stub slot. slot_near l counts p s t placed sound.within stub slot;
     }

@@ -7,7 +7,6 @@ use Rattle.std.proofs.lemmas.List.Sums.{sum_by-cons}
 use Rattle.macho_model.specs.declared.placed.Counts.{Counts}
 use Rattle.macho_model.specs.Links.{Link}
 use Rattle.macho_model.specs.Needs.{imports_of}
-use Rattle.macho_model.specs.Order.{fixup_room, pointer_pages}
 use Rattle.macho_model.specs.Fixups.{import_entries_of, import_format}
 use Rattle.macho_model.specs.Images.{import_entry_size}
 use Rattle.macho_model.specs.ImportTable.{names_text}
@@ -18,6 +17,7 @@ use Rattle.macho_promise.specs.FixupsSay.{fixup_segments}
 use Rattle.macho_promise.specs.Sizes.{AreCounts, counts_with, text_size}
 use Rattle.macho_found.specs.Rooms.{TablesHaveRoom}
 use Rattle.macho_found.proofs.Tables.{pages_kept}
+use Rattle.macho_model.specs.Rooms.{fixup_room, pointer_pages}
 
 -- the counted numbers
 pub imports_counted : (l : Link) (counts : Counts) → AreCounts l counts → counts.imports ≡ length (import_entries_of l)

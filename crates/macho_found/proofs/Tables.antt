@@ -22,15 +22,18 @@ use Rattle.macho_records.specs.Sections.{is_zerofill, segment_name_of}
 use Rattle.macho_model.specs.Links.{Link, header_at}
 use Rattle.macho_model.specs.Fields.{Field, fields_of}
 use Rattle.macho_model.specs.Segments.{DATA_CONST, PAGEZERO, may_hold_pointers, segment_names_of, SEGMENT_PAGE}
-use Rattle.macho_model.specs.Placement.{Placed, IsPlaced, id_of, is_segment_named, slot_span, LiesInNamed, SectionLies}
-use Rattle.macho_model.specs.Order.{pages_of, pointer_pages}
+use Rattle.macho_model.specs.Placement.{Placed, IsPlaced, id_of, is_segment_named}
+use Rattle.macho_model.specs.Spans.{slot_span}
+use Rattle.macho_model.specs.steps.Parts.{LiesInNamed, SectionLies}
+use Rattle.macho_model.specs.Order.{pages_of}
 use Rattle.macho_model.specs.Values.{needs_fixup}
 use Rattle.macho_fixups.specs.declared.run.Fixup.{Fixup}
 use Rattle.macho_fixups.specs.Runs.{is_in}
 use Rattle.macho_fixups.specs.Runs as runs
 use Rattle.macho_fixups.specs.Calls.{all_pages}
 use Rattle.macho_fixups.proofs.Bounds.{pages_bounded, none_no_pages}
-use Rattle.macho_promise.specs.FixupsSay.{IsFixupOf, slot, pointer, fixup_segment, fixup_segments}
+use Rattle.macho_promise.specs.FixupsSay.{IsFixupOf, slot, pointer, fixup_segments}
+use Rattle.macho_parts.specs.steps.Segments.{fixup_segment}
 use Rattle.macho_ranges.proofs.Backed.{StandsBefore, before_or_one}
 use Rattle.macho_standing.proofs.Apart.{placed_is_carried}
 use Rattle.macho_targets.proofs.Above.{segment_above}
@@ -39,6 +42,8 @@ use Rattle.macho_found.specs.Premises.{IsSoundlyPlaced}
 use Rattle.macho_found.specs.Rooms.{PagesAreFew, RunsFitTables}
 use Rattle.macho_found.proofs.Segments.{segments_rise}
 use Rattle.macho_found.proofs.Pointers.{leads, pointer_wide}
+use Rattle.macho_model.proofs.Parts.{in_order_of, in_segment_of}
+use Rattle.macho_model.specs.Rooms.{pointer_pages}
 
 -- the segment of a word: one that may hold pointers
 pub record IsWordHome (p : Placed) (a : ℕ) (s : PlacedSegment) : Type 0 where
@@ -54,12 +59,12 @@ named_may name s named may = ap may_hold_pointers ((bytes_eq-Decides (text_of s.
 pub file_below : (l : Link) (counts : Counts) (p : Placed) (s : PlacedSegment) → IsPlaced l counts p → Contains p.segments s
     → s.file_size ≤ s.size
 file_below l counts p s placed has =
-    all_contains (λ (u : PlacedSegment). u.file_size ≤ u.size) p.segments s (λ k d lt. (placed.in_order.paged k d lt).file_size) has
+    all_contains (λ (u : PlacedSegment). u.file_size ≤ u.size) p.segments s (λ k d lt. (placed.paged k d lt).file_size) has
 
 slot_home : (l : Link) (counts : Counts) (p : Placed) (s : Slot) → IsPlaced l counts p → Contains p.slots s
     → (t : PlacedSegment) × IsWordHome p s.address t
 slot_home l counts p s placed has =
-    let lies = all_contains (λ x. LiesInNamed p DATA_CONST true (slot_span x)) p.slots s placed.in_segment.slots has in
+    let lies = all_contains (λ x. LiesInNamed p DATA_CONST true (slot_span x)) p.slots s (in_segment_of placed).slots has in
     let t : PlacedSegment = lies.0 in (
       t,
       record {
@@ -80,7 +85,7 @@ pointer_home : (l : Link) (counts : Counts) (p : Placed) (q : PlacedSection) (f 
 pointer_home l counts p q f sound has field needs =
     let placed = sound.placed.placed in
     let carried = placed_is_carried l p q placed.whole_list has in
-    let lies = all_contains (SectionLies l p) p.sections q placed.in_segment.sections has in
+    let lies = all_contains (SectionLies l p) p.sections q (in_segment_of placed).sections has in
     let t : PlacedSegment = lies.0 in
     let one : Contains p.segments t = (q.segment, lies.1.0, lies.1.1) in
     let inside = (leads l counts p sound).inside (id_of q) f carried field in
@@ -125,7 +130,7 @@ elsewhere l counts p s f sound of has none = by (cases_Bool (is_in (fixup_segmen
     by (inl e) =
         let both = and_parts (nat_le s.address f.address) (nat_lt f.address (s.address + s.file_size)) e in
         absurd (apart (leb-true s.address f.address both.0) (ltb-true f.address (s.address + s.file_size) both.1)
-        (before_or_one l p.segments s home.0 sound.placed.placed.in_order.follow has home.1.one))
+        (before_or_one l p.segments s home.0 sound.placed.placed.follow has home.1.one))
 
 -- THE pages with chains: of a segment that may hold pointers no more than its file part has, of another none
 some_pages : (s : PlacedSegment) (fixups : List Fixup) → s.address % SEGMENT_PAGE ≡ 0 → runs.pages_of (fixup_segment s) fixups ≤ pages_of s
@@ -140,7 +145,7 @@ no_pages l counts p s fixups sound run has none =
 paged_at : (l : Link) (counts : Counts) (p : Placed) (s : PlacedSegment) → IsPlaced l counts p → Contains p.segments s
     → s.address % SEGMENT_PAGE ≡ 0
 paged_at l counts p s placed has =
-    all_contains (λ (u : PlacedSegment). u.address % SEGMENT_PAGE ≡ 0) p.segments s (λ k d lt. (placed.in_order.paged k d lt).address) has
+    all_contains (λ (u : PlacedSegment). u.address % SEGMENT_PAGE ≡ 0) p.segments s (λ k d lt. (placed.paged k d lt).address) has
 
 few_pages : (l : Link) (counts : Counts) (p : Placed) (s : PlacedSegment) (fixups : List Fixup) → IsSoundlyPlaced l counts p
     → PagesAreFew l counts p → IsRunOf l p fixups → Contains p.segments s → runs.pages_of (fixup_segment s) fixups ≤ 65535
@@ -165,7 +170,7 @@ above : (l : Link) (counts : Counts) (p : Placed) (s : PlacedSegment) (fixups : 
 above l counts p s fixups sound run has = elim (cases_Bool (may_hold_pointers (text_of s.name))) [
   | inr none ↦ inl (no_pages l counts p s fixups sound run has none)
   | inl may ↦ inr
-      (segment_above l p has.0 s sound.placed.placed.in_order sound.placed.placed.base (has.1, has.2) (pointers_above (text_of s.name) may))
+      (segment_above l p has.0 s (in_order_of sound.placed.placed) sound.placed.placed.base (has.1, has.2) (pointers_above (text_of s.name) may))
 ]
 
 few_segments : (l : Link) (counts : Counts) (p : Placed) → IsSoundlyPlaced l counts p → length p.segments ≤ 6

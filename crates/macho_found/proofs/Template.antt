@@ -21,8 +21,12 @@ use Rattle.macho_model.specs.declared.placed.Range64.{Range64}
 use Rattle.macho_model.specs.Links.{Link, SectionId, header_at, carried_of, is_carried, is_template, placed_exponent}
 use Rattle.macho_model.specs.Resolution.{entry_at}
 use Rattle.macho_model.specs.Segments.{OutputKey, same_key, key_of, common_key, output_keys_of, list_if}
-use Rattle.macho_model.specs.Placement.{Placed, id_of, section_span, common_of, common_span, template_sections}
-use Rattle.macho_model.specs.OutputSections.{Merged, Piece, piece, end_of_piece, around, pieces_of, placed_members}
+use Rattle.macho_model.specs.Placement.{Placed, id_of, common_of, template_sections}
+use Rattle.macho_model.specs.Spans.{section_span, common_span}
+use Rattle.macho_model.specs.OutputSections.{around}
+use Rattle.macho_model.specs.steps.Outputs.{Merged, pieces_of, placed_members}
+use Rattle.macho_model.specs.Placement.{Piece, end_of_piece}
+use Rattle.macho_model.specs.Spans.{piece}
 use Rattle.macho_cells.specs.declared.place.Cell.{Cell}
 use Rattle.macho_cells.specs.declared.place.PlacedCell.{PlacedCell}
 use Rattle.macho_cells.specs.Stacks.{extent_at}

@@ -3,10 +3,11 @@ use Rattle.std.specs.Prelude.{◌≡◌, ℕ, ◌+◌, ◌*◌, ◌<◌, ◌≤�
 use Rattle.macho_model.specs.declared.placed.Counts.{Counts}
 use Rattle.macho_model.specs.declared.placed.Stub.{Stub}
 use Rattle.macho_model.specs.Links.{Link}
-use Rattle.macho_model.specs.Placement.{Placed, Span, section_span, slot_span, stub_span, range_span}
+use Rattle.macho_model.specs.Placement.{Placed}
+use Rattle.macho_model.specs.Zeros.{Span}
+use Rattle.macho_model.specs.Spans.{section_span, slot_span, stub_span, range_span, filled_sections}
 use Rattle.macho_model.specs.Addresses.{offset_in_file}
 use Rattle.macho_model.specs.WrittenSum.{STUB_SIZE}
-use Rattle.macho_model.specs.Zeros.{filled_sections}
 use Rattle.macho_placing.specs.Laws.{IsWhollyPlaced}
 
 -- The bytes of a range of addresses stand in the file one behind the other, in front of its end.

@@ -6,7 +6,8 @@ use Rattle.macho_model.specs.declared.targets.Target.{Target}
 use Rattle.macho_model.specs.Links.{Link, SectionId, header_at, sections_of}
 use Rattle.macho_model.specs.Resolution.{SymbolId, symbols_of, definition_of}
 use Rattle.macho_model.specs.Needs.{relocation_in}
-use Rattle.macho_model.specs.Targets.{target_with, definition_target, target_of_relocation, is_defined, is_import}
+use Rattle.macho_model.specs.Targets.{definition_target, target_of_relocation, is_defined, is_import}
+use Rattle.macho_model.specs.Uses.{target_with}
 use Rattle.macho_model.specs.Placement.{Placed}
 use Rattle.macho_model.specs.Addresses.{address_of}
 use Rattle.macho_placing.specs.Laws.{IsWhollyPlaced, NonePasses}

@@ -9,8 +9,6 @@ use Rattle.std.specs.Str.{bytes_eq}
 use Rattle.std.proofs.lemmas.List.{length-map, map-append}
 use Rattle.macho_bytes.specs.Numbers.{row_bytes}
 use Rattle.macho_bytes.specs.Texts.{name_of}
-use Rattle.macho_bytes.specs.Layouts.{spelling}
-use Rattle.macho_records.specs.Layouts.{section_header}
 use Rattle.macho_records.specs.Segments.{text_of, segment_flags_of}
 use Rattle.macho_records.specs.declared.header.SectionHeader.{SectionHeader}
 use Rattle.macho_records.specs.declared.constants.TheConstants.{LC_CODE_SIGNATURE, LC_DYLD_CHAINED_FIXUPS, LC_DYLD_EXPORTS_TRIE}
@@ -26,6 +24,8 @@ use Rattle.macho_model.specs.HeadCommands.{HeadCommand, Segment, segment_for, en
 use Rattle.macho_commands.specs.Texts.{text_said}
 use Rattle.macho_head_laws.proofs.Cut.{bytes_cut4, bytes_cut8, segment_cut, header_cut, range_cut, range_cut-size, counts_cut, placed_cut}
 use Rattle.macho_head_laws.proofs.Cut.{entry_cut, entry_distance}
+use Rattle.macho_bytes.specs.Spellings.{spelling}
+use Rattle.macho_records.specs.Spellings.{section_header_rows}
 
 -- a segment's command with these headers
 abbrev pub segment_with : PlacedSegment → List SectionHeader → HeadCommand
@@ -62,7 +62,7 @@ pub headers_cut : (l : Link) (p : Placed) (s : PlacedSegment)
 headers_cut l p s = filter_cut (text_of s.name) p.output_sections
 
 -- a header's bytes, and those of headers
-header_text : (h : SectionHeader) → spelling section_header (header_cut h) ≡ spelling section_header h
+header_text : (h : SectionHeader) → spelling section_header_rows (header_cut h) ≡ spelling section_header_rows h
 unfolding spelling row_bytes
 header_text h =
     rw (
@@ -78,11 +78,11 @@ header_text h =
       bytes_cut4 h.reserved3,
     ) refl
 
-headers_text : (hs : List SectionHeader) → flat_map (spelling section_header) (map header_cut hs) ≡ flat_map (spelling section_header) hs
+headers_text : (hs : List SectionHeader) → flat_map (spelling section_header_rows) (map header_cut hs) ≡ flat_map (spelling section_header_rows) hs
 headers_text [] = refl
 headers_text (h ∷ hs) =
-    ap (λ (t : List ℕ). t ++ flat_map (spelling section_header) (map header_cut hs)) (header_text h)
-    ∙ ap (λ (t : List ℕ). spelling section_header h ++ t) (headers_text hs)
+    ap (λ (t : List ℕ). t ++ flat_map (spelling section_header_rows) (map header_cut hs)) (header_text h)
+    ∙ ap (λ (t : List ℕ). spelling section_header_rows h ++ t) (headers_text hs)
 
 -- THE bytes of a segment's command
 segment_text : (s : PlacedSegment) (hs : List SectionHeader) → text_said (segment_with (segment_cut s) (map header_cut hs))

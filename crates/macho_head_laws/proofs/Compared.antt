@@ -23,21 +23,22 @@ use Rattle.macho_model.specs.Addresses.{address_of}
 use Rattle.macho_model.specs.Images.{Table, base_of, entries_of_file}
 use Rattle.macho_model.specs.Memory.{Choice, pair_cmp}
 use Rattle.macho_model.specs.Stands.{IsAt}
-use Rattle.macho_model.specs.Agreement.{SegmentPlace, place_told, table_of_range, EntryAgrees}
+use Rattle.macho_model.specs.Agreement.{table_of_range, EntryAgrees}
 use Rattle.macho_model.specs.Head.{range_size}
 use Rattle.macho_model.specs.HeadCommands.{HeadCommand, segment_for, entry_point_for, linkedit_for}
 use Rattle.macho_targets.specs.Laws.{ListsAll}
 use Rattle.macho_targets.proofs.Places.{places_are_one}
 use Rattle.macho_head_laws.proofs.Cut.{segment_cut, header_cut, range_cut, placed_cut, entry_distance}
 use Rattle.macho_head_laws.proofs.Alike.{segment_with}
+use Rattle.macho_model.specs.steps.Agreement.{SegmentPlace, place_told}
 
 -- a segment
 segment_kept : (s : PlacedSegment) → place_told (segment_cut s) ≡ place_told s → segment_cut s ≡ s
 segment_kept s e =
-    let address : s.address % 2 ^ 64 ≡ s.address = ap (λ (q : SegmentPlace). q.address) e in
-    let size : s.size % 2 ^ 64 ≡ s.size = ap (λ (q : SegmentPlace). q.size) e in
-    let offset : s.file_offset % 2 ^ 64 ≡ s.file_offset = ap (λ (q : SegmentPlace). q.file_offset) e in
-    let bytes : s.file_size % 2 ^ 64 ≡ s.file_size = ap (λ (q : SegmentPlace). q.file_size) e in
+    let address : s.address % 2 ^ 64 ≡ s.address = ap (λ (q : SegmentPlace). q.1) e in
+    let size : s.size % 2 ^ 64 ≡ s.size = ap (λ (q : SegmentPlace). q.2) e in
+    let offset : s.file_offset % 2 ^ 64 ≡ s.file_offset = ap (λ (q : SegmentPlace). q.3) e in
+    let bytes : s.file_size % 2 ^ 64 ≡ s.file_size = ap (λ (q : SegmentPlace). q.4) e in
     rw (address, size, offset, bytes) refl
 
 pub segments_kept : (ss : List PlacedSegment) → map place_told (map segment_cut ss) ≡ map place_told ss → map segment_cut ss ≡ ss

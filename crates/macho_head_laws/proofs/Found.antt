@@ -12,10 +12,8 @@ use Rattle.std.proofs.lemmas.List.{length-map, map-append}
 use Rattle.std.proofs.lemmas.List.Concat.{flat_map-cons}
 use Rattle.macho_bytes.specs.Numbers.{AllBelow, row_bytes}
 use Rattle.macho_bytes.specs.Texts.{Stands}
-use Rattle.macho_bytes.specs.Layouts.{spelling, ReadsBack}
 use Rattle.macho_bytes.proofs.Layouts.{reads_back}
 use Rattle.macho_bytes.proofs.Numbers.{little_is_sound, stands-front, stands-back}
-use Rattle.macho_records.specs.Layouts.{mach_header}
 use Rattle.macho_records.specs.declared.header.MachHeader.{MachHeader}
 use Rattle.macho_records.specs.declared.constants.TheConstants.{MH_DYLIB, MH_EXECUTE}
 use Rattle.macho_model.specs.declared.placed.Counts.{Counts}
@@ -24,8 +22,8 @@ use Rattle.macho_model.specs.Commands.{header_of, commands_from, commands_of, co
 use Rattle.macho_model.specs.Links.{Link}
 use Rattle.macho_model.specs.Placement.{Placed, head_size}
 use Rattle.macho_model.specs.Head as head
-use Rattle.macho_model.specs.Head.{headers_in, head_for, flags_for, describes_thread_locals, HeadSays}
-use Rattle.macho_model.specs.HeadCommands.{HeadCommand, command_in, commands_in, size_said, commands_for}
+use Rattle.macho_model.specs.Head.{headers_in, head_for, HeadSays}
+use Rattle.macho_model.specs.HeadCommands.{HeadCommand, command_in, commands_in, size_said, commands_for, header_with, flags_for, describes_thread_locals}
 use Rattle.macho_commands.specs.Texts.{text_said}
 use Rattle.macho_commands.proofs.HeadBytes.{commands-spelled}
 use Rattle.macho_promise.specs.Sizes.{commands_size}
@@ -34,10 +32,12 @@ use Rattle.macho_head_laws.proofs.Cut.{bytes_cut4, segment_cut, header_cut, coun
 use Rattle.macho_head_laws.proofs.Alike.{headers_cut, commands_alike}
 use Rattle.macho_head_laws.proofs.Fits.{IsWhole}
 use Rattle.macho_head_laws.proofs.Walk.{EachThere, each_there, walked, said_there, length-all, sizes_fit, count_fits}
+use Rattle.macho_bytes.specs.Spellings.{spelling, ReadsBack}
+use Rattle.macho_records.specs.Spellings.{mach_header_rows}
 
 -- the header with a number of commands and of bytes, and with what is left of them
-header_spelled : (l : Link) (p : Placed) (n m : ℕ) → spelling mach_header (head.header_for l p (n % 2 ^ 32) (m % 2 ^ 32))
-    ≡ spelling mach_header (head.header_for l p n m)
+header_spelled : (l : Link) (p : Placed) (n m : ℕ) → spelling mach_header_rows (header_with l p (n % 2 ^ 32) (m % 2 ^ 32))
+    ≡ spelling mach_header_rows (header_with l p n m)
 unfolding spelling row_bytes
 header_spelled l p n m = rw (bytes_cut4 n, bytes_cut4 m) refl
 
@@ -54,26 +54,26 @@ flags_fit l p = by l.executable (describes_thread_locals p) refl refl
     by false true e f = rw (e, f) (omega arith)
     by false false e f = rw (e, f) (omega arith)
 
-header_back : (l : Link) (p : Placed) (n m : ℕ) → ReadsBack mach_header (head.header_for l p (n % 2 ^ 32) (m % 2 ^ 32))
+header_back : (l : Link) (p : Placed) (n m : ℕ) → ReadsBack mach_header_rows (header_with l p (n % 2 ^ 32) (m % 2 ^ 32))
 header_back l p n m =
-    let fit : (head.header_for l p (n % 2 ^ 32) (m % 2 ^ 32)).flags < 256 ^ 4 = flags_fit l p in
+    let fit : (header_with l p (n % 2 ^ 32) (m % 2 ^ 32)).flags < 256 ^ 4 = flags_fit l p in
     let last : AllBelow 4 (n % 2 ^ 32 ∷ m % 2 ^ 32 ∷ flags_for l p ∷ 0 ∷ []) = (omega arith, (omega arith, (fit, (omega arith, tt)))) in
-    reads_back mach_header (head.header_for l p (n % 2 ^ 32) (m % 2 ^ 32)) little_is_sound
+    reads_back mach_header_rows (header_with l p (n % 2 ^ 32) (m % 2 ^ 32)) little_is_sound
     (((omega arith, (omega arith, (omega arith, (type_fits l.executable, last)))), refl), tt)
     refl
 
 -- what is found of a head
 pub record HeadFound (l : Link) (b : List ℕ) (p : Placed) (hs : List HeadCommand) : Type 0 where
-  pub header : header_of b ≡ head.header_for l p (length hs) (sum_by size_said hs)
+  pub header : header_of b ≡ header_with l p (length hs) (sum_by size_said hs)
   pub commands : commands_in b ≡ hs
 
 -- THE commands of a file that begins with them, where their bytes are as many as the header says
 list_found : (l : Link) (b : List ℕ) (p : Placed) (hs : List HeadCommand) → All IsWhole hs
     → Stands b (record { at = 0; text = head_for l p (map text_said hs) })
-    → (header_of b ≡ head.header_for l p (length hs % 2 ^ 32) (sum_by size_said hs % 2 ^ 32)
+    → (header_of b ≡ header_with l p (length hs % 2 ^ 32) (sum_by size_said hs % 2 ^ 32)
     → sum_by size_said hs % 2 ^ 32 ≡ sum_by size_said hs)
     → HeadFound l b p hs
-unfolding head_for header_of commands_of commands_in
+unfolding head_for header_of commands_of commands_in spelling
 list_found l b p hs whole s fits =
     record {
       header = header;
@@ -88,20 +88,20 @@ list_found l b p hs whole s fits =
     size = sum_by size_said hs
 
     front : List ℕ
-    front = spelling mach_header (head.header_for l p count size)
+    front = spelling mach_header_rows (header_with l p count size)
 
-    alike : spelling mach_header (head.header_for l p (length (map text_said hs)) (sum_by length (map text_said hs))) ≡ front
+    alike : spelling mach_header_rows (header_with l p (length (map text_said hs)) (sum_by length (map text_said hs))) ≡ front
     alike =
-        ap (λ (n : ℕ). spelling mach_header (head.header_for l p n (sum_by length (map text_said hs)))) (length-map hs text_said)
-        ∙ ap (λ (n : ℕ). spelling mach_header (head.header_for l p count n)) (length-all hs whole)
+        ap (λ (n : ℕ). spelling mach_header_rows (header_with l p n (sum_by length (map text_said hs)))) (length-map hs text_said)
+        ∙ ap (λ (n : ℕ). spelling mach_header_rows (header_with l p count n)) (length-all hs whole)
 
     stands : Stands b (record { at = 0; text = front ++ concat (map text_said hs) })
     stands = subst (λ (t : List ℕ). Stands b (record { at = 0; text = t ++ concat (map text_said hs) })) alike s
 
-    back : ReadsBack mach_header (head.header_for l p (count % 2 ^ 32) (size % 2 ^ 32))
+    back : ReadsBack mach_header_rows (header_with l p (count % 2 ^ 32) (size % 2 ^ 32))
     back = header_back l p count size
 
-    cut : header_of b ≡ head.header_for l p (count % 2 ^ 32) (size % 2 ^ 32)
+    cut : header_of b ≡ header_with l p (count % 2 ^ 32) (size % 2 ^ 32)
     cut =
         back.back b 0 (subst (λ (t : List ℕ). Stands b (record { at = 0; text = t })) (sym (header_spelled l p count size))
         (stands-front b 0 front (concat (map text_said hs)) stands))
@@ -115,8 +115,8 @@ list_found l b p hs whole s fits =
     count_is : count % 2 ^ 32 ≡ count
     count_is = omega (arith, small, count_fits hs whole)
 
-    header : header_of b ≡ head.header_for l p count size
-    header = cut ∙ ap (λ (n : ℕ). head.header_for l p n (size % 2 ^ 32)) count_is ∙ ap (head.header_for l p count) size_is
+    header : header_of b ≡ header_with l p count size
+    header = cut ∙ ap (λ (n : ℕ). header_with l p n (size % 2 ^ 32)) count_is ∙ ap (header_with l p count) size_is
 
     long : length front ≡ 32
     long = ap length (sym (header_spelled l p count size)) ∙ back.long

@@ -17,11 +17,12 @@ use Rattle.macho_records.specs.declared.constants.TheConstants.{LC_CODE_SIGNATUR
 use Rattle.macho_model.specs.declared.placed.Counts.{Counts}
 use Rattle.macho_model.specs.Links.{Link}
 use Rattle.macho_model.specs.Placement.{Placed}
+use Rattle.macho_model.specs.Spans.{StandInOrder}
 use Rattle.macho_model.specs.Agreement.{TablesAgree}
 use Rattle.macho_model.specs.Order.{HaveRoom}
 use Rattle.macho_model.specs.Head as head
 use Rattle.macho_model.specs.Head.{headers_in}
-use Rattle.macho_model.specs.HeadCommands.{HeadCommand, linkedit_for, symtab_for, commands_for, header_for, size_said}
+use Rattle.macho_model.specs.HeadCommands.{HeadCommand, linkedit_for, symtab_for, commands_for, header_for, size_said, header_with}
 use Rattle.macho_commands.specs.Laws.{HeadReads}
 use Rattle.macho_commands.proofs.HeadRead.{head_read}
 use Rattle.macho_promise.specs.Sizes.{AreCounts, counts_with, commands_size}
@@ -35,6 +36,8 @@ use Rattle.macho_head_laws.proofs.Named.{segments_named, headers_named}
 use Rattle.macho_head_laws.proofs.Whole.{commands_whole}
 use Rattle.macho_head_laws.proofs.Found.{head_found, sections_cut}
 use Rattle.macho_head_laws.proofs.Compared.{segments_kept, segments_same, entry_same, range_same, at_same}
+use Rattle.macho_model.proofs.Parts.{in_order_of, order_of}
+use Rattle.macho_model.proofs.Outputs.{headers_same}
 
 commands_counted : (l : Link) (counts : Counts) → AreCounts l counts → counts.commands ≡ commands_size l
 unfolding counts_with
@@ -64,19 +67,19 @@ commands_same : (l : Link) (counts : Counts) (uuid b : List ℕ) (p : Placed) (t
     → commands_for l (counts_cut counts) (placed_cut l p) uuid (trie % 2 ^ 32) ≡ commands_for l counts p uuid (trie % 2 ^ 32)
 unfolding commands_for
 commands_same l counts uuid b p trie linked reads =
-    let order = linked.laid_out.order in
+    let order : StandInOrder l counts p = order_of linked.loadable.placed.whole_list linked.laid_out.segments linked.laid_out.names in
     let placed = linked.loadable.placed in
     let agree = linked.agrees.commands in
     let tables = linked.agrees.tables in
     let segments : map segment_cut p.segments ≡ p.segments = segments_kept p.segments (sym reads.segments ∙ agree.segments) in
     let split : flat_map (headers_in p) p.segments ≡ p.output_sections =
-    headers-are l counts p order placed.in_order.follow linked.laid_out.sections in
+    headers-are l counts p linked.laid_out.segments placed.follow (linked.laid_out.sections ∙ headers_same l counts p) in
     let headers : map header_cut p.output_sections ≡ p.output_sections =
     ap (map header_cut) (sym split) ∙ sym (sections_cut l p p.segments) ∙ sym reads.sections ∙ agree.headers in
     let lists : ListsAll l p = record { sections = order.sections; commons = order.commons; slots = placed.whole_list.slots } in
     rw (
       segments_same l p segments headers,
-      entry_same l b p lists (file_base l b p placed.in_order placed.base agree.segments) agree.entry reads.entry,
+      entry_same l b p lists (file_base l b p (in_order_of placed) placed.base agree.segments) agree.entry reads.entry,
       range_same LC_DYLD_CHAINED_FIXUPS p.linkedit.fixups _ reads.fixups tables.fixups,
       trie_same l counts uuid b p trie reads tables,
       symtab_same l counts uuid b p (trie % 2 ^ 32) reads tables linked.laid_out.least.rooms,
@@ -88,17 +91,17 @@ unfolding header_for
 linked_head_is_read l counts uuid b p linked =
     let says = linked.written.head in
     let agree = linked.agrees.commands in
-    let order = linked.laid_out.order in
+    let order : StandInOrder l counts p = order_of linked.loadable.placed.whole_list linked.laid_out.segments linked.laid_out.names in
     let split : flat_map (headers_in p) p.segments ≡ p.output_sections =
-    headers-are l counts p order linked.loadable.placed.in_order.follow linked.laid_out.sections in
+    headers-are l counts p linked.laid_out.segments linked.loadable.placed.follow (linked.laid_out.sections ∙ headers_same l counts p) in
     let whole = commands_whole l counts p uuid says.trie (segments_named l counts b p order agree.segments)
-    (headers_named l counts b p linked.laid_out.sections agree.headers) says.versions in
+    (headers_named l counts b p (linked.laid_out.sections ∙ headers_same l counts p) agree.headers) says.versions in
     let found = head_found l counts uuid b p says whole (commands_counted l counts linked.counted) split agree.head in
     let reads = head_read l (counts_cut counts) uuid b (placed_cut l p) (says.trie % 2 ^ 32) found.commands in
     let same = commands_same l counts uuid b p says.trie linked reads in
     record {
       trie = says.trie % 2 ^ 32;
-      header = found.header ∙ ap (λ (hs : List HeadCommand). head.header_for l p (length hs) (sum_by size_said hs)) same;
+      header = found.header ∙ ap (λ (hs : List HeadCommand). header_with l p (length hs) (sum_by size_said hs)) same;
       commands = found.commands ∙ same;
     }
 

@@ -22,10 +22,11 @@ use Rattle.macho_model.specs.Commands.{Command, numbered}
 use Rattle.macho_model.specs.Links.{Link}
 use Rattle.macho_model.specs.Images.{segments_of}
 use Rattle.macho_model.specs.Placement.{Placed}
-use Rattle.macho_model.specs.OutputSections.{OutputSection, key_of_output, output_sections_of, output_sections_for, output_header}
-use Rattle.macho_model.specs.Order.{StandInOrder}
-use Rattle.macho_model.specs.Agreement.{SegmentPlace, SegmentsAgree, place_by_command, place_told, section_headers_at, section_headers_of}
+use Rattle.macho_model.specs.Agreement.{SegmentsAgree, section_headers_at, section_headers_of}
+use Rattle.macho_model.specs.steps.Outputs.{OutputSection, key_of_output, output_sections_of, output_sections_for, output_header}
+use Rattle.macho_model.specs.Spans.{StandInOrder}
 use Rattle.macho_head_laws.proofs.Fits.{IsNamed}
+use Rattle.macho_model.specs.steps.Agreement.{SegmentPlace, place_by_command, place_told}
 
 -- a field of the file has 16 bytes at most, and a name no more than its field
 field_short : (b : List ℕ) (from to : ℕ) → to ≤ from + 16 → length (slice_range b from to) ≤ 16
@@ -74,7 +75,7 @@ unfolding reading
 segment_read b at = field_short b (at + 8) (at + 24) (omega arith)
 
 abbrev Short : SegmentPlace → Type 0
-Short s = length s.name ≤ 16
+Short s = length s.0 ≤ 16
 
 pub segments_named : (l : Link) (counts : Counts) (b : List ℕ) (p : Placed) → StandInOrder l counts p → SegmentsAgree b p
     → All (λ s. length s.name.0 ≡ 16) p.segments

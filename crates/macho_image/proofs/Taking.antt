@@ -7,9 +7,10 @@ use Rattle.std.proofs.Common.{◌≡◌, ℕ, ◌<◌, arith, refl, ap, sym, ◌
 use Rattle.std.specs.Prelude.{IsUtf8}
 use Rattle.std.specs.List.{list_any}
 use Rattle.std.specs.String.{string_bytes}
-use Rattle.std.proofs.lemmas.List.{length-map, length-append}
+use Rattle.std.proofs.lemmas.List.{length-map, length-append, map-append}
 use Rattle.std.proofs.lemmas.List.Elements.{All-push}
-use Rattle.macho_model.specs.Links.{Input}
+use Rattle.macho_model.specs.Links.{Link, Input, Stub}
+use Rattle.macho_model.specs.LinkLaws.{with_input}
 use Rattle.macho_stub_lines.specs.declared.fault.StubFault.{StubFault}
 use Rattle.macho_stub_lines.specs.declared.fault.StubFault.TheVariants as stub
 use Rattle.macho_stub_lines.specs.Faults.{Fails, broken}
@@ -17,7 +18,8 @@ use Rattle.macho_stub.specs.Answer.{IsStub, IsToldOfText}
 use Rattle.macho_stub.specs.Library.{LibraryFields}
 use Rattle.macho_stub.proofs.Answered.{answer_only}
 use Rattle.macho_stub_lines.proofs.Bind.{same_ok}
-use Rattle.macho_promise.specs.Inputs.{IsInput, IsStubInput, reading_of}
+use Rattle.macho_promise.specs.Inputs.{IsInput, IsStubInput}
+use Rattle.macho_promise.proofs.Stubs.{reading_of, library_of, stub_of}
 use Rattle.macho_model.specs.Links.{StubReading}
 use Rattle.macho_linking.specs.OwnedInput.{OwnedInput}
 use Rattle.macho_linking.specs.OwnedInput.TheVariants as owned
@@ -25,6 +27,7 @@ use Rattle.macho_linking.specs.StubText.{StubText}
 use Rattle.macho_linking.specs.Owned.{input_of}
 use Rattle.macho_linking.specs.Readings.{SaysOneThing}
 use Rattle.macho_linking.specs.OneReading.{one_thing}
+use Rattle.macho_image.specs.Linkers.{TakesStub}
 use Rattle.macho_image.specs.Refusals.{StubRefused}
 use Rattle.macho_image.specs.steps.StubRefusals.{stub_refusal, IsReadStub}
 
@@ -43,12 +46,13 @@ pub stub_read : (text : List ℕ) (library : LibraryFields) → IsUtf8 text → 
 stub_read text library utf8 stub = record { one = (reading_of library, (∣ is ∣₁, only)); stub = is }
   where
     is : IsStubInput text (reading_of library)
-    is = record { utf8 = utf8; library = library; in_grammar = stub; is = refl }
+    is = stub_of text library utf8 stub
 
     only : (other : StubReading) → IsStubInput text other → reading_of library ≡ other
     only other too =
-        ap reading_of (same_ok library too.library (sym (answer_only text library stub) ∙ answer_only text too.library too.in_grammar))
-        ∙ sym too.is
+        let it = library_of text other too in
+        ap reading_of (same_ok library it.library (sym (answer_only text library stub) ∙ answer_only text it.library it.in_grammar))
+        ∙ sym it.is
 
 -- the text that is kept is a stub by what it says
 pub kept_stub : (text : List ℕ) → IsReadStub text → (one : SaysOneThing text) → IsStubInput text one.0
@@ -62,12 +66,23 @@ taken_stub xs next stub inputs is all read mapped few =
     taken_more (λ (i : OwnedInput). IsInput (input_of i)) xs next (owned.Stub stub) inputs is all
     (kept_stub (string_bytes stub.text) read stub.reading) mapped few
 
+-- it is the last input, with what it says
+pub takes_stub : (xs next : List OwnedInput) (stub : StubText) (old now : Link) → next ≡ xs ++ owned.Stub stub ∷ []
+    → IsReadStub (string_bytes stub.text) → record old { inputs = map input_of xs } ≡ now
+    → TakesStub now (record old { inputs = map input_of next }) (string_bytes stub.text)
+takes_stub xs next stub old now is read view = record {
+  says = stub.reading.0;
+  stub = kept_stub (string_bytes stub.text) read stub.reading;
+  added = ap (λ (inputs : List Input). record old { inputs = inputs }) (ap (map input_of) is ∙ map-append input_of xs (owned.Stub stub ∷ []))
+      ∙ ap (λ (l : Link). with_input l (Stub (string_bytes stub.text) stub.reading.0)) view;
+}
+
 -- a text that was refused is no stub
 pub stub_refused : (text : List ℕ) (f : StubFault) → IsUtf8 text → IsToldOfText text f
     → ((library : LibraryFields) → IsStub text library → Fails f (Ok library))
     → StubRefused text (stub_refusal f)
 stub_refused text (stub.Rule line rule) utf8 told only =
-    (utf8, told, λ says s. absurd (let none : ⊥ = none_of (only s.library s.in_grammar) in none))
+    (utf8, told, λ says s. absurd (let it = library_of text says s in let none : ⊥ = none_of (only it.library it.in_grammar) in none))
   where
     none_of : {library : LibraryFields} → Ok library ≡ broken line rule → ⊥
     none_of e = cc

@@ -15,8 +15,10 @@ use Rattle.macho_layout.proofs.Distinct.{distinct_push}
 use Rattle.macho_layout.proofs.Named.{any_agree, any_distinct, any_map}
 use Rattle.macho_linkedit.specs.Libraries.{same_text}
 use Rattle.macho_model.specs.Links.{Link, Input}
-use Rattle.macho_model.specs.Needs.{distinct, import_library, imports_of, libraries_needed, library_file}
-use Rattle.macho_model.specs.Resolution.{Definition, library_name, library_of_input}
+use Rattle.macho_model.specs.Needs.{distinct, import_library, imports_of, libraries_needed}
+use Rattle.macho_model.specs.steps.Resolved.{library_file}
+use Rattle.macho_model.specs.Resolution.{Definition, library_of_input}
+use Rattle.macho_model.specs.Resolution.{library_name}
 use Rattle.macho_symbols.specs.declared.solved.Import.{Import}
 use Rattle.macho_symbols.specs.Told.{ImportsAre, IsImportOf}
 use Rattle.macho_stub_lines.specs.Lists.{texts}

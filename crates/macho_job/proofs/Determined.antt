@@ -14,7 +14,8 @@ use Rattle.macho_model.specs.Links.{StubReading, Input, Stub}
 use Rattle.macho_stub.specs.Answer.{IsStub}
 use Rattle.macho_stub.specs.Library.{LibraryFields}
 use Rattle.macho_stub.proofs.Answered.{answer_only}
-use Rattle.macho_promise.specs.Inputs.{IsStubInput, reading_of}
+use Rattle.macho_promise.specs.Inputs.{IsStubInput}
+use Rattle.macho_promise.proofs.Stubs.{reading_of, library_of}
 use Rattle.macho_job.specs.declared.heads.Head.{Head}
 use Rattle.macho_job.specs.declared.heads.Head.TheVariants as head
 use Rattle.macho_job.specs.Heads.{head_of}
@@ -36,7 +37,9 @@ one-library text a b one other =
 
 one-saying : (text : List ℕ) (a b : StubReading) → IsStubInput text a → IsStubInput text b → a ≡ b
 one-saying text a b one other =
-    one.is ∙ (ap reading_of (one-library text one.library other.library one.in_grammar other.in_grammar) ∙ sym other.is)
+    let x = library_of text a one in
+    let y = library_of text b other in
+    x.is ∙ (ap reading_of (one-library text x.library y.library x.in_grammar y.in_grammar) ∙ sym y.is)
 
 -- bytes are read as one input
 pub one-input : (h : Head) (bytes : List ℕ) (i j : Input) → IsReadAs h bytes i → IsReadAs h bytes j → i ≡ j

@@ -20,9 +20,10 @@ use Rattle.macho_job.specs.declared.heads.Head.TheVariants as head
 use Rattle.macho_job.specs.Causes.{Failures, BytesRefused, JobFails}
 use Rattle.macho_job.specs.steps.Gathering.{HaveLists}
 use Rattle.macho_job.specs.Generator.{generated_object, generated_path}
-use Rattle.macho_job.specs.Job.{SourceFile, AreFiles, generated_files}
+use Rattle.macho_job.specs.Job.{SourceFile, AreFiles}
 use Rattle.macho_job.specs.steps.Parts.{TakesMade, MadeFails}
 use Rattle.macho_job.proofs.Gathers.{last-is}
+use Rattle.macho_job.specs.steps.Job.{generated_files}
 
 -- the made objects as files, and as inputs
 abbrev made_file : ℕ → ℕ → SourceFile

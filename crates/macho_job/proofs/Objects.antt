@@ -6,11 +6,12 @@ use Rattle.std.proofs.Common.{◌≡◌, ℕ, ◌+◌, arith, ap, sym, ◌∙◌
 use Rattle.std.specs.Prelude.{◌==◌, if◌then◌else◌}
 use Rattle.std.proofs.lemmas.Bool.Decides.{nat_tests}
 use Rattle.std.proofs.lemmas.List.{length-append}
-use Rattle.macho_bytes.specs.Layouts.{spelling}
 use Rattle.macho_bytes.specs.Numbers.{le_bytes, row_bytes}
-use Rattle.macho_job.specs.Generator.{object_with, generated_object, function_name, pointer_name}
+use Rattle.macho_job.specs.Generator.{object_with, generated_object, function_name}
 use Rattle.macho_job.specs.steps.Objects.{words, joined_all, OBJECT_HEAD, CALLING_SECTIONS, LAST_SECTIONS, calling_parts, last_parts}
 use Rattle.macho_job.specs.steps.Objects.{calling_object, last_object}
+use Rattle.macho_bytes.specs.Spellings.{spelling}
+use Rattle.macho_job.specs.steps.Generator.{pointer_name}
 
 -- an object by its strings behind their NUL, and their size
 abbrev last_of : (name pointer : List ℕ) → ℕ → List ℕ → List ℕ

@@ -14,6 +14,7 @@ use Rattle.macho_model.specs.Links.{StubReading, Input}
 use Rattle.macho_model.specs.Faults.{bad_name}
 use Rattle.macho_model.specs.Grammar.{IsObject, IsDylib}
 use Rattle.macho_promise.specs.Inputs.{IsStubInput}
+use Rattle.macho_promise.proofs.Stubs.{library_of}
 use Rattle.macho_stub.specs.Library.{LibraryFields}
 use Rattle.macho_stub.proofs.Answered.{answer_only, told}
 use Rattle.macho_stub_lines.proofs.Bind.{no_ok}
@@ -79,8 +80,9 @@ dylib-refused bytes refusal dylib why = why
 stub-refused : (bytes : List ℕ) (says : StubReading) (refusal : LinkError) → IsStubInput bytes says → BytesRefused head.Stub bytes refusal
     → ⊥
 stub-refused bytes says (error.BadInput (broken.Stub line rule)) stub (inl why) =
-    no_ok line rule stub.library
-    (told (λ (l : LibraryFields). l) bytes (Ok stub.library) line rule (answer_only bytes stub.library stub.in_grammar) why.1)
+    let it = library_of bytes says stub in
+    no_ok line rule it.library
+    (told (λ (l : LibraryFields). l) bytes (Ok it.library) line rule (answer_only bytes it.library it.in_grammar) why.1)
 stub-refused bytes says (error.BadInput (broken.Stub line rule)) stub (inr why) = why.0 stub.utf8
 stub-refused bytes says refusal stub why = why
 

@@ -39,14 +39,12 @@ pub record IsTaken (told : Option Store) (s : Settings) (asked : args.Input) (f 
   pub found : IsFirstHeld told (candidates_of s asked.kind asked.name) f.path bytes
   pub is : IsReadAs (head_of bytes) bytes f.input
 
--- the made objects, each under the path that it is told by
-abbrev pub generated_files : ℕ → List SourceFile
-generated_files n = map (λ i. record { path = generated_path i; input = Object (generated_object i n) }) (range_with_len 0 n)
-
 -- The files of a link: the inputs that were asked for, in the order of the words; beside a number the objects that are made.
 abbrev pub AreFiles : Option Store → Settings → Option ℕ → List SourceFile → Type 0
 AreFiles told s None files = AllZip (IsTaken told s) s.inputs files
-AreFiles told s (Some n) files = (files ≡ generated_files n) × ((i : ℕ) → i < n → IsObject (generated_object i n))
+AreFiles told s (Some n) files =
+    (files ≡ map (λ i. record { path = generated_path i; input = Object (generated_object i n) }) (range_with_len 0 n))
+    × ((i : ℕ) → i < n → IsObject (generated_object i n))
 
 -- the text of an export list stands under its path
 abbrev pub IsListed : Option Store → ℕ × List ℕ → List ℕ → Type 0

@@ -3,3 +3,5 @@ pub mod Found
 pub mod Gathering
 pub mod Objects
 pub mod Parts
+pub mod Generator
+pub mod Job

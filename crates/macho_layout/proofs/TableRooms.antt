@@ -25,12 +25,12 @@ use Rattle.macho_layout.specs.Cells.{cells_of}
 use Rattle.macho_rows.specs.Rows.{RowCells, row_segment, row_at, front_at, RowsFrom, segments_from, AreRows}
 use Rattle.macho_layout.specs.Places.{is_pointer_segment, segment_pages, row_pages}
 use Rattle.macho_layout.specs.Sums.{members_cost, written_sum, head_size, base_of, FitsLimits}
-use Rattle.macho_model.specs.Order.{fixup_room}
 use Rattle.std.proofs.lemmas.Nat.{div-mul-add}
 use Rattle.macho_cells.proofs.Multiples.{rounded-near, rounded-above}
 use Rattle.macho_rows.specs.Tables.{tables_cost, tables_at, symbols_start, signature_start}
 use Rattle.macho_rows.proofs.RowSteps.{parts-cost, paged-near, row-cost}
 use Rattle.macho_layout.proofs.Rooms.{cells-cost}
+use Rattle.macho_model.specs.Rooms.{fixup_room}
 
 -- a segment has no more pages than its file part
 pages-most : (s : PlacedSegment) → 0x4000 * segment_pages s ≤ s.file_size

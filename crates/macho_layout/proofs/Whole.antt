@@ -2,11 +2,10 @@
 --
 -- The placed sections are the plan's, one by one, with addresses beside them; the plan's are the carried ones of the link. So
 -- without addresses the lists are the same. Commons are numbered by their places, and slots and stubs are those of the plan.
-use Rattle.std.proofs.Common.{◌≡◌, ℕ, ◌+◌, List, [], ◌∷◌, map, length, if◌then◌else◌, All, IsPermutation, refl, sym, ap, ◌∙◌, subst}
+use Rattle.std.proofs.Common.{◌≡◌, ℕ, ◌+◌, List, [], ◌∷◌, map, length, if◌then◌else◌, All, refl, sym, ap, ◌∙◌, subst}
 use Rattle.std.specs.List.{enumerate_from, range_with_len, AllByRecursion}
 use Rattle.std.proofs.lemmas.List.{map-id}
 use Rattle.std.proofs.lemmas.List.Elements.{recursion_from_All, All-from_recursion}
-use Rattle.std.proofs.lemmas.List.Sorted.{IsPermutation-refl}
 use Rattle.macho_model.specs.declared.placed.Counts.{Counts}
 use Rattle.macho_model.specs.declared.placed.PlacedCommon.{PlacedCommon}
 use Rattle.macho_model.specs.declared.placed.Slot.{Slot}
@@ -87,10 +86,8 @@ stubs_are_listed l p counts q plan h =
 
 pub lists_are_whole : ListsAreWhole
 lists_are_whole l p counts q plan h = record {
-  sections = subst (λ (ss : List SectionId). IsPermutation ss (carried_of l)) (sym (sections_are_listed l p counts q plan h))
-      (IsPermutation-refl (carried_of l));
-  commons = subst (λ (ns : List ℕ). IsPermutation ns (range_with_len 0 (length (chosen_commons l))))
-      (sym (commons_are_listed l p counts q plan h)) (IsPermutation-refl (range_with_len 0 (length (chosen_commons l))));
+  sections = sections_are_listed l p counts q plan h;
+  commons = commons_are_listed l p counts q plan h;
   slots = slots_are_listed l p counts q plan h;
   stubs = stubs_are_listed l p counts q plan h;
   stub_slots = subst (λ (ss : List Stub). All (λ s. s.slot ≡ slot_number l (target.Import s.import)) ss) (sym h.from_them.stubs)

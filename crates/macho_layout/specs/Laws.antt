@@ -8,7 +8,8 @@ use Rattle.macho_model.specs.Segments.{base_of_link, segment_names_of, output_co
 use Rattle.macho_model.specs.WrittenSum.{written_sum_of}
 use Rattle.macho_layout.specs.Names.{segment_count}
 use Rattle.macho_layout.specs.Sums.{written_sum, output_count as planned_outputs, FitsLimits}
-use Rattle.macho_model.specs.Placement.{Placed, IsWholeList, id_of, TextBegins}
+use Rattle.macho_model.specs.Placement.{Placed, IsWholeList, id_of}
+use Rattle.macho_model.specs.Spans.{TextBegins}
 use Rattle.macho_layout.specs.Plans.{Planning, IsPlanOf}
 use Rattle.macho_layout.specs.Laid.{IsLaidOut}
 

@@ -14,12 +14,15 @@ use Rattle.macho_model.specs.declared.placed.PlacedSection.{PlacedSection}
 use Rattle.macho_model.specs.Links.{Link, header_at, carried_of}
 use Rattle.macho_model.specs.Fields.{Field, fields_of}
 use Rattle.macho_model.specs.Values.{needs_fixup}
-use Rattle.macho_model.specs.Placement.{Placed, Span, spans_with, AreApart, section_span, common_span, slot_span, stub_span, head_span, id_of, IsPlaced}
+use Rattle.macho_model.specs.Placement.{Placed, id_of, IsPlaced}
+use Rattle.macho_model.specs.Zeros.{Span}
+use Rattle.macho_model.specs.Spans.{spans_with, AreApart, section_span, common_span, slot_span, stub_span, head_span}
 use Rattle.macho_fixups.specs.declared.run.Fixup.{Fixup}
 use Rattle.macho_parts.specs.Asked.{slot_fixup, field_fixup, fixups_in, fixups_asked}
 use Rattle.macho_linkedit.specs.Runs.{PointersFit, WordsApart, IsWordPlace}
 use Rattle.macho_linkedit.proofs.Members.{in_rest, in_map, from_map, from_filter, from_flat_map}
 use Rattle.macho_linkedit.proofs.Pairs.{pairs_front, pairs_back, pairs_tail, pairs_cross, pairs_map, pairs_unmap, pairs_weaker, pairs_append, pairs_flat_map}
+use Rattle.macho_model.proofs.Parts.{apart_of, same_order}
 
 -- the parts up to the slots
 abbrev before_slots : Link → Counts → Placed → List Span
@@ -67,7 +70,7 @@ of_section l p q x c =
 pub carried : (l : Link) (counts : Counts) (p : Placed) (q : PlacedSection) → IsPlaced l counts p → Contains p.sections q → Contains
     (carried_of l) (id_of q)
 carried l counts p q placed c =
-    Contains-permutation (map id_of p.sections) (carried_of l) (id_of q) placed.whole_list.sections (in_map id_of p.sections q c)
+    Contains-permutation (map id_of p.sections) (carried_of l) (id_of q) (same_order placed.whole_list.sections) (in_map id_of p.sections q c)
 
 -- Facts of the pointer of a placed section.
 record IsPointerAt (l : Link) (p : Placed) (q : PlacedSection) (a : ℕ) : Type 0 where
@@ -120,7 +123,7 @@ words_apart l counts p placed fit =
         pairs_map (λ x y. Beside x.address y.address) (slot_fixup l p) p.slots
         (pairs_weaker (λ s t. AreApart (slot_span s) (slot_span t)) (λ s t. Beside s.address t.address) p.slots
         (pairs_unmap AreApart slot_span p.slots
-        (pairs_back AreApart (before_slots l counts p) (map slot_span p.slots) (to_slots l counts p placed.apart)))
+        (pairs_back AreApart (before_slots l counts p) (map slot_span p.slots) (to_slots l counts p (apart_of placed))))
         (λ s t in_s in_t apart. words_of (slot_span s) (slot_span t) s.address t.address apart (omega arith) (omega arith) (omega arith)
         (omega arith)))
 
@@ -128,7 +131,7 @@ words_apart l counts p placed fit =
     sections =
         pairs_flat_map (λ q r. AreApart (section_span l q) (section_span l r)) (λ x y. Beside x.address y.address)
         (fixups_in l p) p.sections
-        (pairs_unmap AreApart (section_span l) p.sections (to_sections l counts p placed.apart))
+        (pairs_unmap AreApart (section_span l) p.sections (to_sections l counts p (apart_of placed)))
         (λ q c. in_one l counts p q placed fit c)
         (λ q r x y in_q in_r apart in_x in_y.
         let a = pointer_at l counts p q x placed fit in_q in_x in
@@ -142,7 +145,7 @@ words_apart l counts p placed fit =
         let q = from_flat_map (fixups_in l p) p.sections y in_y in
         let b = pointer_at l counts p q.0 y placed fit q.1 q.2 in
         let both = pairs_cross AreApart (before_slots l counts p) (map slot_span p.slots) (section_span l q.0) (slot_span s.0)
-        (to_slots l counts p placed.apart)
+        (to_slots l counts p (apart_of placed))
         (section_among l counts p q.0 q.1) (in_map slot_span p.slots s.0 s.1) in
         let apart = words_of (section_span l q.0) (slot_span s.0) y.address s.0.address both b.low b.high (omega arith) (omega arith) in
         subst (λ (z : Fixup). Beside z.address y.address) s.2 (turn y.address s.0.address apart)

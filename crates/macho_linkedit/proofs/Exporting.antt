@@ -14,7 +14,6 @@ use Rattle.macho_model.specs.Resolution.{SymbolId, entry_at, same_symbol, stands
 use Rattle.macho_model.specs.Needs.{imports_of}
 use Rattle.macho_model.specs.Targets.{own_target, definition_target, target_of_name}
 use Rattle.macho_model.specs.Placement.{Placed}
-use Rattle.macho_model.specs.Exports.{weak_flag}
 use Rattle.macho_model.specs.Values.{is_absolute_target}
 use Rattle.macho_model.specs.Stands.{IsAt}
 use Rattle.macho_model.proofs.Words.{place_of_symbol}
@@ -22,6 +21,7 @@ use Rattle.macho_parts.specs.TrieSays.{from_object, from_library, ValueOf}
 use Rattle.macho_linkedit.specs.Tries.{said_of, value_said, is_thread_local}
 use Rattle.macho_linkedit.specs.Laws.{ValuesAreFound, ReexportsAreFound}
 use Rattle.macho_linkedit.proofs.Numbering.{not_own}
+use Rattle.macho_model.specs.steps.Exports.{weak_flag}
 
 -- a symbol that defines itself isn't the image's base
 not_base : (l : Link) (s : SymbolId) → own_target l s ≡ target.Base → ⊥

@@ -8,6 +8,7 @@ pub mod Entries
 pub mod LinkEntries
 pub mod NamesStand
 pub mod TableSays
+pub mod FixupsSaid
 pub mod Reserving
 pub mod Unique
 pub mod TrieSaid

@@ -15,11 +15,13 @@ use Rattle.std.proofs.lemmas.List.Folds.{flat_map-map}
 use Rattle.std.proofs.lemmas.List.FromFn.{get_or-map-range_with_len, length-map-range_with_len}
 use Rattle.std.proofs.lemmas.List.Sums.{sum_by-cons}
 use Rattle.macho_model.specs.Links.{Link}
-use Rattle.macho_model.specs.Resolution.{Definition, library_name}
-use Rattle.macho_model.specs.Needs.{imports_of, import_library, library_file}
+use Rattle.macho_model.specs.Resolution.{Definition}
+use Rattle.macho_model.specs.Resolution.{library_name}
+use Rattle.macho_model.specs.Needs.{imports_of, import_library}
+use Rattle.macho_model.specs.steps.Resolved.{library_file}
 use Rattle.macho_model.specs.Exports.{library_number}
 use Rattle.macho_model.specs.Fixups.{EntryOfImport, own_entries, import_entries_of, entries_have_addends, import_format}
-use Rattle.macho_model.specs.ImportTable.{names_text, name_place, entry_of_link, no_entry}
+use Rattle.macho_model.specs.ImportTable.{names_text, name_place, entry_of_link}
 use Rattle.macho_symbols.specs.declared.solved.Import.{Import}
 use Rattle.macho_symbols.specs.Told.{ImportsAre, IsImportOf}
 use Rattle.macho_fixups.specs.declared.imports.ImportEntry.{ImportEntry}
@@ -29,6 +31,7 @@ use Rattle.macho_linkedit.specs.Imports.{FitTable, AreOfLink, IsEntryFor, AreEnt
 use Rattle.macho_symbols.specs.Entries.{entry_of}
 use Rattle.macho_linkedit.specs.steps.Entries.{names_of, plain_at}
 use Rattle.macho_linkedit.proofs.Entries.{AreMade, entries_many, plain_there, some_import, IsOwnEntry, own_there, names_left}
+use Rattle.macho_model.specs.steps.ImportTable.{no_entry}
 
 abbrev name_in : Import → List ℕ
 name_in i = i.name.items

@@ -23,7 +23,7 @@ use Rattle.macho_model.specs.Grammar.{IsFile}
 use Rattle.macho_model.proofs.ObjectLaws.{object_keeps, dylib_keeps}
 use Rattle.macho_model.specs.Links.{Input, Object, Dylib, Stub, Link, no_input, object_bytes, object_of, is_carried}
 use Rattle.macho_model.specs.Resolution.{SymbolId, name_at, defines, symbols_of_file, symbols_of}
-use Rattle.macho_model.specs.SymbolTable.{is_in_table, table_symbols}
+use Rattle.macho_model.specs.SymbolTable.{table_symbols}
 use Rattle.macho_parts.specs.Sizes.{text_size}
 use Rattle.macho_names.specs.Kept.{in_carried}
 use Rattle.macho_symbols.specs.Kept.{symbol_id}
@@ -35,6 +35,7 @@ use Rattle.macho_linkedit.specs.declared.listing.TableSymbols.{TableSymbols}
 use Rattle.macho_linkedit.specs.Listing.{object_in, seen_object, AreObjects, id_of_symbol, HasLength, AreListed}
 use Rattle.macho_linkedit.specs.steps.Listing.{is_defined_symbol, is_label, name_length, symbols_in, Lists}
 use Rattle.macho_linkedit.proofs.Members.{in_map, from_filter_map}
+use Rattle.macho_model.specs.steps.SymbolTable.{is_in_table}
 
 -- a symbol is in the table by what its object's bytes say
 in_table_is : (l : Link) (file k : ℕ) (b : List ℕ) → object_of l file ≡ b

@@ -17,14 +17,19 @@ use Rattle.macho_model.specs.declared.targets.Target.{Target}
 use Rattle.macho_model.specs.declared.targets.Target.TheVariants as target
 use Rattle.macho_model.specs.Links.{Link, SectionId, header_at, is_carried, carried_of}
 use Rattle.macho_model.specs.Resolution.{SymbolId, Definition, Symbol, Library, ImageBase, entry_at, name_at, same_symbol, chosen_commons, stands_in_carried, definition_of}
-use Rattle.macho_model.specs.Needs.{Use, ByRelocation, ByInitializer, ByPersonality, ByName, relocation_in, section_named, relocations_of, carried_uses, is_imported, is_library, uses_of, symbol_of_relocation, global_name, name_used, imports_of}
-use Rattle.macho_model.specs.Targets.{own_target, definition_target, target_of, target_of_relocation, slot_of_use, slots_of, goes_by_slot, is_import, same_target}
+use Rattle.macho_model.specs.Needs.{relocation_in, section_named, relocations_of, is_imported, symbol_of_relocation, imports_of}
+use Rattle.macho_model.specs.steps.Resolved.{is_library}
+use Rattle.macho_model.specs.Uses.{Use, ByRelocation, ByInitializer, ByPersonality, ByName, carried_uses, uses_of, global_name, name_used}
+use Rattle.macho_model.specs.Targets.{own_target, definition_target, target_of, target_of_relocation, slots_of, is_import, same_target}
+use Rattle.macho_model.specs.Uses.{slot_of_use, goes_by_slot}
 use Rattle.macho_model.specs.Fixups.{EntryOfImport, same_entry, has_room, own_entry, own_entries, import_entries_of}
 use Rattle.macho_model.specs.Fields.{Field, field_of, is_prefix_type, fields_of}
 use Rattle.macho_model.specs.Values.{is_pointer}
 use Rattle.macho_model.proofs.EachBelow.{and_left, and_right, and_both, is_equal, equal_is}
 use Rattle.macho_model.proofs.Words.{place_of_symbol, target_of_symbol, target_of_section}
 use Rattle.macho_linkedit.proofs.Members.{in_map, from_map, in_filter, from_filter, in_flat_map, in_filter_map, from_filter_map, in_distinct, from_distinct, place_in}
+use Rattle.macho_model.proofs.Uses.{imports_are, slots_are}
+use Rattle.std.proofs.Common.{subst}
 
 -- A name that a library defines, and its number.
 pub record IsNamed (l : Link) (used : Option (List ℕ)) (id : ℕ) : Type 0 where
@@ -92,14 +97,14 @@ relocation_named l s r id is = outside (relocation_in l s r).r_extern is
 
 -- the number of a name that a use names is below the number of imports
 named_below : (l : Link) (u : Use) (id : ℕ) → Contains (uses_of l) u → IsNamed l (name_used l u) id → id < length (imports_of l)
-unfolding imports_of
 named_below l u id there named =
     let among : Contains (filter_map (name_used l) (uses_of l)) named.name = in_filter_map (name_used l)
     (uses_of l) u named.name there named.is in
     let imported : Contains (filter (is_imported l) (filter_map (name_used l) (uses_of l))) named.name
     = in_filter (is_imported l) (filter_map (name_used l) (uses_of l)) named.name among named.imported in
     let once : Contains (imports_of l) named.name
-    = in_distinct bytes_eq bytes_eq-Decides (filter (is_imported l) (filter_map (name_used l) (uses_of l))) named.name imported in
+    = subst (λ (ns : List (List ℕ)). Contains ns named.name) (sym (imports_are l))
+    (in_distinct bytes_eq bytes_eq-Decides (filter (is_imported l) (filter_map (name_used l) (uses_of l))) named.name imported) in
     let below : position_or_len (bytes_eq named.name) (imports_of l) < length (imports_of l)
     = place_in (bytes_eq named.name) (imports_of l) named.name once ((bytes_eq-Decides named.name named.name).1 refl) in
     let number : id ≡ position_or_len (bytes_eq named.name) (imports_of l) = named.number in
@@ -126,10 +131,10 @@ field_below l s f id in_l in_s is =
 
 -- and that a slot leads to
 pub slot_below : (l : Link) (id : ℕ) → Contains (slots_of l) (target.Import id) → id < length (imports_of l)
-unfolding slots_of
 slot_below l id c =
     let z = from_filter_map (slot_of_use l) (uses_of l) (target.Import id)
-    (from_distinct same_target (filter_map (slot_of_use l) (uses_of l)) (target.Import id) c) in
+    (from_distinct same_target (filter_map (slot_of_use l) (uses_of l)) (target.Import id)
+    (subst (λ (ts : List Target). Contains ts (target.Import id)) (slots_are l) c)) in
     named_below l z.0 id z.1 (by z.0 z.2)
   where
     some : (b : Bool) (t : Target) → (if b then Some t else None) ≡ Some (target.Import id) → t ≡ target.Import id

@@ -10,15 +10,15 @@ use Rattle.std.proofs.lemmas.List.{length-append, length_push}
 use Rattle.std.proofs.lemmas.List.Elements.{All-push, All-nil}
 use Rattle.std.proofs.lemmas.List.Sums.{sum_by-cons}
 use Rattle.macho_bytes.specs.Texts.{put}
-use Rattle.macho_bytes.specs.Layouts.{spelling, ReadsBack}
 use Rattle.macho_bytes.proofs.Puts.{put-put, put_nothing, length-put}
 use Rattle.macho_bytes.proofs.Tables.{flat_map-more, length-table}
-use Rattle.macho_records.specs.Layouts.{symtab_entry}
 use Rattle.macho_records.specs.declared.symbols.SymtabEntry.{SymtabEntry}
 use Rattle.macho_fixups.proofs.PutOrder.{put_swap}
 use Rattle.macho_linkedit.specs.TableRows.{SymbolRow}
 use Rattle.macho_linkedit.specs.declared.symbols.SymbolWriter.{SymbolWriter}
 use Rattle.macho_linkedit.specs.Symbols.{SymbolTable, entry_for, entries_from, HasRows, table_text, AreRowsWritten, IsTableWritten}
+use Rattle.macho_bytes.specs.Spellings.{spelling, ReadsBack}
+use Rattle.macho_records.specs.Spellings.{symtab_entry_rows}
 
 -- the bytes of a row's name with its NUL
 abbrev pub name_size : SymbolRow → ℕ
@@ -71,9 +71,9 @@ pub table_strings : (rows : List SymbolRow) (t : SymbolTable) → HasRows rows t
 table_strings rows t has = omega (arith, ap length has.strings_are, names_long rows)
 
 -- entries that read back have 16 bytes each
-entries_long : (entries : List SymtabEntry) → All (ReadsBack symtab_entry) entries
-    → length (flat_map (spelling symtab_entry) entries) ≡ 16 * length entries
-entries_long entries back = length-table (spelling symtab_entry) 16 entries (record { long = λ k d lt. (back k d lt).long })
+entries_long : (entries : List SymtabEntry) → All (ReadsBack symtab_entry_rows) entries
+    → length (flat_map (spelling symtab_entry_rows) entries) ≡ 16 * length entries
+entries_long entries back = length-table (spelling symtab_entry_rows) 16 entries (record { long = λ k d lt. (back k d lt).long })
 
 -- no row is written yet: the NUL in front of the names is
 pub written_none : (symbols : ℕ) (w : SymbolWriter) (before now : List ℕ) → w.entry ≡ 0 → w.strings ≡ 16 * symbols → w.name ≡ 1
@@ -87,14 +87,14 @@ written_none symbols w before now entry strings name room is = record {
   room = omega (arith, entry);
   inside = omega (arith, name, room);
   is = is ∙ ap (put w.strings (0 ∷ [])) (sym (put_nothing 0 before (omega arith)));
-  back = All-nil (ReadsBack symtab_entry);
+  back = All-nil (ReadsBack symtab_entry_rows);
 }
 
 -- what is written keeps the length
 pub written_length : (symbols : ℕ) (rows : List SymbolRow) (w : SymbolWriter) (before now : List ℕ)
     → AreRowsWritten symbols rows w before now → length now ≡ length before
 written_length symbols rows w before now old =
-    let x : List ℕ = flat_map (spelling symtab_entry) old.table.entries in
+    let x : List ℕ = flat_map (spelling symtab_entry_rows) old.table.entries in
     let front : length (put 0 x before) ≡ length before = length-put 0 x before
     (omega (arith, entries_long old.table.entries old.back, old.entry, old.room, old.inside)) in
     ap length old.is ∙ length-put w.strings old.table.strings (put 0 x before) (omega (arith, front, old.name, old.inside)) ∙ front
@@ -125,8 +125,8 @@ both_grow at front behind x more y text end before long apart next fits =
 -- and one row more
 pub written_more : (symbols : ℕ) (rows : List SymbolRow) (r : SymbolRow) (e : SymtabEntry) (w next : SymbolWriter)
     (before out with_entry with_name now : List ℕ) → AreRowsWritten symbols rows w before out → e ≡ entry_for w.name r
-    → ReadsBack symtab_entry e → w.entry + 16 ≤ w.strings → w.strings + w.name + length r.name < length out
-    → with_entry ≡ put w.entry (spelling symtab_entry e) out → with_name ≡ put (w.strings + w.name) r.name with_entry
+    → ReadsBack symtab_entry_rows e → w.entry + 16 ≤ w.strings → w.strings + w.name + length r.name < length out
+    → with_entry ≡ put w.entry (spelling symtab_entry_rows e) out → with_name ≡ put (w.strings + w.name) r.name with_entry
     → now ≡ put (w.strings + w.name + length r.name) (0 ∷ []) with_name
     → next.entry ≡ w.entry + 16 → next.strings ≡ w.strings → next.name ≡ w.name + (length r.name + 1)
     → AreRowsWritten symbols (rows ++ r ∷ []) next before now
@@ -148,17 +148,17 @@ written_more symbols rows r e w next before out first second now old e_is good s
       inside = omega (arith, strings, name, fits, same);
       is =
           put_end ∙ ap (put (w.strings + w.name + length r.name) (0 ∷ [])) (put_name ∙ ap (put (w.strings + w.name) r.name)
-          (put_entry ∙ ap (put w.entry (spelling symtab_entry e)) old.is))
-          ∙ both_grow w.strings w.entry (w.strings + w.name) x (spelling symtab_entry e) old.table.strings r.name (0 ∷ []) before
+          (put_entry ∙ ap (put w.entry (spelling symtab_entry_rows e)) old.is))
+          ∙ both_grow w.strings w.entry (w.strings + w.name) x (spelling symtab_entry_rows e) old.table.strings r.name (0 ∷ []) before
           (omega (arith, old.entry, long)) (omega (arith, good.long, space)) (omega (arith, old.name)) (omega (arith, fits, same))
-          ∙ ap (λ (n : ℕ). put n (old.table.strings ++ (r.name ++ 0 ∷ [])) (put 0 (x ++ spelling symtab_entry e) before)) (sym strings)
+          ∙ ap (λ (n : ℕ). put n (old.table.strings ++ (r.name ++ 0 ∷ [])) (put 0 (x ++ spelling symtab_entry_rows e) before)) (sym strings)
           ∙ ap (λ (t : List ℕ). put next.strings (old.table.strings ++ (r.name ++ 0 ∷ [])) (put 0 t before))
-          (sym (flat_map-more (spelling symtab_entry) old.table.entries e));
-      back = All-push (ReadsBack symtab_entry) old.table.entries e old.back good;
+          (sym (flat_map-more (spelling symtab_entry_rows) old.table.entries e));
+      back = All-push (ReadsBack symtab_entry_rows) old.table.entries e old.back good;
     }
   where
     x : List ℕ
-    x = flat_map (spelling symtab_entry) old.table.entries
+    x = flat_map (spelling symtab_entry_rows) old.table.entries
 
     long : length x ≡ 16 * length old.table.entries
     long = entries_long old.table.entries old.back
@@ -174,7 +174,7 @@ unfolding table_text
 written_all symbols rows w before now many old = record {
   table = old.table;
   rows_are = old.rows_are;
-  is = old.is ∙ put-put 0 w.strings (flat_map (spelling symtab_entry) old.table.entries) old.table.strings before
+  is = old.is ∙ put-put 0 w.strings (flat_map (spelling symtab_entry_rows) old.table.entries) old.table.strings before
       (omega (arith, old.strings, many, table_entries rows old.table old.rows_are, entries_long old.table.entries old.back))
       (omega (arith, old.inside, old.name));
   back = old.back;

@@ -10,13 +10,13 @@ use Rattle.macho_model.specs.Objects.{symbol_at, symbol_name}
 use Rattle.macho_model.specs.Links.{Link}
 use Rattle.macho_model.specs.Exports.{is_listed}
 use Rattle.macho_model.specs.Resolution.{SymbolId, entry_at, name_at}
-use Rattle.macho_model.specs.SymbolEntries.{hidden_type}
 use Rattle.macho_model.specs.Placement.{Placed}
 use Rattle.macho_symbols.specs.Kept.{symbol_id}
 use Rattle.macho_linkedit.specs.declared.listing.LinkedObject.{LinkedObject}
 use Rattle.macho_linkedit.specs.TableRows.{SymbolRow, row_of}
 use Rattle.macho_linkedit.specs.Listing.{IsRowOf}
 use Rattle.macho_linkedit.specs.steps.Listing.{common_type, placed_type_of, placed_description_of}
+use Rattle.macho_model.specs.steps.SymbolEntries.{hidden_type}
 
 -- a row of equal parts
 same_row : (n m : List ℕ) (t u s r d e v w : ℕ) → n ≡ m → t ≡ u → s ≡ r → d ≡ e → v ≡ w

@@ -22,15 +22,18 @@ use Rattle.macho_model.specs.Targets.{slots_of}
 use Rattle.macho_model.specs.Values.{is_pointer, is_absolute_target, needs_fixup}
 use Rattle.macho_model.specs.Stands.{is_template_offset}
 use Rattle.macho_model.specs.Fixups.{has_room, import_entries_of}
-use Rattle.macho_model.specs.Placement.{Placed, slot_span, id_of, IsPlaced, SectionLies, LiesInNamed}
+use Rattle.macho_model.specs.Placement.{Placed, id_of, IsPlaced}
+use Rattle.macho_model.specs.Spans.{slot_span}
+use Rattle.macho_model.specs.steps.Parts.{SectionLies, LiesInNamed}
 use Rattle.macho_model.specs.Segments.{DATA_CONST}
 use Rattle.macho_model.proofs.EachBelow.{and_left}
 use Rattle.macho_fixups.specs.declared.run.Fixup.{Fixup}
 use Rattle.macho_fixups.specs.declared.run.FixupSegment.{FixupSegment}
 use Rattle.macho_fixups.specs.declared.words.FixupKind.TheVariants.{Bind}
 use Rattle.macho_fixups.specs.Words.{FitsOrdinal}
-use Rattle.macho_fixups.specs.Runs.{AreSorted, Holds}
-use Rattle.macho_parts.specs.FixupsSay.{IsFixupOf, slot, pointer, kind_for, own_number, fixup_segment, fixup_segments}
+use Rattle.macho_fixups.specs.Runs.{AreFixups, Holds}
+use Rattle.macho_parts.specs.FixupsSay.{IsFixupOf, slot, pointer, kind_for, own_number, fixup_segments}
+use Rattle.macho_parts.specs.steps.Segments.{fixup_segment}
 use Rattle.macho_parts.specs.Asked.{slot_fixup, field_fixup, fixups_in, fixups_asked}
 use Rattle.macho_linkedit.specs.Runs.{PointersFit, IsWordPlace}
 use Rattle.macho_linkedit.specs.Laws.{SortedIsRun}
@@ -38,6 +41,8 @@ use Rattle.macho_linkedit.proofs.Members.{in_map, from_map, in_filter, in_flat_m
 use Rattle.macho_linkedit.proofs.Pairs.{pairs_permuted}
 use Rattle.macho_linkedit.proofs.Asked.{Beside, of_section, carried, words_apart}
 use Rattle.macho_linkedit.proofs.Numbering.{field_below, slot_below, own_below, imports_first}
+use Rattle.macho_model.proofs.Parts.{aligned_of, in_segment_of}
+use Rattle.macho_fixups.specs.steps.Runs.{AreSorted}
 
 -- the same fixups are asked for
 pub asked_is : (l : Link) (p : Placed) (f : Fixup) → Contains (fixups_asked l p) f → IsFixupOf l p f
@@ -113,10 +118,10 @@ slot_good l counts p s placed fit c = record {
 }
   where
     even : s.address % 8 ≡ 0
-    even = All-contains (λ t. t.address % 8 ≡ 0) p.slots s placed.aligned.slots c
+    even = All-contains (λ t. t.address % 8 ≡ 0) p.slots s (aligned_of placed).slots c
 
     lies : LiesInNamed p DATA_CONST true (slot_span s)
-    lies = All-contains (λ t. LiesInNamed p DATA_CONST true (slot_span t)) p.slots s placed.in_segment.slots c
+    lies = All-contains (λ t. LiesInNamed p DATA_CONST true (slot_span t)) p.slots s (in_segment_of placed).slots c
 
     among : (id : ℕ) → s.target ≡ target.Import id → Contains (slots_of l) (target.Import id)
     among id is =
@@ -146,7 +151,7 @@ pointer_good l counts p q f placed fit c there needs = record {
     inside = fit.inside (id_of q) f (carried l counts p q placed c) there needs
 
     lies : SectionLies l p q
-    lies = All-contains (SectionLies l p) p.sections q placed.in_segment.sections c
+    lies = All-contains (SectionLies l p) p.sections q (in_segment_of placed).sections c
 
     part : (if not (is_zerofill (header_at l (id_of q))) && not
         ((header_at l (id_of q)).size == 0) then lies.0.file_size else lies.0.size) ≡ lies.0.file_size
@@ -162,18 +167,29 @@ good : (l : Link) (counts : Counts) (p : Placed) → IsPlaced l counts p → Poi
 good l counts p placed fit _ (slot s c) = slot_good l counts p s placed fit c
 good l counts p placed fit _ (pointer q f c there needs) = pointer_good l counts p q f placed fit c there needs
 
+-- so fixups of a placed link, one behind the other, are such as chains can hold
+pub are_fixups : (l : Link) (counts : Counts) (p : Placed) (run : List Fixup) → IsPlaced l counts p → PointersFit l p → AreSorted run
+    → ((f : Fixup) → Contains run f → IsFixupOf l p f) → AreFixups (fixup_segments p) run
+are_fixups l counts p run placed fit order is = record {
+  sorted = order;
+  steps = all_in (λ f. f.address % 4 ≡ 0) run (λ f c. (each f c).place.0);
+  in_page = all_in (λ f. f.address % 0x4000 + 8 ≤ 0x4000) run (λ f c. (each f c).place.1);
+  in_segment = all_in (λ f. (s : FixupSegment) × Contains (fixup_segments p) s × Holds s f.address) run (λ f c. (each f c).held);
+  ordinals = all_in (λ f. FitsOrdinal f.kind) run (λ f c. (each f c).ordinal);
+}
+  where
+    each : (f : Fixup) → Contains run f → IsGood p f
+    each f c = good l counts p placed fit f (is f c)
+
 -- THE law.
 pub sorted_is_run : SortedIsRun
 sorted_is_run l counts p asked run placed fit moved sort =
     record {
-      run = record {
-        sorted = sorted run (pairs_permuted (λ x y. Beside x.address y.address) (λ x y h. turn x.address y.address h)
-            (fixups_asked l p) run same (words_apart l counts p placed fit)) sort.order;
-        steps = all_in (λ f. f.address % 4 ≡ 0) run (λ f c. (each f c).place.0);
-        in_page = all_in (λ f. f.address % 0x4000 + 8 ≤ 0x4000) run (λ f c. (each f c).place.1);
-        in_segment = all_in (λ f. (s : FixupSegment) × Contains (fixup_segments p) s × Holds s f.address) run (λ f c. (each f c).held);
-        ordinals = all_in (λ f. FitsOrdinal f.kind) run (λ f c. (each f c).ordinal);
-      };
+      run =
+          are_fixups l counts p run placed fit
+          (sorted run (pairs_permuted (λ x y. Beside x.address y.address) (λ x y h. turn x.address y.address h)
+          (fixups_asked l p) run same (words_apart l counts p placed fit)) sort.order)
+          is;
       each = all_in (IsFixupOf l p) run is;
       all = λ f of. Contains-permutation (fixups_asked l p) run f same (is_asked l p f of);
     }
@@ -186,6 +202,3 @@ sorted_is_run l counts p asked run placed fit moved sort =
 
     is : (f : Fixup) → Contains run f → IsFixupOf l p f
     is f c = asked_is l p f (Contains-permutation run (fixups_asked l p) f (IsPermutation-sym (fixups_asked l p) run same) c)
-
-    each : (f : Fixup) → Contains run f → IsGood p f
-    each f c = good l counts p placed fit f (is f c)

@@ -15,7 +15,7 @@ use Rattle.std.proofs.lemmas.List.Folds.{flat_map-map}
 use Rattle.std.proofs.lemmas.List.FromFn.{length-range_with_len, get_or-range_with_len, fill_by_all}
 use Rattle.std.proofs.lemmas.List.Sums.{sum_by-cons}
 use Rattle.macho_bytes.specs.Texts.{Stands, name_of}
-use Rattle.macho_bytes.specs.Layouts.{spelling, reading}
+use Rattle.macho_bytes.specs.Layouts.{reading}
 use Rattle.macho_bytes.proofs.Numbers.{stands-front, stands-back}
 use Rattle.macho_bytes.proofs.Tables.{table-stands, length-table}
 use Rattle.macho_records.specs.Layouts.{symtab_command, symtab_entry}
@@ -25,7 +25,7 @@ use Rattle.macho_model.specs.Commands.{Command, numbered}
 use Rattle.macho_model.specs.Objects.{symtab_of, num_symbols, symbol_place, symbol_at, strings_of, symbol_name}
 use Rattle.macho_model.specs.Links.{Link, object_of}
 use Rattle.macho_model.specs.Resolution.{SymbolId, name_at}
-use Rattle.macho_model.specs.Images.{Table, symbols_range, strings_range, symbol_tables_of, string_tables_of}
+use Rattle.macho_model.specs.Images.{Table, symbol_tables_of, string_tables_of}
 use Rattle.macho_model.specs.SymbolTable.{table_symbols}
 use Rattle.macho_model.specs.SymbolEntries.{entry_of_symbol, placed_entries, symbol_entries, strings_text, SymbolsSay}
 use Rattle.macho_model.specs.Lists.{of_first}
@@ -35,6 +35,9 @@ use Rattle.macho_linkedit.specs.TableRows.{SymbolRow, row_of, symbol_rows}
 use Rattle.macho_linkedit.specs.Symbols.{SymbolTable, entries_from, table_text, SymbolsStand}
 use Rattle.macho_linkedit.specs.Laws.{SymbolsAreSaid}
 use Rattle.macho_linkedit.proofs.NamesStand.{name_stands, whole, name_read, read_plain}
+use Rattle.macho_bytes.specs.Spellings.{spelling}
+use Rattle.macho_records.specs.Spellings.{symtab_entry_rows}
+use Rattle.macho_model.specs.steps.Images.{symbols_range, strings_range}
 
 -- Where the command of both tables tells that they stand.
 record IsTold (b : List ℕ) (symbols strings : Table) : Type 0 where
@@ -125,10 +128,10 @@ are_read b at t stands = record {
     count = omega (arith, tells.nsyms)
 
     text : List ℕ
-    text = flat_map (spelling symtab_entry) t.entries
+    text = flat_map (spelling symtab_entry_rows) t.entries
 
     long : length text ≡ 16 * length t.entries
-    long = length-table (spelling symtab_entry) 16 t.entries (record { long = λ k d lt. (stands.back k d lt).long })
+    long = length-table (spelling symtab_entry_rows) 16 t.entries (record { long = λ k d lt. (stands.back k d lt).long })
 
     behind : Stands b (record { at = at + 16 * length t.entries; text = t.strings })
     behind = stands-back b at (at + 16 * length t.entries) text t.strings (omega (arith, long)) stands.text
@@ -136,7 +139,7 @@ are_read b at t stands = record {
     entry : (k : ℕ) → k < length t.entries
         → reading symtab_entry b ((symtab_of b).symoff + 16 * k) ≡ get_or t.entries k none
     entry k inside =
-        let there = table-stands (spelling symtab_entry) 16 t.entries at k none b
+        let there = table-stands (spelling symtab_entry_rows) 16 t.entries at k none b
         (record { long = λ j x h. (stands.back j x h).long }) inside
         (stands-front b at text t.strings stands.text) in
         ap (λ (n : ℕ). reading symtab_entry b (n + 16 * k)) tells.symoff

@@ -3,21 +3,18 @@
 -- What the table's clauses read of an entry is its library, the place of its name and its addend; the bit between the first
 -- two is read from the word itself, which stands behind header, starts and the entries before it: it is a sum of the library,
 -- below 256, and of a multiple of 512. A name stands behind those before it, up to its NUL, so it is read back.
-use Rattle.std.proofs.Common.{◌≡◌, ◌≢◌, ℕ, ◌+◌, ◌-◌, ◌*◌, ◌^◌, ◌<◌, ◌==◌, not, if◌then◌else◌, Bool, true, false, List, [], ◌∷◌, ◌++◌, length, get_or, slice_range, refl, sym, ap, subst, ◌∙◌, arith, inl, inr, Option, Some, None, pos}
-use Rattle.std.specs.Prelude.{All, Contains, sum_by}
+use Rattle.std.proofs.Common.{◌≡◌, ◌≢◌, ℕ, ◌+◌, ◌-◌, ◌*◌, ◌^◌, ◌<◌, ◌==◌, not, if◌then◌else◌, Bool, true, false, List, [], ◌∷◌, ◌++◌, length, get_or, slice_range, sym, ap, subst, ◌∙◌, arith, inl, inr, Option, Some, None, pos}
+use Rattle.std.specs.Prelude.{All, Contains}
 use Rattle.std.specs.Int.{w32, cast_unsigned}
 use Rattle.std.specs.List.{flat_map, filter_map}
 use Rattle.std.specs.Str.{bytes_eq}
 use Rattle.std.proofs.lemmas.Bool.{cases_lt}
-use Rattle.std.proofs.lemmas.List.{length-append}
 use Rattle.std.proofs.lemmas.List.Elements.{All-get_or, Contains-get_or}
-use Rattle.std.proofs.lemmas.List.Sums.{sum_by-cons, prefix_len-le-length}
+use Rattle.std.proofs.lemmas.List.Sums.{prefix_len-le-length}
 use Rattle.macho_bytes.specs.Numbers.{little, le_at, le_bytes, bits}
 use Rattle.macho_bytes.specs.Texts.{Stands}
-use Rattle.macho_bytes.specs.Layouts.{spelling}
 use Rattle.macho_bytes.proofs.Numbers.{little_is_sound, number-stands, stands-front, stands-back}
 use Rattle.macho_bytes.proofs.Tables.{table-stands}
-use Rattle.macho_structs.specs.Layouts.{chained_fixups_header}
 use Rattle.macho_structs.specs.declared.fixups.ChainedFixupsHeader.{ChainedFixupsHeader}
 use Rattle.macho_model.specs.declared.targets.Target.{Target}
 use Rattle.macho_model.specs.declared.targets.Target.TheVariants as target
@@ -26,20 +23,19 @@ use Rattle.macho_model.specs.Needs.{imports_of, import_library, libraries_needed
 use Rattle.macho_model.specs.Fields.{Field, fields_of}
 use Rattle.macho_model.specs.Values.{is_pointer}
 use Rattle.macho_model.specs.Exports.{library_number}
-use Rattle.macho_model.specs.Images.{Table, fixups_header, import_entry_size, import_place, import_entry, import_name}
+use Rattle.macho_model.specs.Images.{Table, fixups_header, import_entry_size, import_place, import_entry}
 use Rattle.macho_model.specs.Images as images
 use Rattle.macho_model.specs.Fixups.{EntryOfImport, same_entry, has_room, own_entry, own_entries, import_entries_of}
-use Rattle.macho_model.specs.ImportTable.{names_text, no_entry, entry_of_link, name_of_entry, name_place, EntrySays}
+use Rattle.macho_model.specs.ImportTable.{names_text, entry_of_link, name_of_entry, name_place, EntrySays}
 use Rattle.macho_fixups.specs.declared.run.Fixup.{Fixup}
 use Rattle.macho_fixups.specs.declared.run.FixupSegment.{FixupSegment}
 use Rattle.macho_fixups.specs.declared.imports.ImportEntry.{ImportEntry}
-use Rattle.macho_fixups.specs.Tables.{offsets_text, segment_text, segment_size, image_starts_text, image_starts_size, entry_text, entry_word, table_header, table_text, names_place, imports_place}
+use Rattle.macho_fixups.specs.Tables.{image_starts_text, entry_text, entry_word, table_header, table_text, names_place, imports_place}
 use Rattle.macho_fixups.specs.Calls.{AreEntries}
 use Rattle.macho_fixups.specs.Readings.{IsRead, entry_seen}
 use Rattle.macho_fixups.specs.Laws.{NameIsRead}
 use Rattle.macho_fixups.proofs.TableTexts.{header_long}
-use Rattle.macho_fixups.proofs.SegmentWrites.{length-offsets}
-use Rattle.macho_fixups.proofs.StartReading.{text_long}
+use Rattle.macho_fixups.proofs.Rows.{starts_long, entry_long}
 use Rattle.macho_fixups.proofs.NamesRead.{names_are_read}
 use Rattle.macho_linkedit.specs.Imports.{IsEntryFor, IsImportTable, AreTellable, TableStands}
 use Rattle.macho_linkedit.specs.Laws.{TableIsSaid}
@@ -47,49 +43,11 @@ use Rattle.macho_linkedit.proofs.Members.{from_distinct, from_flat_map, from_fil
 use Rattle.macho_linkedit.proofs.NamesStand.{name_stands, whole}
 use Rattle.macho_linkedit.proofs.Numbering.{field_below}
 use Rattle.macho_linkedit.proofs.LinkEntries.{plain_of_link, own_of_link, entries_long}
+use Rattle.macho_bytes.specs.Spellings.{spelling}
+use Rattle.macho_structs.specs.Spellings.{chained_fixups_header_rows}
+use Rattle.macho_model.specs.steps.ImportTable.{no_entry}
 
--- the starts of an image have their size
-starts_long : (base : ℕ) (fixups : List Fixup) (segments : List FixupSegment) → length
-    (image_starts_text base fixups segments) ≡ image_starts_size fixups segments
-unfolding image_starts_text image_starts_size
-starts_long base fixups segments =
-    omega (
-      arith,
-      length-append (le_bytes 4 (length segments))
-          (offsets_text (4 + 4 * length segments) fixups segments ++ flat_map (segment_text base fixups) segments),
-      length-append (offsets_text (4 + 4 * length segments) fixups segments) (flat_map (segment_text base fixups) segments),
-      little_is_sound.long 4 (length segments),
-      length-offsets (4 + 4 * length segments) fixups segments,
-      sizes segments,
-    )
-  where
-    sizes : (xs : List FixupSegment) → length (flat_map (segment_text base fixups) xs) ≡ sum_by (segment_size fixups) xs
-    sizes [] = refl
-    sizes (x ∷ xs) =
-        omega (
-          arith,
-          length-append (segment_text base fixups x) (flat_map (segment_text base fixups) xs),
-          text_long base fixups x,
-          sizes xs,
-          sum_by-cons (segment_size fixups) x xs,
-        )
-
--- an entry has the size of its format, and begins with its word
-entry_long : (format : ℕ) (e : ImportEntry) → length (entry_text format e) ≡ import_entry_size format
-unfolding entry_text
-entry_long format e = by (format == 2)
-  where
-    by : (t : Bool) → length (if t then le_bytes 4 (entry_word e) ++ le_bytes 4 (cast_unsigned w32 e.addend) else le_bytes 4
-        (entry_word e)) ≡ (if t then 8 else 4)
-    by true =
-        omega (
-          arith,
-          length-append (le_bytes 4 (entry_word e)) (le_bytes 4 (cast_unsigned w32 e.addend)),
-          little_is_sound.long 4 (entry_word e),
-          little_is_sound.long 4 (cast_unsigned w32 e.addend),
-        )
-    by false = little_is_sound.long 4 (entry_word e)
-
+-- an entry begins with its word
 word_first : (b : List ℕ) (p format : ℕ) (e : ImportEntry) → Stands b (record { at = p; text = entry_text format e })
     → Stands b (record { at = p; text = le_bytes 4 (entry_word e) })
 unfolding entry_text
@@ -110,7 +68,7 @@ entries_stand : (b : List ℕ) (at base : ℕ) (fixups : List Fixup) (segments :
     → Stands b (record { at = at + imports_place fixups segments; text = flat_map (entry_text format) entries })
 unfolding table_text
 entries_stand b at base fixups segments format entries names s =
-    let head = spelling chained_fixups_header (table_header fixups segments format entries) in
+    let head = spelling chained_fixups_header_rows (table_header fixups segments format entries) in
     let starts = image_starts_text base fixups segments in
     let texts = flat_map (entry_text format) entries in
     stands-front b (at + imports_place fixups segments) texts names

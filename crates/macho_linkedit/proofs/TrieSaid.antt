@@ -15,10 +15,12 @@ use Rattle.macho_model.specs.declared.placed.PlacedSection.{PlacedSection}
 use Rattle.macho_model.specs.declared.placed.PlacedCommon.{PlacedCommon}
 use Rattle.macho_model.specs.Links.{Link, SectionId}
 use Rattle.macho_model.specs.Resolution.{SymbolId, Symbol, entry_at, definition_of}
-use Rattle.macho_model.specs.Needs.{imports_of, is_imported, is_library, name_used, uses_of}
+use Rattle.macho_model.specs.Needs.{imports_of, is_imported}
+use Rattle.macho_model.specs.steps.Resolved.{is_library}
+use Rattle.macho_model.specs.Uses.{name_used, uses_of}
 use Rattle.macho_model.specs.Targets.{target_of_name}
 use Rattle.macho_model.specs.Placement.{Placed, id_of, IsWholeList}
-use Rattle.macho_model.specs.Exports.{weak_flag, section_flag}
+use Rattle.macho_model.specs.Exports.{section_flag}
 use Rattle.macho_model.specs.Told as told
 use Rattle.macho_model.specs.Told.{IsToldExport}
 use Rattle.macho_trie.specs.Exports.{Exported, as_value}
@@ -29,13 +31,14 @@ use Rattle.macho_linkedit.specs.Tries.{said_of, said, names_in}
 use Rattle.macho_linkedit.specs.Laws.{TrieSizeIsKept, TrieIsSaid}
 use Rattle.macho_linkedit.proofs.Members.{in_map, from_map, from_filter, from_distinct}
 use Rattle.macho_linkedit.proofs.Unique.{one_section, one_common}
+use Rattle.macho_model.specs.steps.Exports.{weak_flag}
+use Rattle.macho_model.proofs.Uses.{imports_are}
 
 -- an imported name has a library's definition
 imported : (l : Link) (name : List ℕ) → Contains (imports_of l) name → is_imported l name ≡ true
-unfolding imports_of
 imported l name c =
     (from_filter (is_imported l) (filter_map (name_used l) (uses_of l)) name
-    (from_distinct bytes_eq (filter (is_imported l) (filter_map (name_used l) (uses_of l))) name c)).1
+    (from_distinct bytes_eq (filter (is_imported l) (filter_map (name_used l) (uses_of l))) name (subst (λ (ns : List (List ℕ)). Contains ns name) (imports_are l) c))).1
 
 -- a target has one value
 one_value : (l : Link) (p : Placed) (weak : ℕ) (t : Target) (e f : Exported) → IsWholeList l p → ValueOf l p weak t e → ValueOf l p weak t f

@@ -18,6 +18,7 @@ use Rattle.macho_model.specs.Resolution.{chosen_commons}
 use Rattle.macho_model.specs.Placement.{Placed, id_of, IsWholeList}
 use Rattle.macho_linkedit.proofs.Members.{from_map}
 use Rattle.macho_linkedit.proofs.Pairs.{pairs_nil, pairs_map, pairs_unmap, pairs_weaker, pairs_flat_map, pairs_permuted}
+use Rattle.macho_model.proofs.Parts.{same_order}
 
 -- one of two equal keys in a list of different ones
 pub unique_in : {X Y : Type 0} (f : X → Y) (xs : List X) (x y : X) → AllPairs (λ a b. f a ≢ f b) xs → Contains xs x → Contains xs y
@@ -95,7 +96,7 @@ one_section l p q r whole in_q in_r same =
     unique_in id_of p.sections q r
     (pairs_unmap (λ s t. s ≢ t) id_of p.sections
     (pairs_permuted (λ s t. s ≢ t) (λ x y apart same. apart (sym same)) (carried_of l) (map id_of p.sections)
-    (IsPermutation-sym (map id_of p.sections) (carried_of l) whole.sections) (carried_differ l)))
+    (IsPermutation-sym (map id_of p.sections) (carried_of l) (same_order whole.sections)) (carried_differ l)))
     in_q in_r same
 
 pub one_common : (l : Link) (p : Placed) (c d : PlacedCommon) → IsWholeList l p → Contains p.commons c → Contains p.commons d
@@ -105,6 +106,6 @@ one_common l p c d whole in_c in_d same =
     (pairs_unmap (λ x y. x ≢ y) (λ e. e.id) p.commons
     (pairs_permuted (λ x y. x ≢ y) (λ x y apart same. apart (sym same)) (range_with_len 0 (length (chosen_commons l)))
     (map (λ e. e.id) p.commons)
-    (IsPermutation-sym (map (λ e. e.id) p.commons) (range_with_len 0 (length (chosen_commons l))) whole.commons)
+    (IsPermutation-sym (map (λ e. e.id) p.commons) (range_with_len 0 (length (chosen_commons l))) (same_order whole.commons))
     (range_differs 0 (length (chosen_commons l)))))
     in_c in_d same

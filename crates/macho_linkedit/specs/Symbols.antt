@@ -3,13 +3,15 @@
 use Rattle.std.specs.Prelude.{◌≡◌, ℕ, ◌+◌, ◌*◌, ◌≤◌, List, [], ◌∷◌, ◌++◌, length, All}
 use Rattle.std.specs.List.{flat_map}
 use Rattle.macho_bytes.specs.Texts.{put, Stands}
-use Rattle.macho_bytes.specs.Layouts.{spelling, size_of, ReadsBack}
+use Rattle.macho_bytes.specs.Layouts.{size_of}
 use Rattle.macho_records.specs.Layouts.{symtab_entry}
 use Rattle.macho_records.specs.declared.symbols.SymtabEntry.{SymtabEntry}
 use Rattle.macho_model.specs.Images.{symbol_tables_of, string_tables_of}
 use Rattle.macho_linkedit.specs.TableRows.{SymbolRow}
 use Rattle.macho_linkedit.specs.declared.symbols.TableRow.{TableRow}
 use Rattle.macho_linkedit.specs.declared.symbols.SymbolWriter.{SymbolWriter}
+use Rattle.macho_bytes.specs.Spellings.{spelling, ReadsBack}
+use Rattle.macho_records.specs.Spellings.{symtab_entry_rows}
 
 -- entries, and the bytes of the strings
 pub record SymbolTable : Type 0 where
@@ -39,14 +41,14 @@ pub record HasRows (rows : List SymbolRow) (t : SymbolTable) : Type 0 where
 
 -- the bytes: entries, and strings behind them
 unfoldable pub table_text : SymbolTable → List ℕ
-table_text t = flat_map (spelling symtab_entry) t.entries ++ t.strings
+table_text t = flat_map (spelling symtab_entry_rows) t.entries ++ t.strings
 
 -- The table of some rows is written at the front of a range, and the bytes behind it stay.
 pub record IsTableWritten (rows : List SymbolRow) (before now : List ℕ) : Type 0 where
   pub table : SymbolTable
   pub rows_are : HasRows rows table
   pub is : now ≡ put 0 (table_text table) before
-  pub back : All (ReadsBack symtab_entry) table.entries
+  pub back : All (ReadsBack symtab_entry_rows) table.entries
 
 -- The first rows of a table with a number of symbols are written: their entries at the front of a range, and their strings
 -- behind the room of all entries. All other bytes stay. The next entry goes behind these entries, the next name behind these strings.
@@ -58,12 +60,12 @@ pub record AreRowsWritten (symbols : ℕ) (rows : List SymbolRow) (w : SymbolWri
   pub name : w.name ≡ length table.strings
   pub room : w.entry ≤ w.strings
   pub inside : w.strings + w.name ≤ length before
-  pub is : now ≡ put w.strings table.strings (put 0 (flat_map (spelling symtab_entry) table.entries) before)
-  pub back : All (ReadsBack symtab_entry) table.entries
+  pub is : now ≡ put w.strings table.strings (put 0 (flat_map (spelling symtab_entry_rows) table.entries) before)
+  pub back : All (ReadsBack symtab_entry_rows) table.entries
 
 -- A symbol table stands in a file at the ranges that the file's one command tells: entries, and strings behind them.
 pub record SymbolsStand (b : List ℕ) (at : ℕ) (t : SymbolTable) : Type 0 where
   pub symbols : symbol_tables_of b ≡ record { at = at; size = size_of symtab_entry * length t.entries } ∷ []
   pub strings : string_tables_of b ≡ record { at = at + size_of symtab_entry * length t.entries; size = length t.strings } ∷ []
   pub text : Stands b (record { at = at; text = table_text t })
-  pub back : All (ReadsBack symtab_entry) t.entries
+  pub back : All (ReadsBack symtab_entry_rows) t.entries

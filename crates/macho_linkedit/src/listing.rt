@@ -9,12 +9,12 @@ ghost use Rattle.macho_linkedit.specs.Symbols.{row_seen};
 ghost use Rattle.macho_linkedit.specs.declared.listing.LinkedObject.{LinkedObject};
 ghost use Rattle.macho_model.specs.Objects.{num_symbols, strings_of, symbol_at, symbol_name};
 ghost use Rattle.macho_model.specs.Links.{Link, object_of};
-ghost use Rattle.macho_model.specs.SymbolTable.{is_in_table};
 ghost use Rattle.macho_symbols.specs.Kept.{IsResolved, HasSymbol, symbol_id};
 ghost use Rattle.macho_linkedit.specs.Listing.{AreObjects, CanBeListed, AreListed, IsRowOf};
 ghost use Rattle.macho_linkedit.specs.steps.Names.{AreNames};
 ghost use Rattle.macho_linkedit.specs.steps.Listing.{is_defined_symbol, name_length, symbols_in, Lists};
 ghost use Rattle.macho_linkedit.specs.steps.Listing.{placed_type_of, placed_description_of};
+ghost use Rattle.macho_model.specs.steps.SymbolTable.{is_in_table};
 
 use crate::names::Names;
 use crate::symbols::TableRow;

@@ -7,7 +7,6 @@ use Rattle.macho_bytes.specs.Texts.{put}
 use Rattle.macho_bytes.proofs.Puts.{length-put, get_or-put_below}
 use Rattle.macho_bytes.proofs.Layouts.{length-spelling}
 use Rattle.macho_bytes.proofs.Numbers.{big_is_sound}
-use Rattle.macho_structs.specs.Layouts.{code_directory}
 use Rattle.macho_model.specs.declared.placed.PlacedSegment.{PlacedSegment}
 use Rattle.macho_model.specs.Links.{Link}
 use Rattle.macho_model.specs.Faults.{last_part}
@@ -25,6 +24,7 @@ use Rattle.macho_linking.specs.steps.Planned.{IsPlanned, placement_of, counts_of
 use Rattle.macho_linking.specs.steps.Written.{SignatureIsPut}
 use Rattle.macho_linking.specs.steps.Sealing.{IsTextSize}
 use Rattle.macho_linking.proofs.FirstText.{first_size, size_of_text}
+use Rattle.macho_structs.specs.Spellings.{code_directory_rows}
 
 -- what a signer says of a planned link
 pub record Says (b : Planned) (signer : Signer) : Type 0 where
@@ -49,7 +49,7 @@ signs l b signer h says = record {
   name = says.name ∙ sym (ap (λ (k : Link). last_part k.output) h.inputs.arguments);
   executable = says.executable ∙ sym (ap (λ (k : Link). k.executable) h.inputs.arguments);
   offset = says.offset;
-  size = λ s has named. says.size ∙ size_of_text l (placement_of b).segments s h.sized.placed.placed.in_order.follow has named;
+  size = λ s has named. says.size ∙ size_of_text l (placement_of b).segments s h.sized.placed.placed.follow has named;
 }
 
 -- the signer by the parts that a planned link has
@@ -80,7 +80,7 @@ signature_put l b signer before now h says whole is =
     let s : Signed = signed_by signer limit in
     let owed = signature_owed l b signer h says in
     let long : length (signature_text s before) ≡ signature_size (length signer.identifier.now) limit =
-    length-signature s before (length-spelling code_directory (directory_for s) big_is_sound (search rules)) in
+    length-signature s before (length-spelling code_directory_rows (directory_for s) big_is_sound (search rules)) in
     let fits : limit + length (signature_text s before) ≤ length before = omega (arith, long, whole, owed.ends) in
     let alike : AgreeBelow limit before now = record {
       first = omega (arith, fits);

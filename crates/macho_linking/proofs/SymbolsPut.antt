@@ -3,7 +3,7 @@ use Rattle.std.proofs.Common.{◌≡◌, ℕ, ◌+◌, ◌-◌, ◌*◌, ◌^◌
 use borrow.Rule.Slice.PartMut.{put_mid}
 use Rattle.std.specs.List.{flat_map}
 use Rattle.std.proofs.lemmas.List.{append-nil, drop_all, length-append, length-drop, length-map, length-take}
-use Rattle.macho_bytes.specs.Layouts.{spelling, size_of}
+use Rattle.macho_bytes.specs.Layouts.{size_of}
 use Rattle.macho_bytes.specs.Texts.{put}
 use Rattle.macho_bytes.proofs.Puts.{put-put}
 use Rattle.macho_bytes.proofs.Writes.{put_mid-whole}
@@ -30,6 +30,8 @@ use Rattle.macho_linking.specs.declared.planned.Planned.{Planned}
 use Rattle.macho_linking.specs.steps.Planned.{IsPlanned, IsLooked, KnowsAll, placement_of, counts_of}
 use Rattle.macho_linking.specs.steps.Written.{SymbolsArePut}
 use Rattle.macho_linking.proofs.Ready.{planned_within, planned_to_table}
+use Rattle.macho_bytes.specs.Spellings.{spelling}
+use Rattle.macho_records.specs.Spellings.{symtab_entry_rows}
 
 pub outputs_few : (l : Link) (b : Planned) → IsPlanned l b → length (placement_of b).output_sections ≤ 255
 outputs_few l b h =
@@ -103,12 +105,12 @@ unfolding table_text
 symbols_put l b old part new h long written is =
     let t = written.table in
     let full = fills l b t h written.rows_are in
-    let entries : List ℕ = flat_map (spelling symtab_entry) t.entries in
+    let entries : List ℕ = flat_map (spelling symtab_entry_rows) t.entries in
     let strings : List ℕ = t.strings in
     let at : ℕ = (placement_of b).linkedit.symtab.start in
     let ranges = has_room l b h in
     let many : length entries ≡ size_of symtab_entry * length t.entries = length-flat_map_same
-    (spelling symtab_entry) (size_of symtab_entry) t.entries (λ i d lt. (written.back i d lt).long) in
+    (spelling symtab_entry_rows) (size_of symtab_entry) t.entries (λ i d lt. (written.back i d lt).long) in
     let size : length (entries ++ strings) ≡ both b = omega (arith, length-append entries strings, many, full.behind, full.strings) in
     let room : at + both b ≤ length old = omega (arith, ranges.rises, ranges.inside, long) in
     let all : part ≡ entries ++ strings = written.is ∙ put_whole (entries ++ strings) (take (both b) (drop at old))

@@ -13,7 +13,7 @@ use Rattle.macho_model.specs.Images.{segments_of, tables_of, fixups_header, page
 use Rattle.macho_model.specs.Segments.{SEGMENT_PAGE}
 use Rattle.macho_model.specs.Chain.{chain_segments, IsFileWord, next_of, STRIDE}
 use Rattle.macho_model.specs.Needs.{POINTER_SIZE}
-use Rattle.macho_model.specs.Loader.{WordFits, is_bind, ordinal_of, is_writable, import_count}
+use Rattle.macho_model.specs.Loader.{WordFits, is_bind, ordinal_of}
 use Rattle.macho_memory_walks.specs.declared.walk.Listed.TheVariants as list
 use Rattle.macho_memory_walks.specs.Readings.{IsNth, HasWord, segment_there, table_there, starts_in, starts_of}
 use Rattle.macho_model_walks.specs.Tests.{page_holds}
@@ -27,6 +27,8 @@ use Rattle.macho_memory_walks.proofs.WordWalk.{leads_more, starts_found, start_i
 use Rattle.macho_model_walks.proofs.RuleWalk.{import_count_found}
 use Rattle.macho_model_walks.proofs.UnfitWords.{kept_at}
 use Rattle.macho_loader.specs.steps.Words.{StandApart, IsFittingWord, IsReached}
+use Rattle.macho_model.specs.steps.Loader.{import_count}
+use Rattle.macho_model.specs.SegmentRules.{is_writable}
 
 -- a segment that has a word there holds its address in memory
 pub holds_address : (b : List ℕ) (number place a word : ℕ) → StandApart b → IsNth list.Segments b number place

@@ -2,13 +2,13 @@
 ghost use Rattle.std.specs.Prelude.{◌≡◌, ℕ, Some, None, true};
 ghost use Rattle.macho_records.specs.declared.constants.TheConstants.{LC_SEGMENT_64};
 ghost use Rattle.macho_model.specs.Grammar.{EachCommand};
-ghost use Rattle.macho_model.specs.LoadRules.{begins_behind};
 ghost use Rattle.macho_model.specs.Loader.{segment_in};
 ghost use Rattle.macho_model.specs.Lists.{EachNext};
 ghost use Rattle.macho_model.specs.Commands.{command_at, numbered};
 ghost use Rattle.macho_memory_walks.specs.Readings.{listed};
 ghost use Rattle.macho_model_walks.specs.Tests.{test_of, list_of};
 ghost use Rattle.macho_model_walks.specs.steps.Asked.{AskedFails, BeginsBefore};
+ghost use Rattle.macho_model.specs.SegmentRules.{begins_behind};
 
 use crate::cursor::{first, step_from};
 use crate::table_rules::table_is_right;

@@ -16,7 +16,9 @@ use Rattle.macho_model.specs.Needs.{section_named}
 use Rattle.macho_model.specs.WrittenSum.{written_sum_of}
 use Rattle.macho_model.specs.Consumed.{EntryId, entries_of_link, relocations_in_entry, unwind_entry, holds_functions, START_PLACE}
 use Rattle.macho_model.specs.Consumed.{LSDA_PLACE}
-use Rattle.macho_model.specs.Placement.{Placed, SectionLies, LiesIn, section_span, id_of}
+use Rattle.macho_model.specs.Placement.{Placed, id_of}
+use Rattle.macho_model.specs.steps.Parts.{SectionLies, LiesIn}
+use Rattle.macho_model.specs.Spans.{section_span}
 use Rattle.macho_model.specs.Addresses.{section_address}
 use Rattle.macho_promise.specs.UnwindSays.{moved, start_of, resolved}
 use Rattle.macho_targets.proofs.Places.{section_place}
@@ -24,6 +26,7 @@ use Rattle.macho_targets.proofs.Above.{targets_above}
 use Rattle.macho_made.specs.Made.{IsToMake}
 use Rattle.macho_made.proofs.OffsetTexts.{lists_all, base_low}
 use Rattle.macho_made.proofs.EntryFacts.{HasStart, has_start, has_data, lies_from, lies_below, lies_up_to}
+use Rattle.macho_model.proofs.Parts.{in_segment_of}
 
 -- Where a byte of the input is placed.
 pub record IsMoved (l : Link) (p : Placed) (f : SectionId) (offset at : ℕ) : Type 0 where
@@ -60,11 +63,11 @@ not_reached n m none = elim (cases_lt m n) [ inl lt ↦ lt | inr le ↦ absurd (
 pub section_end : (l : Link) (counts : Counts) (p : Placed) (q : PlacedSection) → IsToMake l counts p → Contains p.sections q
     → q.address + (header_at l (id_of q)).size < 2 ^ 64
 section_end l counts p q make has =
-    let lies : SectionLies l p q = all_contains (SectionLies l p) p.sections q make.placed.placed.in_segment.sections has in
+    let lies : SectionLies l p q = all_contains (SectionLies l p) p.sections q (in_segment_of make.placed.placed).sections has in
     let s : PlacedSegment = lies.0 in
     let here : Contains p.segments s = (q.segment, lies.1.0, lies.1.1) in
     let small : s.file_size ≤ s.size = all_contains (λ (t : PlacedSegment). t.file_size ≤ t.size) p.segments s
-    (λ k d lt. (make.placed.placed.in_order.paged k d lt).file_size) here in
+    (λ k d lt. (make.placed.placed.paged k d lt).file_size) here in
     let sum : s.address + s.size ≤ p.base + written_sum_of l counts =
     all_contains (λ (t : PlacedSegment). t.address + t.size ≤ p.base + written_sum_of l counts) p.segments s make.placed.placed.within_sum
     here in

@@ -14,7 +14,9 @@ use Rattle.macho_model.specs.declared.placed.PlacedSegment.{PlacedSegment}
 use Rattle.macho_model.specs.declared.placed.Range64.{Range64}
 use Rattle.macho_model.specs.Links.{Link}
 use Rattle.macho_model.specs.Segments.{TEXT}
-use Rattle.macho_model.specs.Placement.{Placed, RangeLies, LiesInNamed, range_span}
+use Rattle.macho_model.specs.Placement.{Placed}
+use Rattle.macho_model.specs.steps.Parts.{RangeLies, LiesInNamed}
+use Rattle.macho_model.specs.Spans.{range_span}
 use Rattle.macho_model.specs.Lists.{of_first}
 use Rattle.macho_model.specs.Addresses.{offset_in_file}
 use Rattle.macho_promise.specs.Promise.{IsLaidOut}
@@ -25,6 +27,7 @@ use Rattle.macho_made.specs.Made.{IsToMake}
 use Rattle.macho_made.specs.Laws.{TextsFitRanges}
 use Rattle.macho_made.proofs.Passing.{unwind_counted}
 use Rattle.macho_made.proofs.Said.{initializers_room}
+use Rattle.macho_model.proofs.Parts.{in_order_of, in_segment_of}
 
 -- the first of some numbers that are all small
 first_small : {X : Type 0} (test : X → Bool) (f : X → ℕ) (xs : List X) (b : ℕ) → All (λ x. test x ≡ true → f x ≤ b) xs
@@ -44,11 +47,12 @@ parts_end : (l : Link) (counts : Counts) (p : Placed) → IsToMake l counts p
     → All (λ (s : PlacedSegment). s.file_offset + s.file_size ≤ p.linkedit.signature.end) p.segments
 parts_end l counts p make =
     let laid : IsLaidOut l counts p = record {
-      order = make.placed.order;
+      segments = make.placed.order.segments;
+      names = make.placed.order.names;
       least = make.placed.least;
       sections = make.placed.sections;
     } in
-    file_parts_end l counts p make.placed.placed.in_order.follow laid
+    file_parts_end l counts p make.placed.placed.follow laid
 
 -- so the place of any address does
 place_in_file : (l : Link) (counts : Counts) (p : Placed) (a : ℕ) → IsToMake l counts p → offset_in_file p a ≤ p.linkedit.signature.end
@@ -81,7 +85,7 @@ range_end l counts p r make lies = by (cases_lt r.start r.end) lies.1
         (parts_end l counts p make) here.1 in
         let from : s.address ≤ r.start = here.3.from in
         let to : r.start + (r.end - r.start) ≤ s.address + s.file_size = here.3.to in
-        let at = offset_is l p s r.start make.placed.placed.in_order here.1 from (omega (arith, some, to)) in
+        let at = offset_is l p s r.start (in_order_of make.placed.placed) here.1 from (omega (arith, some, to)) in
         omega (arith, end, from, to, at)
 
 pub texts_fit : TextsFitRanges
@@ -89,6 +93,6 @@ texts_fit l counts p make = record {
   rows = omega (arith, initializers_room l counts p make.counted make.placed.least.rooms, are_many l);
   offsets = λ text is. omega (arith, is.long, initializers_room l counts p make.counted make.placed.least.rooms);
   unwind = λ text is. omega (arith, is.room, make.placed.least.rooms.unwind, unwind_counted l counts p make);
-  offsets_end = range_end l counts p p.init_offsets make make.placed.placed.in_segment.init_offsets;
-  unwind_end = range_end l counts p p.unwind make make.placed.placed.in_segment.unwind;
+  offsets_end = range_end l counts p p.init_offsets make (in_segment_of make.placed.placed).init_offsets;
+  unwind_end = range_end l counts p p.unwind make (in_segment_of make.placed.placed).unwind;
 }

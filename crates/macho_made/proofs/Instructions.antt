@@ -17,7 +17,8 @@ use Rattle.macho_model.specs.Links.{Link, SectionId, header_at, carried_of}
 use Rattle.macho_model.specs.Resolution.{chosen_commons}
 use Rattle.macho_model.specs.Consumed.{holds_functions}
 use Rattle.macho_model.specs.Segments.{TEXT, OutputKey, same_key, key_of, common_key, output_keys_of, list_if}
-use Rattle.macho_model.specs.OutputSections.{members_of, is_zeros, is_code}
+use Rattle.macho_model.specs.OutputSections.{is_zeros, is_code}
+use Rattle.macho_model.specs.steps.Outputs.{members_of}
 use Rattle.std.specs.Prelude.{length}
 use Rattle.macho_layout.proofs.CostLaw.{key-decides}
 use Rattle.macho_placing.proofs.Flags.{instructions_kept}

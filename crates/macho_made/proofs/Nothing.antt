@@ -21,14 +21,14 @@ use Rattle.macho_model.specs.Needs.{relocation_in, section_named, relocations_of
 use Rattle.macho_model.specs.Targets.{same_target, target_of_relocation}
 use Rattle.macho_model.specs.Consumed.{EntryId, entries_of_link, relocations_in_entry, unwind_entry, personality_targets, is_section_target}
 use Rattle.macho_model.specs.Consumed.{initializer_section_fits, START_PLACE, LSDA_PLACE}
-use Rattle.macho_model.specs.Made.{initializers_in, initializers_of}
+use Rattle.macho_model.specs.Made.{initializers_of}
 use Rattle.macho_model.specs.Placement.{Placed}
 use Rattle.macho_model.specs.Addresses.{address_of, section_address, slot_address}
 use Rattle.macho_model.specs.Stands.{IsAt, SectionAt, SlotAt}
 use Rattle.macho_model.specs.Limits.{initializer, function, language, personality}
 use Rattle.macho_unwind_pages.specs.declared.entries.ResolvedUnwindInfo.{ResolvedUnwindInfo}
 use Rattle.macho_unwind_pages.specs.Plans.{IsFar, HasFarAddress}
-use Rattle.macho_promise.specs.UnwindSays.{moved, personality_of, resolved, resolved_entries}
+use Rattle.macho_promise.specs.UnwindSays.{moved, resolved, resolved_entries}
 use Rattle.macho_consumed.specs.Told.{InitializersKeepRules}
 use Rattle.macho_consumed.proofs.BoundInputs.{in_section}
 use Rattle.macho_model.specs.Grammar.{ObjectsAreRead}
@@ -42,6 +42,8 @@ use Rattle.macho_made.proofs.OffsetTexts.{lists_all}
 use Rattle.macho_made.proofs.EntryFacts.{few_at_personality, few_at_lsda}
 use Rattle.macho_made.proofs.EntryPlaces.{function_stands}
 use Rattle.macho_made.proofs.PieceRows.{power_some}
+use Rattle.macho_promise.specs.steps.UnwindSays.{personality_of}
+use Rattle.macho_model.proofs.Uses.{initializers_are, personalities_are}
 
 -- where relocations of initializers stand
 record InSlot (l : Link) (s : SectionId) (r slot : ℕ) : Type 0 where
@@ -67,15 +69,16 @@ in_slot l s r read rules there low =
 -- so their targets are initializers
 initializer_listed : (l : Link) (s : SectionId) (r slot : ℕ) → Contains (initializer_sections l) s → InSlot l s r slot
     → Contains (initializers_of l) (target_of_relocation l s r)
-unfolding initializers_of
 initializer_listed l s r slot there at =
     let t : Target = target_of_relocation l s r in
     let low : slot < (header_at l s).size / 8 = omega (arith, at.inside) in
-    contains_flat_map (initializers_in l) (initializer_sections l) s t there
+    subst (λ (ts : List Target). Contains ts t) (sym (initializers_are l))
+    (contains_flat_map (λ q. flat_map (λ k. map (target_of_relocation l q) (relocations_at l q (8 * k))) (range_with_len 0 ((header_at l q).size / 8)))
+    (initializer_sections l) s t there
     (contains_flat_map (λ k. map (target_of_relocation l s) (relocations_at l s (8 * k))) (range_with_len 0 ((header_at l s).size / 8))
     slot t
     (contains_range ((header_at l s).size / 8) slot low) (contains_map (target_of_relocation l s) (relocations_at l s (8 * slot)) r
-    at.here))
+    at.here)))
 
 initializer_near : (l : Link) (counts : Counts) (p : Placed) (offsets : List ℕ) (s : SectionId) (r x : ℕ) → IsToMake l counts p
     → IsOffsetsText l p offsets → Contains (initializer_sections l) s → r < (header_at l s).nreloc
@@ -179,11 +182,11 @@ language_near l counts p text d r at make made has here place =
 personality_near : (l : Link) (counts : Counts) (p : Placed) (text : List ℕ) (t : Target) (x : ℕ) → IsToMake l counts p
     → IsUnwindMade l p text
     → Contains (personality_targets l) t → SlotAt p 0 t x → x < p.base + 2 ^ 32
-unfolding personality_targets
 personality_near l counts p text t x make made has at =
     let f : EntryId → List Target = λ e. map (target_of_relocation l e.of_section)
     (relocations_in_entry l e.of_section e.entry PERSONALITY_PLACE) in
-    let of = flat_map_contains f (entries_of_link l) t (of_distinct same_target (flat_map f (entries_of_link l)) t has) in
+    let of = flat_map_contains f (entries_of_link l) t (of_distinct same_target (flat_map f (entries_of_link l)) t
+    (subst (λ (ts : List Target). Contains ts t) (personalities_are l) has)) in
     let d : EntryId = of.0 in
     let by = map_contains (target_of_relocation l d.of_section) (relocations_in_entry l d.of_section d.entry PERSONALITY_PLACE) t of.2 in
     let r : ℕ = by.0 in

@@ -18,7 +18,9 @@ use Rattle.macho_model.specs.Needs.{section_named, PERSONALITY_PLACE}
 use Rattle.macho_model.specs.Targets.{target_of_relocation}
 use Rattle.macho_model.specs.Consumed.{EntryId, entries_of_link, relocations_in_entry, unwind_entry, START_PLACE, LSDA_PLACE}
 use Rattle.macho_model.specs.Segments.{TEXT}
-use Rattle.macho_model.specs.Placement.{Placed, LiesInNamed, range_span, id_of}
+use Rattle.macho_model.specs.Placement.{Placed, id_of}
+use Rattle.macho_model.specs.steps.Parts.{LiesInNamed}
+use Rattle.macho_model.specs.Spans.{range_span}
 use Rattle.macho_model.specs.Addresses.{slot_address}
 use Rattle.macho_model.specs.Stands.{SectionAt, SlotAt}
 use Rattle.macho_model.specs.Limits.{IsWritten32, function, language, personality, ImagePasses}
@@ -31,7 +33,7 @@ use Rattle.macho_unwind_pages.specs.Plans.{IsFar, HasFarAddress, HasFarOffset}
 use Rattle.macho_unwind.specs.Entries.{HasFarPage}
 use Rattle.macho_unwind.proofs.OnePlace.{far_page}
 use Rattle.macho_promise.specs.Sizes.{unwind_input, text_span, unwind_size, counts_with}
-use Rattle.macho_promise.specs.UnwindSays.{moved, personality_of, resolved, resolved_entries, IsUnwindText}
+use Rattle.macho_promise.specs.UnwindSays.{moved, resolved, resolved_entries, IsUnwindText}
 use Rattle.macho_targets.proofs.Places.{slots_are_had}
 use Rattle.macho_made.specs.declared.fault.MadeFault.{MadeFault}
 use Rattle.macho_made.specs.declared.fault.MadeFault.TheVariants.{TooLarge, OutOfMemory}
@@ -43,6 +45,8 @@ use Rattle.macho_made.proofs.EntryPlaces.{placed_at, function_stands}
 use Rattle.macho_made.proofs.PersonalitySlots.{person_slotted, person_listed}
 use Rattle.macho_made.proofs.Sound.{inputs_resolved, resolved_sound}
 use Rattle.macho_made.proofs.TextSpan.{starts_span}
+use Rattle.macho_promise.specs.steps.UnwindSays.{personality_of}
+use Rattle.macho_model.proofs.Parts.{in_segment_of}
 
 -- an entry at its address is that of an entry
 pub of_entry : (l : Link) (p : Placed) (e : ResolvedUnwindInfo) → Contains (resolved_entries l p) e
@@ -151,7 +155,7 @@ far_offset l counts p make (e, has, inr (last, far)) =
 
 -- a room of 2^32 bytes or more
 large_room : (l : Link) (counts : Counts) (p : Placed) → IsToMake l counts p → 2 ^ 32 ≤ unwind_size l → ImagePasses l p
-large_room l counts p make large = by make.placed.placed.in_segment.unwind.1
+large_room l counts p make large = by (in_segment_of make.placed.placed).unwind.1
   where
     room : p.unwind.end ≡ p.unwind.start + unwind_size l
     room = make.placed.least.rooms.unwind ∙ ap (λ (n : ℕ). p.unwind.start + n) (unwind_counted l counts p make)

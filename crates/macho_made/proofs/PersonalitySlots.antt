@@ -22,12 +22,17 @@ use Rattle.macho_records.specs.Segments.{text_of}
 use Rattle.macho_model.specs.Lists.{IsNumber}
 use Rattle.macho_model.specs.Links.{Link, SectionId, header_at, carried_of}
 use Rattle.macho_model.specs.ExportLists.{plain_entries}
-use Rattle.macho_model.specs.Needs.{Use, ByPersonality, ByName, uses_of, carried_uses, initializer_uses, initializer_sections, is_imported}
-use Rattle.macho_model.specs.Needs.{personality_uses, relocations_at, unwind_sections, PERSONALITY_PLACE}
-use Rattle.macho_model.specs.Targets.{same_target, slot_of_use, slots_of, slot_number, target_of_relocation}
+use Rattle.macho_model.specs.Needs.{initializer_sections, is_imported}
+use Rattle.macho_model.specs.Uses.{Use, ByPersonality, ByName, uses_of, carried_uses, initializer_uses}
+use Rattle.macho_model.specs.Needs.{relocations_at, unwind_sections, PERSONALITY_PLACE}
+use Rattle.macho_model.specs.Uses.{personality_uses}
+use Rattle.macho_model.specs.Targets.{same_target, slots_of, slot_number, target_of_relocation}
+use Rattle.macho_model.specs.Uses.{slot_of_use}
 use Rattle.macho_model.specs.Consumed.{EntryId, entries_of_link, relocations_in_entry, personality_targets}
 use Rattle.macho_model.specs.Segments.{DATA_CONST, PAGEZERO}
-use Rattle.macho_model.specs.Placement.{Placed, LiesInNamed, slot_span}
+use Rattle.macho_model.specs.Placement.{Placed}
+use Rattle.macho_model.specs.steps.Parts.{LiesInNamed}
+use Rattle.macho_model.specs.Spans.{slot_span}
 use Rattle.macho_model.specs.Addresses.{slot_address}
 use Rattle.macho_model.specs.Stands.{SlotAt}
 use Rattle.macho_unwind_pages.specs.declared.entries.UnwindInput.{UnwindInput}
@@ -42,6 +47,8 @@ use Rattle.macho_standing.proofs.Members.{in_filter_map}
 use Rattle.macho_standing.proofs.Distinct.{in_distinct, first_within}
 use Rattle.macho_made.specs.Made.{IsToMake}
 use Rattle.macho_made.proofs.OffsetTexts.{lists_all}
+use Rattle.macho_model.proofs.Uses.{slots_are, personalities_are}
+use Rattle.macho_model.proofs.Parts.{in_order_of, in_segment_of}
 
 -- the use of a personality
 person_used : (l : Link) (d : EntryId) (r : ℕ) → Contains (entries_of_link l) d
@@ -65,11 +72,10 @@ person_used l d r has here =
 pub person_slotted : (l : Link) (d : EntryId) (r : ℕ) → Contains (entries_of_link l) d
     → Contains (relocations_in_entry l d.of_section d.entry PERSONALITY_PLACE) r
     → Contains (slots_of l) (target_of_relocation l d.of_section r)
-unfolding slots_of
 person_slotted l d r has here =
-    in_distinct same_target same_targets (filter_map (slot_of_use l) (uses_of l)) (target_of_relocation l d.of_section r)
+    subst (λ (ts : List Target). Contains ts (target_of_relocation l d.of_section r)) (sym (slots_are l)) (in_distinct same_target same_targets (filter_map (slot_of_use l) (uses_of l)) (target_of_relocation l d.of_section r)
     (in_filter_map (slot_of_use l) (uses_of l) (ByPersonality d.of_section r) (target_of_relocation l d.of_section r)
-    (person_used l d r has here) refl)
+    (person_used l d r has here) refl))
 
 -- at the base or above it
 pub slot_above : (l : Link) (counts : Counts) (p : Placed) (t : Target) → IsToMake l counts p → Contains (slots_of l) t
@@ -77,25 +83,25 @@ pub slot_above : (l : Link) (counts : Counts) (p : Placed) (t : Target) → IsTo
 slot_above l counts p t make has =
     let at : SlotAt p 0 t (slot_address p t + 0) = slots_are_had l p 0 t (lists_all l counts p make) has in
     let lies : LiesInNamed p DATA_CONST true (slot_span at.0) =
-    all_contains (λ (s : Slot). LiesInNamed p DATA_CONST true (slot_span s)) p.slots at.0 make.placed.placed.in_segment.slots at.1 in
+    all_contains (λ (s : Slot). LiesInNamed p DATA_CONST true (slot_span s)) p.slots at.0 (in_segment_of make.placed.placed).slots at.1 in
     let s : PlacedSegment = lies.0 in
     let number : IsNumber p.segments lies.1.0 s = (lies.1.1, lies.1.2) in
     let other : bytes_eq (text_of s.name) PAGEZERO ≡ false = ap (λ (n : List ℕ). bytes_eq n PAGEZERO)
     ((bytes_eq-Decides (text_of s.name) DATA_CONST).0 lies.2) in
-    let up = segment_above l p lies.1.0 s make.placed.placed.in_order make.placed.placed.base number other in
+    let up = segment_above l p lies.1.0 s (in_order_of make.placed.placed) make.placed.placed.base number other in
     omega (arith, up, lies.3.from, at.3)
 
 -- and is a personality's
 pub person_listed : (l : Link) (d : EntryId) (r : ℕ) → Contains (entries_of_link l) d
     → Contains (relocations_in_entry l d.of_section d.entry PERSONALITY_PLACE) r
     → Contains (personality_targets l) (target_of_relocation l d.of_section r)
-unfolding personality_targets
 person_listed l d r has here =
     let f : EntryId → List Target = λ e. map (target_of_relocation l e.of_section)
     (relocations_in_entry l e.of_section e.entry PERSONALITY_PLACE) in
-    in_distinct same_target same_targets (flat_map f (entries_of_link l)) (target_of_relocation l d.of_section r)
+    subst (λ (ts : List Target). Contains ts (target_of_relocation l d.of_section r)) (sym (personalities_are l))
+    (in_distinct same_target same_targets (flat_map f (entries_of_link l)) (target_of_relocation l d.of_section r)
     (contains_flat_map f (entries_of_link l) d (target_of_relocation l d.of_section r) has
-    (contains_map (target_of_relocation l d.of_section) (relocations_in_entry l d.of_section d.entry PERSONALITY_PLACE) r here))
+    (contains_map (target_of_relocation l d.of_section) (relocations_in_entry l d.of_section d.entry PERSONALITY_PLACE) r here)))
 
 -- an id is the number of a personality's slot
 id_named : (l : Link) (d : EntryId) (rs : List ℕ) (id : ℕ) → Contains (entries_of_link l) d

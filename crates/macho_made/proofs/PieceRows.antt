@@ -15,7 +15,8 @@ use Rattle.macho_bytes.specs.Numbers.{rounded_up}
 use Rattle.macho_lists.proofs.Members.{contains_cases, contains_first, contains_later, nil_contains, map_contains, contains_map}
 use Rattle.macho_model.specs.Lists.{EachNext}
 use Rattle.macho_model.specs.Links.{greatest}
-use Rattle.macho_model.specs.OutputSections.{Piece, end_of_piece, least, around}
+use Rattle.macho_model.specs.OutputSections.{least, around}
+use Rattle.macho_model.specs.Placement.{Piece, end_of_piece}
 use Rattle.macho_model.specs.Order.{BeginsLeast}
 
 -- rounding up adds less than the unit

@@ -16,7 +16,7 @@ use Rattle.macho_model.specs.Placement.{Placed}
 use Rattle.macho_model.specs.Addresses.{slot_address}
 use Rattle.macho_unwind_pages.specs.declared.entries.Personality.{Personality}
 use Rattle.macho_unwind_pages.specs.declared.entries.ResolvedUnwindInfo.{ResolvedUnwindInfo}
-use Rattle.macho_promise.specs.UnwindSays.{moved, start_of, personality_of, resolved, resolved_entries}
+use Rattle.macho_promise.specs.UnwindSays.{moved, start_of, resolved, resolved_entries}
 use Rattle.macho_consumed.specs.Rows.{place_named, start_place, personality_use, entry_row, entry_rows}
 use Rattle.macho_consumed.proofs.BoundInputs.{in_section}
 use Rattle.macho_consumed.proofs.Joined.{mapped_agree}
@@ -26,6 +26,7 @@ use Rattle.macho_made.specs.Entries.{address_at, target_used, personality_at, re
 use Rattle.macho_made.specs.Made.{IsToMake}
 use Rattle.macho_made.proofs.Existing.{symbol_low}
 use Rattle.macho_made.proofs.EntryFacts.{section_there, relocation_low, relocation_plain, personality_extern, has_start}
+use Rattle.macho_promise.specs.steps.UnwindSays.{personality_of}
 
 -- a place in a named section
 place_moved : (l : Link) (p : Placed) (look : Look) (d : EntryId) (address r : ℕ) → Tells l p look

@@ -16,9 +16,11 @@ use Rattle.macho_model.specs.declared.placed.Counts.{Counts}
 use Rattle.macho_model.specs.declared.placed.PlacedSegment.{PlacedSegment}
 use Rattle.macho_model.specs.Links.{Link}
 use Rattle.macho_model.specs.Segments.{TEXT}
-use Rattle.macho_model.specs.Placement.{Placed, LiesInNamed, range_span}
+use Rattle.macho_model.specs.Placement.{Placed}
+use Rattle.macho_model.specs.steps.Parts.{LiesInNamed}
+use Rattle.macho_model.specs.Spans.{range_span}
 use Rattle.macho_model.specs.Addresses.{offset_in_file}
-use Rattle.macho_model.specs.Made.{initializers_of, initializer_at}
+use Rattle.macho_model.specs.Made.{initializers_of}
 use Rattle.macho_unwind_pages.specs.Bounds.{unwind_bound_of}
 use Rattle.macho_unwind.specs.declared.lookup.Found.{Found}
 use Rattle.macho_unwind.specs.Lookup.{UnwindFinds}
@@ -33,6 +35,7 @@ use Rattle.macho_ranges.proofs.Backed.{offset_is}
 use Rattle.macho_made.specs.Made.{IsToMake, offset_said, IsUnwindMade}
 use Rattle.macho_made.specs.Laws.{OffsetsAreSaid, UnwindIsSaid}
 use Rattle.macho_made.proofs.Passing.{as_many, unwind_counted}
+use Rattle.macho_model.proofs.Parts.{in_order_of, in_segment_of}
 
 -- the range of initializers has room for their offsets
 initializers_counted : (l : Link) (counts : Counts) → AreCounts l counts → counts.initializers ≡ length (initializers_of l)
@@ -47,7 +50,7 @@ initializers_room l counts p are rooms =
 -- an address of the range is in the file where the range is
 in_range_file : (l : Link) (counts : Counts) (p : Placed) (k : ℕ) → IsToMake l counts p → k < length (initializers_of l)
     → offset_in_file p (p.init_offsets.start + 4 * k) ≡ offset_in_file p p.init_offsets.start + 4 * k
-in_range_file l counts p k make lt = by make.placed.placed.in_segment.init_offsets.1
+in_range_file l counts p k make lt = by (in_segment_of make.placed.placed).init_offsets.1
   where
     room : p.init_offsets.end ≡ p.init_offsets.start + 4 * length (initializers_of l)
     room = initializers_room l counts p make.counted make.placed.least.rooms
@@ -59,21 +62,24 @@ in_range_file l counts p k make lt = by make.placed.placed.in_segment.init_offse
         let s : PlacedSegment = lies.0 in
         let from : s.address ≤ p.init_offsets.start = lies.3.from in
         let to : p.init_offsets.start + 4 * length (initializers_of l) ≤ s.address + s.file_size = omega (arith, lies.3.to, room) in
-        let first = offset_is l p s p.init_offsets.start make.placed.placed.in_order lies.1 from (omega (arith, to, lt)) in
-        let here = offset_is l p s (p.init_offsets.start + 4 * k) make.placed.placed.in_order lies.1 (omega (arith, from))
+        let first = offset_is l p s p.init_offsets.start (in_order_of make.placed.placed) lies.1 from (omega (arith, to, lt)) in
+        let here = offset_is l p s (p.init_offsets.start + 4 * k) (in_order_of make.placed.placed) lies.1 (omega (arith, from))
         (omega (arith, to, lt)) in
         omega (arith, first, here, from)
 
 -- number k of the file
 pub offsets_said : OffsetsAreSaid
 offsets_said l counts p b text make told stands =
-    mapped_agree (initializer_at b p) (offset_said p text) (range_with_len 0 (length (initializers_of l)))
+    mapped_agree said_at (offset_said p text) (range_with_len 0 (length (initializers_of l)))
     (λ k has. one k (range_contains (length (initializers_of l)) k has)) ∙ told.are
   where
     o : ℕ
     o = offset_in_file p p.init_offsets.start
 
-    one : (k : ℕ) → k < length (initializers_of l) → initializer_at b p k ≡ offset_said p text k
+    said_at : ℕ → ℕ
+    said_at k = p.base + le_at 4 b (offset_in_file p (p.init_offsets.start + 4 * k))
+
+    one : (k : ℕ) → k < length (initializers_of l) → said_at k ≡ offset_said p text k
     one k lt =
         let at = in_range_file l counts p k make lt in
         let read : le_at 4 text (4 * k) ≡ le_at 4 b (o + 4 * k) =

@@ -17,7 +17,7 @@ use Rattle.macho_unwind_pages.specs.declared.entries.UnwindInput.{UnwindInput}
 use Rattle.macho_unwind_pages.specs.declared.entries.ResolvedUnwindInfo.{ResolvedUnwindInfo}
 use Rattle.macho_unwind_pages.specs.Entries.{input_of, inputs_of, ids_of}
 use Rattle.macho_promise.specs.Sizes.{unwind_input}
-use Rattle.macho_promise.specs.UnwindSays.{moved, personality_of, resolved, resolved_entries}
+use Rattle.macho_promise.specs.UnwindSays.{moved, resolved, resolved_entries}
 use Rattle.macho_consumed.specs.Rows.{entry_rows}
 use Rattle.macho_consumed.proofs.Tests.{not_true}
 use Rattle.macho_placing.proofs.ByNumber.{slots_by_number}
@@ -29,6 +29,7 @@ use Rattle.macho_made.proofs.EntryPlaces.{function_stands, section_end, data_sta
 use Rattle.macho_made.proofs.PersonalitySlots.{person_slotted, slot_above, ids_few}
 use Rattle.macho_made.proofs.Starts.{starts_distinct}
 use Rattle.macho_made.proofs.Resolving.{rows_resolved}
+use Rattle.macho_promise.specs.steps.UnwindSays.{personality_of}
 
 -- what holds of each entry of the link holds of all at their addresses
 pub each_resolved : (P : ResolvedUnwindInfo → Type 0) (l : Link) (p : Placed)

@@ -21,7 +21,9 @@ use Rattle.macho_model.specs.Links.{Link, Input, Object, Dylib, Stub, SectionId,
 use Rattle.macho_model.specs.Links.{sections_of_file, sections_of}
 use Rattle.macho_model.specs.Needs.{section_named, unwind_sections}
 use Rattle.macho_model.specs.Consumed.{EntryId, entries_of_link, entry_count, unwind_entry, starts_in, same_section, same_start}
-use Rattle.macho_model.specs.Placement.{Placed, Span, AreApart, section_span, common_span, slot_span, stub_span, head_span, spans_with}
+use Rattle.macho_model.specs.Placement.{Placed}
+use Rattle.macho_model.specs.Zeros.{Span}
+use Rattle.macho_model.specs.Spans.{AreApart, section_span, common_span, slot_span, stub_span, head_span, spans_with}
 use Rattle.macho_model.specs.Placement.{id_of}
 use Rattle.macho_unwind_pages.specs.declared.entries.ResolvedUnwindInfo.{ResolvedUnwindInfo}
 use Rattle.macho_promise.specs.UnwindSays.{resolved, resolved_entries}
@@ -34,6 +36,7 @@ use Rattle.macho_fields.proofs.Through.{any_default}
 use Rattle.macho_made.specs.Made.{IsToMake}
 use Rattle.macho_made.proofs.EntryFacts.{HasStart, lies_from}
 use Rattle.macho_made.proofs.EntryPlaces.{function_stands}
+use Rattle.macho_model.proofs.Parts.{apart_of}
 
 -- sections of a link differ
 pub record AreOthers (s t : SectionId) : Type 0 where
@@ -108,7 +111,7 @@ sections_apart l counts p make =
     let parts_3 : List Span = parts_2 ++ map stub_span p.stubs in
     let all = pairs_left AreApart (head_span counts p ∷ map (section_span l) p.sections) (map (common_span l) p.commons)
     (pairs_left AreApart parts_1 (map slot_span p.slots) (pairs_left AreApart parts_2 (map stub_span p.stubs)
-    (pairs_left AreApart parts_3 _ make.placed.placed.apart))) in
+    (pairs_left AreApart parts_3 _ (apart_of make.placed.placed)))) in
     pairs_of_map AreApart (section_span l) p.sections
     (λ i j d before within. all (suc i) (suc j) d (omega (arith, before)) (omega (arith, within)))
 

@@ -28,11 +28,17 @@ use Rattle.macho_model.specs.Consumed.{holds_functions}
 use Rattle.macho_model.specs.Segments.{TEXT, DATA, OutputKey, same_key, key_of, common_key, output_keys_of, list_if}
 use Rattle.macho_model.specs.Segments.{segment_names_of}
 use Rattle.macho_model.specs.WrittenSum.{section_cost}
-use Rattle.macho_model.specs.Placement.{Placed, id_of, section_span, is_segment_named}
-use Rattle.macho_model.specs.OutputSections.{OutputSection, Merged, InitOffsets, UnwindInfo, Stubs, flags_of_key, is_zeros, is_code}
-use Rattle.macho_model.specs.OutputSections.{merged_in, sections_of_text, output_sections_in, output_sections_of, Piece, piece}
-use Rattle.macho_model.specs.OutputSections.{end_of_piece, placed_members, pieces_of, extent_of}
-use Rattle.macho_model.specs.Order.{front_of, sections_in, row_of, BeginsLeast}
+use Rattle.macho_model.specs.Placement.{Placed, id_of, is_segment_named}
+use Rattle.macho_model.specs.Spans.{section_span}
+use Rattle.macho_model.specs.OutputSections.{flags_of_key, is_zeros, is_code}
+use Rattle.macho_model.specs.steps.Outputs.{OutputSection, Merged, InitOffsets, UnwindInfo, Stubs}
+use Rattle.macho_model.specs.steps.Outputs.{merged_in, sections_of_text, output_sections_in, output_sections_of}
+use Rattle.macho_model.specs.Placement.{Piece}
+use Rattle.macho_model.specs.Spans.{piece}
+use Rattle.macho_model.specs.Placement.{end_of_piece}
+use Rattle.macho_model.specs.steps.Outputs.{placed_members, pieces_of, extent_of}
+use Rattle.macho_model.specs.Order.{BeginsLeast}
+use Rattle.macho_model.specs.steps.Least.{front_of, sections_in, row_of}
 use Rattle.macho_promise.specs.Sizes.{text_span}
 use Rattle.macho_unwind_pages.specs.Entries.{SpansAtMost}
 use Rattle.macho_promise.specs.UnwindSays.{resolved, resolved_entries}
@@ -45,6 +51,7 @@ use Rattle.macho_made.proofs.Sound.{each_resolved}
 use Rattle.macho_made.proofs.Instructions.{key_is_code, key_in_text, key_listed}
 use Rattle.macho_made.proofs.PartSums.{sum_map, parts_sum}
 use Rattle.macho_made.proofs.PieceRows.{cost_of, full_cost, Row, row_by_next, mapped_front, row_bounds, around_cost, inside_around}
+use Rattle.macho_model.proofs.Outputs.{least_of}
 
 -- the keys of output sections with instructions
 abbrev code_keys : Link → List OutputKey
@@ -58,7 +65,7 @@ unfolding row_of
 code_row l counts p s make has named =
     let whole : EachNext BeginsLeast (row_of l counts p s (sections_in l counts s)) =
     all_contains (λ (t : PlacedSegment). EachNext BeginsLeast (row_of l counts p t (sections_in l counts t))) p.segments s
-    make.placed.least.rows has in
+    (least_of make.placed.least).rows has in
     let text : sections_in l counts s ≡ sections_of_text l counts = rw named refl in
     let f : OutputSection → Piece = extent_of l p in
     let c : Piece = front_of counts p s in
@@ -116,7 +123,7 @@ code_next : (l : Link) (counts : Counts) (p : Placed) (s : PlacedSegment) (key :
     → is_segment_named TEXT s ≡ true → Contains (code_keys l) key → EachNext BeginsLeast (pieces_of l p (Merged key))
 code_next l counts p s key make has named there =
     all_contains (λ (o : OutputSection). EachNext BeginsLeast (pieces_of l p o)) (output_sections_of l counts) (Merged key)
-    make.placed.least.pieces
+    (least_of make.placed.least).pieces
     (code_listed l counts p s key make has named there)
 
 -- what an output section costs, its members do
@@ -230,7 +237,7 @@ within_code l counts p s q make has named there holds =
 -- THE span of functions' starts
 pub starts_span : (l : Link) (counts : Counts) (p : Placed) → IsToMake l counts p → SpansAtMost (text_span l) (resolved_entries l p)
 starts_span l counts p make =
-    let text = make.placed.placed.in_order.begins in
+    let text = make.placed.placed.begins in
     each_resolved (λ e. All (λ f. f.start ≤ e.start + text_span l) (resolved_entries l p)) l p (λ d has.
     let low = function_stands l counts p d make has in
     let from = within_code l counts p text.0 low.q make text.1 text.2 low.has low.holds in

@@ -3,7 +3,7 @@
 -- Each segment begins where the one before it ends, or behind; so, step by step, behind the end of every earlier one.
 -- An address in two segments would lie behind the end of one and before it. Hence a segment's byte is determined, and so
 -- is the word that the file has at an address, since a segment's file part is in its memory.
-use Rattle.std.proofs.Common.{◌≡◌, ℕ, zero, suc, ◌+◌, ◌-◌, ◌<◌, ◌≤◌, nat_lt, not, if◌then◌else◌, List, length, get_or, slice_index, sym, ap, subst, ◌∙◌, arith, inl, inr, true}
+use Rattle.std.proofs.Common.{◌≡◌, ℕ, zero, suc, ◌+◌, ◌-◌, ◌<◌, ◌≤◌, nat_lt, not, if◌then◌else◌, List, get_or, slice_index, sym, ap, subst, ◌∙◌, arith, inl, inr, true}
 use Rattle.std.specs.Prelude.{Contains, AllPairs}
 use Rattle.std.proofs.lemmas.Bool.{cases_lt, leb-true}
 use Rattle.std.proofs.lemmas.List.{get_or_default}
@@ -11,10 +11,10 @@ use Rattle.std.proofs.lemmas.List.Kept.{AllPairs-filter}
 use Rattle.macho_records.specs.declared.header.SegmentCommand.{SegmentCommand}
 use Rattle.macho_model.specs.Segments.{PAGEZERO}
 use Rattle.macho_model.specs.Images.{segments_of, mapped_segments, is_named}
-use Rattle.macho_model.specs.LoadRules.{begins_behind}
 use Rattle.macho_model.specs.Loader.{IsAccepted}
 use Rattle.macho_model.specs.Memory.{IsSegmentByte}
 use Rattle.macho_model.specs.Lists.{EachNext}
+use Rattle.macho_model.specs.SegmentRules.{begins_behind}
 
 -- a segment ends before another one begins
 abbrev pub EndsBefore : SegmentCommand → SegmentCommand → Type 0

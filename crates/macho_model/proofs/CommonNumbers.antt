@@ -5,9 +5,10 @@ use Rattle.std.proofs.Common.{◌≡◌, ℕ, zero, suc, ◌+◌, ◌<◌, ◌�
 use Rattle.std.specs.List.{flat_map, enumerate_from, range_with_len, position_or_len, AllByRecursion}
 use Rattle.std.proofs.lemmas.Bool.Decides.{nat_tests}
 use Rattle.std.proofs.lemmas.List.Concat.{flat_map-cons}
-use Rattle.macho_model.specs.Links.{Input, Object, Dylib, Stub, Link}
+use Rattle.macho_model.specs.Links.{Input, Object, Dylib, Stub}
 use Rattle.macho_model.specs.Objects.{num_symbols}
-use Rattle.macho_model.specs.Resolution.{SymbolId, same_symbol, symbols_of_file, symbols_of, is_chosen, chosen_commons}
+use Rattle.macho_model.specs.Resolution.{SymbolId, same_symbol, symbols_of_file, symbols_of, chosen_commons}
+use Rattle.macho_model.specs.LinkLaws.{is_chosen}
 use Rattle.macho_model.specs.LinkLaws.{CommonsAreCounted}
 
 -- one symbol stands before another, by file and then by number

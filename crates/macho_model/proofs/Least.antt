@@ -27,9 +27,10 @@ use Rattle.macho_model.specs.Resolution.{chosen_commons}
 use Rattle.macho_model.specs.Targets.{slots_of}
 use Rattle.macho_model.specs.Segments.{PAGEZERO, TEXT, DATA_CONST, DATA, LINKEDIT, is_known_segment, list_if, other_segments, segment_names_of}
 use Rattle.macho_model.specs.Segments.{has_section_in}
-use Rattle.macho_model.specs.Placement.{Placed, is_segment_named, linkedit_ranges}
-use Rattle.macho_model.specs.OutputSections.{Piece, end_of_piece, pieces_of, output_sections_of}
-use Rattle.macho_model.specs.Order.{BeginsLeast, StandInOrder, AreLeast, row_of, sections_in, table_pieces, least_file_size}
+use Rattle.macho_model.specs.Placement.{Placed, Piece, end_of_piece, is_segment_named, linkedit_ranges}
+use Rattle.macho_model.specs.Order.{BeginsLeast, table_pieces}
+use Rattle.macho_model.specs.steps.Outputs.{pieces_of, output_sections_of}
+use Rattle.macho_model.specs.steps.Least.{AreLeast, row_of, sections_in, least_file_size}
 
 -- a piece ends before another one begins
 abbrev pub EndsBefore : Piece → Piece → Type 0
@@ -142,10 +143,10 @@ named_alike (s ∷ segments) = by (is_last (text_of s.name)) (named_alike segmen
     by true alike = ap (λ (n : ℕ). suc n) alike
     by false alike = alike
 
-one_segment : (l : Link) (counts : Counts) (p : Placed) → StandInOrder l counts p
+one_segment : (l : Link) (counts : Counts) (p : Placed) → map (λ s. text_of s.name) p.segments ≡ segment_names_of l
     → length (filter (is_segment_named LINKEDIT) p.segments) ≡ 1
-one_segment l counts p order =
-    named_alike p.segments ∙ ap (λ (ns : List (List ℕ)). length (filter is_last ns)) order.segments ∙ ap length (one_name l)
+one_segment l counts p texts =
+    named_alike p.segments ∙ ap (λ (ns : List (List ℕ)). length (filter is_last ns)) texts ∙ ap length (one_name l)
 
 -- the size in the file of a segment with this name
 sized : (l : Link) (counts : Counts) (p : Placed) (s : PlacedSegment) → s.file_size ≡ least_file_size l counts p s
@@ -164,12 +165,12 @@ lies (s ∷ []) r end one from up to sizes (suc k) d lt = absurd (omega (arith, 
 lies (s ∷ t ∷ segments) r end one from up to sizes k d lt = absurd (omega (arith, one))
 
 -- THE places of the tables
-pub tables_lie : (l : Link) (counts : Counts) (p : Placed) → StandInOrder l counts p → AreLeast l counts p
+pub tables_lie : (l : Link) (counts : Counts) (p : Placed) → map (λ s. text_of s.name) p.segments ≡ segment_names_of l → AreLeast l counts p
     → All (LiesInFile p.segments) (linkedit_ranges p)
-tables_lie l counts p order least k d lt =
+tables_lie l counts p texts least k d lt =
     let r : Range64 = get_or (linkedit_ranges p) k d in
     let place = places k d lt in
-    lies tables r p.linkedit.signature.end (one_segment l counts p order) place.0 place.1 place.2 sizes
+    lies tables r p.linkedit.signature.end (one_segment l counts p texts) place.0 place.1 place.2 sizes
   where
     tables : List PlacedSegment
     tables = filter (is_segment_named LINKEDIT) p.segments

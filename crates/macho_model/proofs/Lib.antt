@@ -16,4 +16,8 @@ pub mod ObjectLaws
 pub mod FixedPointers
 pub mod Unrefused
 pub mod Least
+pub mod Parts
+pub mod Outputs
 pub mod Words
+pub mod Resolved
+pub mod Uses

@@ -1,26 +1,27 @@
 -- Laws of links. Every definition of resolution reads the inputs alone, so it is a function of them: equal inputs give equal
 -- answers (`ap` over the inputs). Imports, slots and stubs read the export lists too. One input more is numbered by how many
 -- there were, so what is gathered by input grows at its end.
-use Rattle.std.proofs.Common.{◌≡◌, ℕ, suc, ◌+◌, List, [], ◌∷◌, ◌++◌, length, refl, ap, sym, ◌∙◌, arith}
+use Rattle.std.proofs.Common.{◌≡◌, ℕ, suc, ◌+◌, List, [], ◌∷◌, ◌++◌, length, refl, ap, ◌∙◌, arith}
 use Rattle.std.specs.List.{flat_map, enumerate_from}
 use Rattle.std.proofs.lemmas.Grind.{flat_map-append}
 use Rattle.std.proofs.lemmas.List.{append-nil}
-use Rattle.macho_model.specs.Links.{Input, Link, sections_of_file, sections_of, carried_of}
-use Rattle.macho_model.specs.Resolution.{SymbolId, symbols_of_file, symbols_of, strong_of, weak_of, commons_of, greatest_of, libraries_with, definition_of, chosen_commons}
-use Rattle.macho_model.specs.Needs.{initializer_sections, unwind_sections, uses_of, imports_of}
-use Rattle.macho_model.specs.Targets.{target_with, target_of, target_of_relocation, slots_of, stubs_of}
-use Rattle.macho_model.specs.LinkLaws.{DefinitionsAgree, NotedTargetsAgree, CommonsAgree, CarriedAgree, ImportsAgree, SlotsAgree, StubsAgree, AllAreNoted, SymbolsGrow, SectionsGrow, with_input}
+use Rattle.macho_model.specs.Links.{Input, sections_of_file, sections_of, carried_of}
+use Rattle.macho_model.specs.Resolution.{symbols_of_file, symbols_of, strong_of, commons_of, greatest_of, libraries_with, definition_of, chosen_commons}
+use Rattle.macho_model.specs.Needs.{initializer_sections, unwind_sections, carried_relocations, initializer_relocations, personality_relocations, imports_of}
+use Rattle.macho_model.specs.Targets.{target_of, target_of_relocation, slots_of, stubs_of}
+use Rattle.macho_model.specs.Uses.{target_with}
+use Rattle.macho_model.specs.LinkLaws.{DefinitionsAgree, NotedTargetsAgree, CommonsAgree, CarriedAgree, ImportsAgree, SlotsAgree, StubsAgree, AllAreNoted, SymbolsGrow, SectionsGrow}
 
 pub definitions_agree : DefinitionsAgree
-unfolding symbols_of strong_of weak_of commons_of greatest_of libraries_with definition_of
+unfolding symbols_of strong_of commons_of greatest_of libraries_with definition_of
 definitions_agree l m name same = ap (λ (xs : List Input). definition_of (record l { inputs = xs }) name) same
 
 pub commons_agree : CommonsAgree
-unfolding symbols_of strong_of weak_of commons_of greatest_of libraries_with definition_of chosen_commons
+unfolding symbols_of strong_of commons_of greatest_of libraries_with definition_of chosen_commons
 commons_agree l m same = ap (λ (xs : List Input). chosen_commons (record l { inputs = xs })) same
 
 pub noted_targets_agree : NotedTargetsAgree
-unfolding symbols_of strong_of weak_of commons_of greatest_of libraries_with definition_of chosen_commons
+unfolding symbols_of strong_of commons_of greatest_of libraries_with definition_of chosen_commons
 noted_targets_agree l m noted s same = ap (λ (xs : List Input). target_with (record l { inputs = xs }) noted s) same
 
 pub carried_agree : CarriedAgree
@@ -28,19 +29,19 @@ unfolding sections_of carried_of
 carried_agree l m same = ap (λ (xs : List Input). carried_of (record l { inputs = xs })) same
 
 pub imports_agree : ImportsAgree
-unfolding symbols_of strong_of weak_of commons_of greatest_of libraries_with definition_of sections_of carried_of initializer_sections unwind_sections uses_of imports_of
+unfolding symbols_of strong_of commons_of greatest_of libraries_with definition_of sections_of carried_of initializer_sections unwind_sections carried_relocations initializer_relocations personality_relocations imports_of
 imports_agree l m same lists =
     ap (λ (xs : List Input). imports_of (record l { inputs = xs })) same
     ∙ ap (λ (texts : List (List ℕ)). imports_of (record l { inputs = m.inputs; export_lists = texts })) lists
 
 pub slots_agree : SlotsAgree
-unfolding symbols_of strong_of weak_of commons_of greatest_of libraries_with definition_of chosen_commons sections_of carried_of initializer_sections unwind_sections uses_of imports_of target_of target_of_relocation slots_of
+unfolding symbols_of strong_of commons_of greatest_of libraries_with definition_of chosen_commons sections_of carried_of initializer_sections unwind_sections carried_relocations initializer_relocations personality_relocations imports_of target_of target_of_relocation slots_of
 slots_agree l m same lists =
     ap (λ (xs : List Input). slots_of (record l { inputs = xs })) same
     ∙ ap (λ (texts : List (List ℕ)). slots_of (record l { inputs = m.inputs; export_lists = texts })) lists
 
 pub stubs_agree : StubsAgree
-unfolding symbols_of strong_of weak_of commons_of greatest_of libraries_with definition_of chosen_commons sections_of carried_of initializer_sections unwind_sections uses_of imports_of target_of target_of_relocation stubs_of
+unfolding symbols_of strong_of commons_of greatest_of libraries_with definition_of chosen_commons sections_of carried_of initializer_sections unwind_sections carried_relocations initializer_relocations personality_relocations imports_of target_of target_of_relocation stubs_of
 stubs_agree l m same lists =
     ap (λ (xs : List Input). stubs_of (record l { inputs = xs })) same
     ∙ ap (λ (texts : List (List ℕ)). stubs_of (record l { inputs = m.inputs; export_lists = texts })) lists

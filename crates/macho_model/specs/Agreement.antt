@@ -6,12 +6,9 @@ use Rattle.macho_records.specs.ByteLayouts.{reading, size_of}
 use Rattle.macho_records.specs.ByteTexts.{name_of}
 use Rattle.macho_records.specs.Segments.{text_of}
 use Rattle.macho_records.specs.Layouts.{segment_command, section_header}
-use Rattle.macho_records.specs.declared.header.SegmentCommand.{SegmentCommand}
 use Rattle.macho_records.specs.declared.header.SectionHeader.{SectionHeader}
 use Rattle.macho_records.specs.declared.constants.TheConstants.{LC_SEGMENT_64}
-use Rattle.macho_records.specs.Segments.{text_of}
 use Rattle.macho_model.specs.declared.placed.Counts.{Counts}
-use Rattle.macho_model.specs.declared.placed.PlacedSegment.{PlacedSegment}
 use Rattle.macho_model.specs.declared.placed.Range64.{Range64}
 use Rattle.macho_model.specs.Commands.{commands_end, numbered}
 use Rattle.macho_model.specs.Links.{Link}
@@ -21,29 +18,17 @@ use Rattle.macho_model.specs.Placement.{Placed, head_size}
 use Rattle.macho_model.specs.Memory.{Choice}
 use Rattle.macho_model.specs.Stands.{IsAt}
 
--- A segment's place: its name, its addresses, and its bytes in the file.
-pub record SegmentPlace : Type 0 where
-  pub name : List ℕ
-  pub address : ℕ
-  pub size : ℕ
-  pub file_offset : ℕ
-  pub file_size : ℕ
-
--- as its command says it, and as the placement does
-abbrev pub place_by_command : SegmentCommand → SegmentPlace
-place_by_command s = record { name = name_of s.segname; address = s.vmaddr; size = s.vmsize; file_offset = s.fileoff; file_size = s.filesize }
-
-abbrev pub place_told : PlacedSegment → SegmentPlace
-place_told s = record { name = text_of s.name; address = s.address; size = s.size; file_offset = s.file_offset; file_size = s.file_size }
-
--- the segments of the file are those of the placement, in order
+-- the segments of the file are those of the placement, in order: name, address, size, and file range
 abbrev pub SegmentsAgree : List ℕ → Placed → Type 0
-SegmentsAgree b p = map place_by_command (segments_of b) ≡ map place_told p.segments
+SegmentsAgree b p =
+    map {B = List ℕ × ℕ × ℕ × ℕ × ℕ} (λ s. (name_of s.segname, s.vmaddr, s.vmsize, s.fileoff, s.filesize)) (segments_of b)
+    ≡ map (λ s. (text_of s.name, s.address, s.size, s.file_offset, s.file_size)) p.segments
 
 -- the section headers behind a segment's command, and those of a file, in order
 unfoldable pub section_headers_at : List ℕ → ℕ → List SectionHeader
 section_headers_at b at =
-    map (λ k. reading section_header b (at + size_of segment_command + size_of section_header * k)) (range_with_len 0 (reading segment_command b at).nsects)
+    map (λ k. reading section_header b (at + size_of segment_command + size_of section_header * k))
+    (range_with_len 0 (reading segment_command b at).nsects)
 
 unfoldable pub section_headers_of : List ℕ → List SectionHeader
 section_headers_of b = flat_map (λ c. section_headers_at b c.at) (numbered LC_SEGMENT_64 b)

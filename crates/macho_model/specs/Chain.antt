@@ -36,7 +36,8 @@ STRIDE = 4
 pub data OnChain (segments : List ChainSegment) (b : List ℕ) : ℕ → Type 0 where
   first : (s : ChainSegment) (page : ℕ) → Contains segments s → page < length s.starts → slice_index s.starts page ≢ NO_START
       → OnChain segments b (s.address + SEGMENT_PAGE * page + slice_index s.starts page)
-  next : (a word : ℕ) → OnChain segments b a → IsFileWord segments b a word → 1 ≤ next_of word → OnChain segments b (a + STRIDE * next_of word)
+  next : (a word : ℕ) → OnChain segments b a → IsFileWord segments b a word → 1 ≤ next_of word
+      → OnChain segments b (a + STRIDE * next_of word)
 
 -- The words of one page's chain: its start, and each word that a word of it leads to.
 pub data OnPageChain (segments : List ChainSegment) (b : List ℕ) (s : ChainSegment) (page : ℕ) : ℕ → Type 0 where
@@ -51,7 +52,8 @@ starts_in_tables b tables k = of_first [] (λ t. if nat_lt k (starts_count b t) 
 
 -- a segment by its number and its command
 abbrev pub chain_segment : List ℕ → ℕ × SegmentCommand → ChainSegment
-chain_segment b (k, s) = record { address = s.vmaddr; file_offset = s.fileoff; file_size = s.filesize; starts = starts_in_tables b (tables_of b) k }
+chain_segment b (k, s) =
+    record { address = s.vmaddr; file_offset = s.fileoff; file_size = s.filesize; starts = starts_in_tables b (tables_of b) k }
 
 -- the segments of a file, with its page starts
 unfoldable pub chain_segments : List ℕ → List ChainSegment

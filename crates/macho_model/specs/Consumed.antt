@@ -1,6 +1,6 @@
 -- Sections that are read and turned into parts of the image: initializers, and compact unwind entries
 -- (`mach-o/compact_unwind_encoding.h`). A test for each rule that they keep.
-use Rattle.std.specs.Prelude.{ℕ, ◌+◌, ◌*◌, ◌-◌, ◌/◌, ◌%◌, ◌==◌, nat_le, nat_lt, ◌&&◌, ◌||◌, not, Bool, true, false, List, length, filter, map, bytes_eq, [], ◌∷◌}
+use Rattle.std.specs.Prelude.{ℕ, ◌+◌, ◌*◌, ◌/◌, ◌%◌, ◌==◌, nat_le, nat_lt, ◌&&◌, ◌||◌, not, Bool, true, false, List, length, filter, map, bytes_eq, [], ◌∷◌}
 use Rattle.std.specs.List.{list_any, list_all, flat_map, range_with_len}
 use Rattle.macho_records.specs.Numbers.{le_at, bits}
 use Rattle.macho_records.specs.ByteLayouts.{reading}
@@ -15,8 +15,8 @@ use Rattle.macho_records.specs.Sections.{has_instructions, is_zerofill, segment_
 use Rattle.macho_records.specs.declared.constants.TheConstants.{ARM64_RELOC_UNSIGNED, S_MOD_INIT_FUNC_POINTERS}
 use Rattle.macho_model.specs.Objects.{section_bytes}
 use Rattle.macho_model.specs.Links.{Link, object_of, SectionId, header_at, is_carried}
-use Rattle.macho_model.specs.Needs.{relocation_in, section_named, relocations_of, relocations_at, unwind_sections, distinct, POINTER_SIZE, UNWIND_ENTRY_SIZE, PERSONALITY_PLACE}
-use Rattle.macho_model.specs.Targets.{target_of_relocation, is_defined, is_import, same_target}
+use Rattle.macho_model.specs.Needs.{relocation_in, section_named, relocations_of, relocations_at, unwind_sections, personality_relocations, distinct, POINTER_SIZE, UNWIND_ENTRY_SIZE, PERSONALITY_PLACE}
+use Rattle.macho_model.specs.Targets.{target_of_relocation, targets_at, is_defined, is_import, same_target}
 use Rattle.macho_model.specs.Segments.{TEXT}
 
 abbrev pub bytes_of_section : Link → SectionId → List ℕ
@@ -34,8 +34,8 @@ is_section_target t = false
 abbrev pub initializer_slot_fits : Link → SectionId → ℕ → Bool
 initializer_slot_fits l s slot =
     (length (relocations_at l s (POINTER_SIZE * slot)) == 1)
-    && list_all (λ r. is_plain_pointer (relocation_in l s r) && (relocation_in l s r).r_extern && is_section_target (target_of_relocation l s r))
-    (relocations_at l s (POINTER_SIZE * slot))
+    && list_all (λ r. is_plain_pointer (relocation_in l s r) && (relocation_in l s r).r_extern
+    && is_section_target (target_of_relocation l s r)) (relocations_at l s (POINTER_SIZE * slot))
     && (le_at POINTER_SIZE (bytes_of_section l s) (POINTER_SIZE * slot) == 0)
 
 abbrev pub initializer_section_fits : Link → SectionId → Bool
@@ -97,8 +97,8 @@ same_section f g = (f.file == g.file) && (f.section == g.section)
 -- two entries are of functions that begin at one place
 abbrev pub same_start : Link → EntryId → EntryId → Bool
 same_start l d e =
-    list_any (λ q. list_any (λ r. same_section (section_named l d.of_section q) (section_named l e.of_section r)) (starts_in l e.of_section e.entry))
-    (starts_in l d.of_section d.entry)
+    list_any (λ q. list_any (λ r. same_section (section_named l d.of_section q) (section_named l e.of_section r))
+    (starts_in l e.of_section e.entry)) (starts_in l d.of_section d.entry)
     && ((unwind_entry l d.of_section d.entry).start == (unwind_entry l e.of_section e.entry).start)
 
 -- An entry of a section, by number, keeps a rule.
@@ -115,7 +115,8 @@ keeps l s e U3 = list_all (λ place. nat_le (length (relocations_in_entry l s e 
 -- the start has a relocation that names, by number, a section that functions stand in
 keeps l s e U4 =
     not (length (relocations_in_entry l s e START_PLACE) == 0)
-    && list_all (λ r. not (relocation_in l s r).r_extern && holds_functions l (section_named l s r)) (relocations_in_entry l s e START_PLACE)
+    && list_all (λ r. not (relocation_in l s r).r_extern && holds_functions l (section_named l s r))
+    (relocations_in_entry l s e START_PLACE)
 -- the function lies in its section
 keeps l s e U5 = list_all (λ r. lies_in l (section_named l s r) (unwind_entry l s e).start (unwind_entry l s e).length) (starts_in l s e)
 -- no other entry begins where this one does
@@ -134,10 +135,9 @@ keeps l s e U7 =
 keeps l s e U8 =
     (bits 28 2 (unwind_entry l s e).encoding == 0)
     && list_all (λ (w : ℕ × ℕ). not (length (relocations_in_entry l s e w.0) == 0) || (w.1 == 0))
-    ((START_PLACE, (unwind_entry l s e).start) ∷ (PERSONALITY_PLACE, (unwind_entry l s e).personality) ∷ (LSDA_PLACE, (unwind_entry l s e).lsda) ∷ [])
+    ((START_PLACE, (unwind_entry l s e).start) ∷ (PERSONALITY_PLACE, (unwind_entry l s e).personality)
+    ∷ (LSDA_PLACE, (unwind_entry l s e).lsda) ∷ [])
 
 -- the personality functions, each once
 unfoldable pub personality_targets : Link → List Target
-personality_targets l =
-    distinct same_target
-    (flat_map (λ d. map (target_of_relocation l d.of_section) (relocations_in_entry l d.of_section d.entry PERSONALITY_PLACE)) (entries_of_link l))
+personality_targets l = distinct same_target (targets_at l (personality_relocations l))

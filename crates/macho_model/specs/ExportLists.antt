@@ -11,13 +11,12 @@ STAR = 42
 abbrev pub without_front : List ℕ → List ℕ
 without_front text = drop (length (take_while (λ b. (b == 32) || (b == 9) || (b == 13)) text)) text
 
--- a text without those at both ends
-abbrev pub trimmed : List ℕ → List ℕ
-trimmed text = reverse (without_front (reverse (without_front text)))
-
--- the entries of a text, in order: of each line (they end with byte 10) what stands before a `#` (35), trimmed, unless that is empty
+-- the entries of a text, in order: of each line (they end with byte 10) what stands before a `#` (35), without
+-- these bytes at both ends, unless that is empty
 unfoldable pub entries_of : List ℕ → List (List ℕ)
-entries_of text = filter (λ e. not (length e == 0)) (map (λ line. trimmed (before_first (λ b. b == 35) line)) (slice_split (λ b. b == 10) text))
+entries_of text =
+    filter (λ e. not (length e == 0))
+    (map (λ line. reverse (without_front (reverse (without_front (before_first (λ b. b == 35) line))))) (slice_split (λ b. b == 10) text))
 
 -- the entries of several lists, in order, and the plain ones among them; an entry with a star is a pattern
 unfoldable pub all_entries : List (List ℕ) → List (List ℕ)

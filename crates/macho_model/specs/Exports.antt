@@ -2,7 +2,7 @@
 use Rattle.std.specs.Prelude.{◌≡◌, ℕ, ◌+◌, ◌==◌, ◌||◌, not, if◌then◌else◌, Bool, true, false, List, length, Some}
 use Rattle.std.specs.List.{position_or_len}
 use Rattle.std.specs.Str.{bytes_eq}
-use Rattle.macho_records.specs.Symbols.{is_hidden_of, is_weak_of}
+use Rattle.macho_records.specs.Symbols.{is_hidden_of}
 use Rattle.macho_records.specs.Sections.{type_of}
 use Rattle.macho_records.specs.declared.constants.TheConstants.{S_THREAD_LOCAL_VARIABLES}
 use Rattle.macho_model.specs.ExportLists.{listed}
@@ -30,9 +30,6 @@ is_listed l name = not (has_lists l) || listed l.export_lists name
 -- a name is exported from an object: its definition stands there and is visible, and the name may be exported
 abbrev pub IsExported : Link → List ℕ → SymbolId → Type 0
 IsExported l name s = (definition_of l name ≡ Some (Symbol s)) × (is_hidden_of (entry_at l s) ≡ false) × (is_listed l name ≡ true)
-
-abbrev pub weak_flag : Link → SymbolId → ℕ
-weak_flag l s = if is_weak_of (entry_at l s) then FLAG_WEAK else 0
 
 abbrev pub section_flag : Link → ℕ → ℕ → ℕ
 section_flag l file section = if type_of (header_at l (section_id file section)) == S_THREAD_LOCAL_VARIABLES then FLAG_THREAD_LOCAL else 0

@@ -1,9 +1,8 @@
 -- When each refusal of a link stands. A refusal is told only where it stands, and an image only where none does.
-use Rattle.std.specs.Prelude.{◌≡◌, ℕ, ◌+◌, ◌*◌, ◌%◌, ◌<◌, ◌≤◌, ◌⊎◌, ◌==◌, ◌||◌, not, Bool, true, false, List, length, Option, Some, None, Contains, IsNone, reverse, take_while, drop, codes}
+use Rattle.std.specs.Prelude.{◌≡◌, ℕ, ◌+◌, ◌*◌, ◌%◌, ◌<◌, ◌≤◌, ◌⊎◌, ◌==◌, ◌||◌, not, Bool, true, false, List, ◌++◌, length, filter, Option, Some, None, Contains, IsNone, reverse, take_while, drop, codes}
 use Rattle.std.specs.List.{list_any}
 use Rattle.std.specs.Str.{bytes_eq}
 use Rattle.macho_records.specs.Sections.{segment_name_of}
-use Rattle.macho_records.specs.Symbols.{is_global}
 use Rattle.macho_model.specs.declared.rules.UnwindRule.{UnwindRule}
 use Rattle.macho_model.specs.declared.rules.UnwindRule.TheVariants.{U1}
 use Rattle.macho_model.specs.declared.targets.Limit.{Limit}
@@ -12,8 +11,8 @@ use Rattle.macho_model.specs.declared.placed.Counts.{Counts}
 use Rattle.macho_model.specs.Lists.{IsNumber}
 use Rattle.macho_model.specs.ExportLists.{plain_entries}
 use Rattle.macho_model.specs.Links.{Link, SectionId, section_id, header_at, carried_of}
-use Rattle.macho_model.specs.Resolution.{SymbolId, entry_at, name_at, strong_of, definition_of}
-use Rattle.macho_model.specs.Needs.{Use, ByRelocation, ByInitializer, ByPersonality, ByName, uses_of, symbol_used, initializer_sections, unwind_sections, relocation_in, POINTER_SIZE}
+use Rattle.macho_model.specs.Resolution.{SymbolId, name_at, strong_of, definition_of}
+use Rattle.macho_model.specs.Needs.{initializer_sections, unwind_sections, carried_relocations, initializer_relocations, personality_relocations, globals_used, relocation_in, POINTER_SIZE}
 use Rattle.macho_model.specs.Targets.{target_of_name, is_import}
 use Rattle.macho_model.specs.Fields.{Field}
 use Rattle.macho_model.specs.Segments.{SEGMENT_PAGE, may_hold_pointers}
@@ -48,18 +47,13 @@ IsDuplicate l name first second =
     (i : ℕ) × (j : ℕ) × (s : SymbolId) × (t : SymbolId) × (i < j) × IsNumber (strong_of l name) i s
     × IsNumber (strong_of l name) j t × (s.file ≡ first) × (t.file ≡ second)
 
--- a use names a symbol: that of a consumed section only where its relocation has the form that is read
-abbrev pub names_symbol : Link → Use → Bool
-names_symbol l (ByRelocation s r) = true
-names_symbol l (ByInitializer s r) = is_plain_pointer (relocation_in l s r)
-names_symbol l (ByPersonality s r) = is_plain_pointer (relocation_in l s r)
-names_symbol l (ByName name) = false
-
--- a file uses a global name that has no definition
+-- a file uses a global name that has no definition; a relocation of a consumed section uses one only where it has the form that is read
 abbrev pub IsUndefined : Link → List ℕ → ℕ → Type 0
 IsUndefined l name file =
-    (u : Use) × (s : SymbolId) × Contains (uses_of l) u × (names_symbol l u ≡ true) × (symbol_used l u ≡ Some s)
-    × (is_global (entry_at l s) ≡ true) × (name_at l s ≡ name) × (s.file ≡ file) × IsNone (definition_of l name)
+    (s : SymbolId)
+    × Contains (globals_used l (carried_relocations l
+    ++ filter (λ u. is_plain_pointer (relocation_in l u.0 u.1)) (initializer_relocations l ++ personality_relocations l))) s
+    × (name_at l s ≡ name) × (s.file ≡ file) × IsNone (definition_of l name)
 
 -- an entry breaks a rule; a section that is cut is told at the entry that is cut
 abbrev pub IsBadEntry : Link → SectionId → ℕ → UnwindRule → Type 0

@@ -43,7 +43,8 @@ own_entry is_one t addend = None
 
 -- the entries that pointers need of their own, in the order of the walk
 unfoldable pub own_entries : Link → List EntryOfImport
-own_entries l = distinct same_entry (flat_map (λ s. filter_map (λ f. own_entry (is_pointer f) f.target f.addend) (fields_of l s)) (carried_of l))
+own_entries l =
+    distinct same_entry (flat_map (λ s. filter_map (λ f. own_entry (is_pointer f) f.target f.addend) (fields_of l s)) (carried_of l))
 
 -- the import table: an entry for each import, then those
 unfoldable pub import_entries_of : Link → List EntryOfImport

@@ -51,7 +51,8 @@ ObjectRecordBreaks b rule place = SectionFails b rule place ⊎ SymbolFails b ru
 -- records doesn't stand once, no record is looked at.
 abbrev pub ObjectBreaks : List ℕ → ObjectRule → ℕ → Type 0
 ObjectBreaks b O1 place = (place ≡ 0) × (head_fits MH_OBJECT b ≡ false)
-ObjectBreaks b O2 place = ((place ≡ 0) × (commands_inside b ≡ false)) ⊎ CommandFails (commands_of b) place (command_fits (needed_in_object b) b)
+ObjectBreaks b O2 place =
+    ((place ≡ 0) × (commands_inside b ≡ false)) ⊎ CommandFails (commands_of b) place (command_fits (needed_in_object b) b)
 ObjectBreaks b O3 place = AreWhole b (command_fits (needed_in_object b) b) × (IsNotOne LC_SEGMENT_64 b place ⊎ IsNotOne LC_SYMTAB b place)
 ObjectBreaks b rule place =
     AreWhole b (command_fits (needed_in_object b) b) × ((has_one LC_SEGMENT_64 b ≡ true) × (has_one LC_SYMTAB b ≡ true))

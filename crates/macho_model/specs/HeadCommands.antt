@@ -1,6 +1,6 @@
 -- Header and load commands as records (`mach-o/loader.h`): those whose bytes `Head` says, and those that a reader finds in a file.
-use Rattle.std.specs.Prelude.{◌≡◌, ℕ, ◌+◌, ◌*◌, ◌-◌, ◌==◌, ◌||◌, if◌then◌else◌, List, [], ◌∷◌, ◌++◌, length, map, replicate, slice_range, sum_by, codes, Option, Some, None}
-use Rattle.std.specs.List.{range_with_len}
+use Rattle.std.specs.Prelude.{◌≡◌, ℕ, ◌+◌, ◌*◌, ◌-◌, ◌==◌, ◌||◌, if◌then◌else◌, List, [], ◌∷◌, ◌++◌, length, map, replicate, slice_range, sum_by, codes, Option, Some, None, Bool}
+use Rattle.std.specs.List.{range_with_len, list_any}
 use Rattle.macho_records.specs.Numbers.{rounded_up}
 use Rattle.macho_records.specs.ByteLayouts.{reading, size_of}
 use Rattle.macho_records.specs.Layouts.{segment_command, section_header, symtab_command}
@@ -17,7 +17,7 @@ use Rattle.macho_records.specs.LinkeditDataCommand.{LinkeditDataCommand}
 use Rattle.macho_records.specs.UuidCommand.{UuidCommand}
 use Rattle.macho_records.specs.BuildVersionCommand.{BuildVersionCommand}
 use Rattle.macho_records.specs.BuildToolVersion.{BuildToolVersion}
-use Rattle.macho_records.specs.declared.constants.TheConstants.{LC_BUILD_VERSION, LC_CODE_SIGNATURE, LC_DYLD_CHAINED_FIXUPS, LC_DYLD_EXPORTS_TRIE, LC_ID_DYLIB, LC_LOAD_DYLIB, LC_LOAD_DYLINKER, LC_MAIN, LC_RPATH, LC_SEGMENT_64, LC_SYMTAB, LC_UUID}
+use Rattle.macho_records.specs.declared.constants.TheConstants.{LC_BUILD_VERSION, LC_CODE_SIGNATURE, LC_DYLD_CHAINED_FIXUPS, LC_DYLD_EXPORTS_TRIE, LC_ID_DYLIB, LC_LOAD_DYLIB, LC_LOAD_DYLINKER, LC_MAIN, LC_RPATH, LC_SEGMENT_64, LC_SYMTAB, LC_UUID, CPU_SUBTYPE_ARM64_ALL, CPU_TYPE_ARM64, MH_DYLIB, MH_EXECUTE, MH_MAGIC_64, MH_NOUNDEFS, MH_DYLDLINK, MH_TWOLEVEL, MH_PIE, MH_HAS_TLV_DESCRIPTORS, S_THREAD_LOCAL_VARIABLES}
 use Rattle.macho_records.specs.Segments.{text_of, segment_flags_of}
 use Rattle.macho_model.specs.declared.placed.Counts.{Counts}
 use Rattle.macho_model.specs.declared.placed.PlacedSegment.{PlacedSegment}
@@ -30,8 +30,12 @@ use Rattle.macho_model.specs.Placement.{Placed}
 use Rattle.macho_model.specs.Addresses.{address_of}
 use Rattle.macho_model.specs.Agreement.{section_headers_at}
 use Rattle.macho_model.specs.Signature.{uuid_written}
-use Rattle.macho_model.specs.Head as head
-use Rattle.macho_model.specs.Head.{headers_in, range_size}
+use Rattle.macho_model.specs.Head.{headers_in, range_size, command}
+use Rattle.macho_records.specs.Sections.{type_of}
+
+-- a section describes thread-local variables
+abbrev pub describes_thread_locals : Placed → Bool
+describes_thread_locals p = list_any (λ h. type_of h == S_THREAD_LOCAL_VARIABLES) p.output_sections
 
 -- A load command with all that it says: its record, and what stands behind the record. A path stands there with the zeros
 -- that fill the command.
@@ -208,9 +212,28 @@ size_said (LinkeditData command) = command.cmdsize
 size_said (Symtab command) = command.cmdsize
 size_said (Other number size) = size
 
+-- the flags of an image: no name is left undefined, it is for the dynamic linker, by two levels of names; an executable may be
+-- slid; and where thread-local variables are described, that they are
+abbrev pub flags_for : Link → Placed → ℕ
+flags_for l p =
+    MH_NOUNDEFS + MH_DYLDLINK + MH_TWOLEVEL + (if l.executable then MH_PIE else 0) + (if describes_thread_locals p then MH_HAS_TLV_DESCRIPTORS else 0)
+
+-- the header in front of so many load commands, which have so many bytes
+abbrev pub header_with : Link → Placed → ℕ → ℕ → MachHeader
+header_with l p commands bytes = record {
+  magic = MH_MAGIC_64;
+  cputype = CPU_TYPE_ARM64;
+  cpusubtype = CPU_SUBTYPE_ARM64_ALL;
+  filetype = if l.executable then MH_EXECUTE else MH_DYLIB;
+  ncmds = commands;
+  sizeofcmds = bytes;
+  flags = flags_for l p;
+  reserved = 0;
+}
+
 -- the header in front of them
 unfoldable pub header_for : Link → Placed → List HeadCommand → MachHeader
-header_for l p commands = head.header_for l p (length commands) (sum_by size_said commands)
+header_for l p commands = header_with l p (length commands) (sum_by size_said commands)
 
 -- A reader of the file finds this header and these load commands, with an exports trie of some size.
 pub record CommandsSay (l : Link) (counts : Counts) (uuid : List ℕ) (b : List ℕ) (p : Placed) : Type 0 where

@@ -44,7 +44,8 @@ pub record Table : Type 0 where
   pub size : ℕ
 
 abbrev pub table_of_command : List ℕ → Command → Table
-table_of_command b c = record { at = (reading linkedit_data_command b c.at).dataoff; size = (reading linkedit_data_command b c.at).datasize }
+table_of_command b c =
+    record { at = (reading linkedit_data_command b c.at).dataoff; size = (reading linkedit_data_command b c.at).datasize }
 
 -- the ranges that the commands of a number give
 abbrev pub ranges_of : ℕ → List ℕ → List Table
@@ -61,17 +62,14 @@ tries_of b = ranges_of LC_DYLD_EXPORTS_TRIE b
 unfoldable pub signatures_of : List ℕ → List Table
 signatures_of b = ranges_of LC_CODE_SIGNATURE b
 
-abbrev pub symbols_range : List ℕ → Command → Table
-symbols_range b c = record { at = (reading symtab_command b c.at).symoff; size = size_of symtab_entry * (reading symtab_command b c.at).nsyms }
-
-abbrev pub strings_range : List ℕ → Command → Table
-strings_range b c = record { at = (reading symtab_command b c.at).stroff; size = (reading symtab_command b c.at).strsize }
-
 unfoldable pub symbol_tables_of : List ℕ → List Table
-symbol_tables_of b = map (symbols_range b) (numbered LC_SYMTAB b)
+symbol_tables_of b =
+    map (λ c. record { at = (reading symtab_command b c.at).symoff; size = size_of symtab_entry * (reading symtab_command b c.at).nsyms })
+    (numbered LC_SYMTAB b)
 
 unfoldable pub string_tables_of : List ℕ → List Table
-string_tables_of b = map (strings_range b) (numbered LC_SYMTAB b)
+string_tables_of b =
+    map (λ c. record { at = (reading symtab_command b c.at).stroff; size = (reading symtab_command b c.at).strsize }) (numbered LC_SYMTAB b)
 
 -- where an executable begins, as an offset from the address of `__TEXT`; it has one
 unfoldable pub entries_of_file : List ℕ → List ℕ
@@ -134,7 +132,8 @@ import_place b t k = t.at + (fixups_header b t).imports_offset + import_entry_si
 
 -- the addend of an entry, modulo 2 ^ 64: signed behind the word, where the format has one
 abbrev pub entry_addend : List ℕ → Table → ℕ → ℕ
-entry_addend b t k = if (fixups_header b t).imports_format == IMPORT_ADDEND_FORMAT then signed 32 (le_at 4 b (import_place b t k + 4)) else 0
+entry_addend b t k =
+    if (fixups_header b t).imports_format == IMPORT_ADDEND_FORMAT then signed 32 (le_at 4 b (import_place b t k + 4)) else 0
 
 -- the word of an entry, from its lowest bit: library 8, weak 1, name offset 23
 abbrev pub import_entry : List ℕ → Table → ℕ → ImportEntry

@@ -1,6 +1,6 @@
 -- The import table of an image, the libraries that it needs, and how many words of it the loader writes
 -- (`mach-o/fixup-chains.h`).
-use Rattle.std.specs.Prelude.{◌≡◌, ℕ, ◌+◌, ◌<◌, if◌then◌else◌, List, [], ◌∷◌, ◌++◌, length, filter, get_or, take, sum_by, slice_range}
+use Rattle.std.specs.Prelude.{◌≡◌, ℕ, ◌+◌, ◌<◌, List, [], ◌∷◌, ◌++◌, length, filter, get_or, take, sum_by, slice_range}
 use Rattle.std.specs.List.{flat_map}
 use Rattle.macho_records.specs.Numbers.{le_at, bits}
 use Rattle.macho_model.specs.Links.{Link, carried_of}
@@ -20,12 +20,9 @@ fixup_count l = length (slots_of l) + length (flat_map (λ s. filter (needs_fixu
 unfoldable pub names_text : Link → List ℕ
 names_text l = flat_map (λ name. name ++ 0 ∷ []) (imports_of l)
 
-abbrev pub no_entry : EntryOfImport
-no_entry = record { import = 0; addend = 0 }
-
 -- an entry of the link by its number, and the name of its import
 abbrev pub entry_of_link : Link → ℕ → EntryOfImport
-entry_of_link l k = get_or (import_entries_of l) k no_entry
+entry_of_link l k = get_or (import_entries_of l) k (record { import = 0; addend = 0 })
 
 abbrev pub name_of_entry : Link → ℕ → List ℕ
 name_of_entry l k = get_or (imports_of l) (entry_of_link l k).import []
@@ -50,8 +47,8 @@ pub record ImportTableSays (l : Link) (b : List ℕ) : Type 0 where
   pub format : (fixups_header b table).imports_format ≡ import_format l
   pub count : (fixups_header b table).imports_count ≡ length (import_entries_of l)
   pub entries : (k : ℕ) → k < length (import_entries_of l) → EntrySays l b table k
-  pub names : slice_range b (table.at + (fixups_header b table).symbols_offset) (table.at + (fixups_header b table).symbols_offset + length (names_text l))
-      ≡ names_text l
+  pub names : slice_range b (table.at + (fixups_header b table).symbols_offset)
+      (table.at + (fixups_header b table).symbols_offset + length (names_text l)) ≡ names_text l
 
 -- the libraries that the file names are those that the link needs, in order
 abbrev pub LibrariesSay : Link → List ℕ → Type 0

@@ -16,9 +16,11 @@ pub mod WrittenSum
 pub mod Placement
 pub mod OutputSections
 pub mod Order
+pub mod Rooms
 pub mod Images
 pub mod Chain
 pub mod LoadRules
+pub mod SegmentRules
 pub mod Loader
 pub mod Memory
 pub mod Stands
@@ -26,6 +28,7 @@ pub mod Exports
 pub mod Rows
 pub mod Supported
 pub mod Consumed
+pub mod Uses
 pub mod Limits
 pub mod Values
 pub mod Fixups
@@ -40,6 +43,7 @@ pub mod SymbolTable
 pub mod SymbolEntries
 pub mod ImportTable
 pub mod Zeros
+pub mod Spans
 pub mod Made
 pub mod ReadBack
 pub mod Told
@@ -53,4 +57,6 @@ pub mod steps
 pub use Rattle.macho_records.specs.CommandLayouts
 pub use Rattle.macho_records.specs.Layouts as HeaderLayouts
 pub use Rattle.macho_records.specs.Sections
+pub use Rattle.macho_records.specs.Segments as SegmentNames
+pub use Rattle.macho_records.specs.Symbols as SymbolTests
 pub use Rattle.macho_records.specs.declared.header.SegmentCommand

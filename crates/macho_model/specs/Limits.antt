@@ -2,7 +2,7 @@
 -- libraries (ordinals of 8 bits, of which the highest are special), 255 sections (`n_sect`), 3 personalities (two bits of an encoding),
 -- imports (24 bits of a bound word), bytes of names (23 bits of an import), pages of a segment (`page_count`). Pages are counted in a
 -- placement alone.
-use Rattle.std.specs.Prelude.{◌≡◌, ℕ, ◌+◌, ◌-◌, ◌/◌, ◌^◌, ◌<◌, ◌≤◌, ◌⊎◌, length, Option, Some, None, MatchOption, Contains, true}
+use Rattle.std.specs.Prelude.{◌≡◌, ℕ, ◌+◌, ◌-◌, ◌^◌, ◌<◌, ◌≤◌, ◌⊎◌, length, Option, Some, None, MatchOption, Contains, true}
 use Rattle.std.specs.FinMap.{empty}
 use Rattle.macho_records.specs.Segments.{text_of}
 use Rattle.macho_model.specs.declared.targets.Target.{Target}
@@ -52,11 +52,13 @@ pub data IsWritten32 (l : Link) (p : Placed) : ℕ → Type 0 where
   initializer : (s : SectionId) (r x : ℕ) → Contains (initializer_sections l) s → r < (header_at l s).nreloc
       → IsAt l p 0 empty (target_of_relocation l s r) x → IsWritten32 l p x
   function : (d : EntryId) (r at extra : ℕ) → Contains (entries_of_link l) d
-      → Contains (relocations_in_entry l d.of_section d.entry START_PLACE) r → SectionAt p d.of_section.file (section_named l d.of_section r).section at
+      → Contains (relocations_in_entry l d.of_section d.entry START_PLACE) r
+      → SectionAt p d.of_section.file (section_named l d.of_section r).section at
       → (extra ≡ 0) ⊎ (extra ≡ (unwind_entry l d.of_section d.entry).length)
       → IsWritten32 l p (at + ((unwind_entry l d.of_section d.entry).start - (header_at l (section_named l d.of_section r)).addr) + extra)
   language : (d : EntryId) (r at : ℕ) → Contains (entries_of_link l) d
-      → Contains (relocations_in_entry l d.of_section d.entry LSDA_PLACE) r → SectionAt p d.of_section.file (section_named l d.of_section r).section at
+      → Contains (relocations_in_entry l d.of_section d.entry LSDA_PLACE) r
+      → SectionAt p d.of_section.file (section_named l d.of_section r).section at
       → IsWritten32 l p (at + ((unwind_entry l d.of_section d.entry).lsda - (header_at l (section_named l d.of_section r)).addr))
   personality : (t : Target) (x : ℕ) → Contains (personality_targets l) t → SlotAt p 0 t x → IsWritten32 l p x
 

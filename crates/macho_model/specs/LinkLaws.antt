@@ -1,10 +1,12 @@
 -- Laws of links: equal inputs give equal definitions, and what one input more adds.
-use Rattle.std.specs.Prelude.{◌≡◌, ℕ, true, List, [], ◌∷◌, ◌++◌, length, filter}
+use Rattle.std.specs.Prelude.{◌≡◌, ℕ, Bool, true, ◌&&◌, List, [], ◌∷◌, ◌++◌, length, filter}
 use Rattle.std.specs.List.{position_or_len}
+use Rattle.macho_records.specs.Symbols.{is_common_of}
 use Rattle.macho_model.specs.Links.{Input, Link, sections_of_file, sections_of, carried_of}
-use Rattle.macho_model.specs.Resolution.{SymbolId, same_symbol, symbols_of_file, symbols_of, definition_of, is_chosen, chosen_commons}
+use Rattle.macho_model.specs.Resolution.{SymbolId, same_symbol, symbols_of_file, symbols_of, entry_at, definition_of, defines, chosen_commons}
 use Rattle.macho_model.specs.Needs.{imports_of}
-use Rattle.macho_model.specs.Targets.{target_with, target_of, slots_of, stubs_of}
+use Rattle.macho_model.specs.Targets.{target_of, slots_of, stubs_of}
+use Rattle.macho_model.specs.Uses.{target_with}
 
 -- a name has one definition by the inputs, and a symbol one target where the same imports are noted
 abbrev pub DefinitionsAgree : Type 0
@@ -44,6 +46,10 @@ SymbolsGrow = (l : Link) (x : Input) → symbols_of (with_input l x) ≡ symbols
 
 abbrev pub SectionsGrow : Type 0
 SectionsGrow = (l : Link) (x : Input) → sections_of (with_input l x) ≡ sections_of l ++ sections_of_file (length l.inputs) x
+
+-- a common is the one that defines its name
+abbrev pub is_chosen : Link → SymbolId → Bool
+is_chosen l s = is_common_of (entry_at l s) && defines l s
 
 -- the number of a chosen common is how many chosen ones stand before it
 abbrev pub CommonsAreCounted : Type 0

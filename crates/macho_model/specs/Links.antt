@@ -40,12 +40,9 @@ abbrev pub object_bytes : Input → List ℕ
 object_bytes (Object bytes) = bytes
 object_bytes library = []
 
-abbrev pub no_input : Input
-no_input = Object []
-
--- the bytes of a file that is an object
+-- the bytes of a file that is an object, none where there is no such object
 abbrev pub object_of : Link → ℕ → List ℕ
-object_of l file = object_bytes (get_or l.inputs file no_input)
+object_of l file = object_bytes (get_or l.inputs file (Object []))
 
 -- A section of an object, by file and number.
 pub record SectionId : Type 0 where
@@ -73,13 +70,14 @@ is_carried h = not (should_exclude_of h) && not (is_initializers h) && not (is_u
 abbrev pub is_template : SectionHeader → Bool
 is_template h = is_carried h && is_template_type (type_of h)
 
-abbrev pub sections_of_file : ℕ → Input → List SectionId
-sections_of_file file (Object bytes) = map (λ k. record { file = file; section = k }) (range_with_len 0 (num_sections bytes))
-sections_of_file file library = []
+-- the numbers of an object's sections or symbols, of which `count` tells how many there are; a library has none
+abbrev pub numbers_in : (List ℕ → ℕ) → Input → List ℕ
+numbers_in count (Object bytes) = range_with_len 0 (count bytes)
+numbers_in count library = []
 
 -- all sections of all objects, by file, then section
 unfoldable pub sections_of : Link → List SectionId
-sections_of l = flat_map (λ i. sections_of_file i.0 i.1) (enumerate_from 0 l.inputs)
+sections_of l = flat_map (λ i. map (section_id i.0) (numbers_in num_sections i.1)) (enumerate_from 0 l.inputs)
 
 -- the carried ones, in the same order
 unfoldable pub carried_of : Link → List SectionId
@@ -101,3 +99,11 @@ placed_exponent l s =
     if is_template (header_at l s) then template_exponent l
     else if type_of (header_at l s) == S_THREAD_LOCAL_VARIABLES then max 3 (header_at l s).align
     else (header_at l s).align
+
+-- what stands where there is no input
+abbrev pub no_input : Input
+no_input = Object []
+
+-- the sections of one file
+abbrev pub sections_of_file : ℕ → Input → List SectionId
+sections_of_file file x = map (section_id file) (numbers_in num_sections x)

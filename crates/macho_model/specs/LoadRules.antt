@@ -1,16 +1,16 @@
--- What the loader asks of an image: a test for each rule but that on chain words (`Loader`), of one record: the header, a command, a
--- fixup table, an import.
+-- What the loader asks of an image: tests of one record: the header, a command, a segment's protections, a fixup table, an import. `Loader`
+-- has the other rules.
 use Rattle.std.specs.Prelude.{ℕ, ◌+◌, ◌*◌, ◌%◌, ◌^◌, ◌==◌, nat_eq, nat_le, ◌&&◌, ◌||◌, if◌then◌else◌, Bool, List, [], ◌∷◌, length, map, drop, get_or}
 use Rattle.std.specs.List.{list_all, list_any, range_with_len}
-use Rattle.macho_records.specs.ByteTexts.{name_of}
 use Rattle.macho_records.specs.ByteLayouts.{size_of}
 use Rattle.macho_records.specs.Layouts.{mach_header}
 use Rattle.macho_records.specs.CommandLayouts.{chained_fixups_header, chained_starts_in_segment}
-use Rattle.macho_records.specs.declared.header.SegmentCommand.{SegmentCommand}
 use Rattle.macho_records.specs.declared.constants.TheConstants.{CPU_TYPE_ARM64, LC_BUILD_VERSION, LC_CODE_SIGNATURE, LC_DYLD_CHAINED_FIXUPS, LC_DYLD_EXPORTS_TRIE, LC_ID_DYLIB, LC_LOAD_DYLIB, LC_LOAD_DYLINKER, LC_MAIN, LC_RPATH, LC_SEGMENT_64, LC_SYMTAB, LC_UUID, MH_DYLIB, MH_EXECUTE, MH_MAGIC_64}
-use Rattle.macho_model.specs.Commands.{Command, header_of, commands_end, segment_size}
+use Rattle.macho_model.specs.Commands.{Command, header_of, segment_size}
 use Rattle.macho_model.specs.ObjectRules.{has_nul}
 use Rattle.macho_model.specs.Segments.{SEGMENT_PAGE, loaded_protection_of}
+use Rattle.macho_records.specs.declared.header.SegmentCommand.{SegmentCommand}
+use Rattle.macho_records.specs.ByteTexts.{name_of}
 use Rattle.macho_model.specs.Images.{segments_of, base_of, libraries_of, Table, fixups_header, starts_count, starts_offset, segment_starts, import_entry_size, import_entry, table_names, POINTER_FORMAT, IMPORT_FORMAT, IMPORT_ADDEND_FORMAT}
 
 -- L1: a whole 64-bit arm64 header of an executable or a dynamic library
@@ -31,25 +31,6 @@ needed_in_image b c =
 abbrev pub protections_fit : SegmentCommand → Bool
 protections_fit s = (s.maxprot == loaded_protection_of (name_of s.segname)) && (s.initprot == loaded_protection_of (name_of s.segname))
 
--- L4: a segment's file bytes stand inside the file, and are at most its bytes in memory
-abbrev pub file_part_inside : List ℕ → SegmentCommand → Bool
-file_part_inside b s = nat_le (s.fileoff + s.filesize) (length b) && nat_le s.filesize s.vmsize
-
--- L5: a segment is made of whole pages
-abbrev pub segment_is_paged : SegmentCommand → Bool
-segment_is_paged s = (s.vmaddr % SEGMENT_PAGE == 0) && (s.vmsize % SEGMENT_PAGE == 0) && (s.fileoff % SEGMENT_PAGE == 0)
-
--- L6: a segment ends at 2 ^ 64 at most, and the one behind it does not begin before that
-abbrev pub segment_ends : SegmentCommand → Bool
-segment_ends s = nat_le (s.vmaddr + s.vmsize) (2 ^ 64)
-
-abbrev pub begins_behind : SegmentCommand → SegmentCommand → Bool
-begins_behind s t = nat_le (s.vmaddr + s.vmsize) t.vmaddr
-
--- L7, of the text segment: it begins the file and holds the load commands
-abbrev pub text_holds_commands : List ℕ → SegmentCommand → Bool
-text_holds_commands b s = (s.fileoff == 0) && nat_le (commands_end b) s.filesize
-
 -- the address of a segment by its number, 0 where there is none
 abbrev pub segment_address : List ℕ → ℕ → ℕ
 segment_address b k = get_or (map (λ s. s.vmaddr) (segments_of b)) k 0
@@ -60,7 +41,8 @@ starts_fit b t k =
     let s = segment_starts b t k in
     (starts_offset b t k == 0)
     || (nat_le ((fixups_header b t).starts_offset + starts_offset b t k + size_of chained_starts_in_segment + 2 * s.page_count) t.size
-    && (s.page_size == SEGMENT_PAGE) && (s.pointer_format == POINTER_FORMAT) && ((s.segment_offset + base_of b) % 2 ^ 64 == segment_address b k))
+    && (s.page_size == SEGMENT_PAGE) && (s.pointer_format == POINTER_FORMAT)
+    && ((s.segment_offset + base_of b) % 2 ^ 64 == segment_address b k))
 
 -- L8, of a table: it stands inside the file, and its header is whole and has known versions and formats; starts of segments that are there,
 -- import entries and names stand inside it

@@ -1,6 +1,6 @@
 -- When the loader accepts an image: the tests of `LoadRules`, asked of each record, and of each word on the chain. A
 -- refusal names a rule and the file offset of what breaks it.
-use Rattle.std.specs.Prelude.{◌≡◌, ℕ, ◌+◌, ◌-◌, ◌<◌, ◌≤◌, ◌⊎◌, ◌==◌, Bool, true, false, List, [], length, filter, All, Contains, ◌*◌}
+use Rattle.std.specs.Prelude.{◌≡◌, ℕ, ◌+◌, ◌-◌, ◌<◌, ◌≤◌, ◌⊎◌, ◌==◌, Bool, true, false, List, [], length, filter, All, Contains, ◌*◌, ◌^◌, nat_le, ◌&&◌, ◌%◌}
 use Rattle.macho_records.specs.Numbers.{bits}
 use Rattle.macho_records.specs.ByteLayouts.{reading}
 use Rattle.macho_records.specs.Layouts.{segment_command}
@@ -9,14 +9,15 @@ use Rattle.macho_model.specs.declared.rules.LoadRule.{LoadRule}
 use Rattle.macho_model.specs.declared.rules.LoadRule.TheVariants.{L1, L2, L3, L4, L5, L6, L7, L8, L9, L10}
 use Rattle.macho_records.specs.declared.constants.TheConstants.{LC_DYLD_CHAINED_FIXUPS, LC_SEGMENT_64}
 use Rattle.macho_model.specs.Lists.{IsNumber, EachNext, of_first}
-use Rattle.macho_model.specs.Commands.{Command, commands_of, numbered, command_fits}
+use Rattle.macho_model.specs.Commands.{Command, commands_of, numbered, command_fits, commands_end}
 use Rattle.macho_model.specs.ObjectRules.{commands_inside}
 use Rattle.macho_model.specs.Grammar.{EachCommand, CommandFails}
 use Rattle.macho_model.specs.Segments.{TEXT, SEGMENT_PAGE}
 use Rattle.macho_model.specs.Images.{segments_of, is_named, segments_named, Table, table_of_command, tables_of, fixups_header, import_place}
 use Rattle.macho_model.specs.Chain.{chain_segment, chain_segments, IsFileWord, OnPageChain}
 use Rattle.macho_model.specs.Needs.{POINTER_SIZE}
-use Rattle.macho_model.specs.LoadRules.{image_head_fits, needed_in_image, protections_fit, file_part_inside, segment_is_paged, segment_ends, begins_behind, text_holds_commands, table_fits, import_fits}
+use Rattle.macho_model.specs.LoadRules.{image_head_fits, needed_in_image, protections_fit, table_fits, import_fits}
+use Rattle.macho_model.specs.SegmentRules.{file_part_inside, segment_is_paged, segment_ends, begins_behind, text_holds_commands}
 
 -- a chain word binds an import, by number, or moves with the image (`mach-o/fixup-chains.h`)
 abbrev pub is_bind : ℕ → Bool
@@ -25,30 +26,33 @@ is_bind word = bits 63 1 word == 1
 abbrev pub ordinal_of : ℕ → ℕ
 ordinal_of word = bits 0 24 word
 
-abbrev pub is_writable : SegmentCommand → Bool
-is_writable s = bits 1 1 s.initprot == 1
-
-abbrev pub import_count : List ℕ → List Table → ℕ
-import_count b tables = of_first 0 (λ t. (fixups_header b t).imports_count) tables
-
 -- L10: a word of a page's chain stands whole in that page and in the file bytes of the page's segment, which may be written
 -- to; and its import exists
 pub record WordFits (b : List ℕ) (s : SegmentCommand) (page a : ℕ) : Type 0 where
-  pub writable : is_writable s ≡ true
+  pub writable : (bits 1 1 s.initprot == 1) ≡ true
   pub page_from : s.vmaddr + SEGMENT_PAGE * page ≤ a
   pub page_to : a + POINTER_SIZE ≤ s.vmaddr + SEGMENT_PAGE * (page + 1)
   pub to : a + POINTER_SIZE ≤ s.vmaddr + s.filesize
-  pub import : (word : ℕ) → IsFileWord (chain_segments b) b a word → is_bind word ≡ true → ordinal_of word < import_count b (tables_of b)
+  pub import : (word : ℕ) → IsFileWord (chain_segments b) b a word → is_bind word ≡ true
+      → ordinal_of word < of_first 0 (λ t. (fixups_header b t).imports_count) (tables_of b)
 
 -- THE loader accepts an image: one field for each rule.
 pub record IsAccepted (b : List ℕ) : Type 0 where
   pub l1 : image_head_fits b ≡ true
   pub l2 : (commands_inside b ≡ true) × EachCommand (commands_of b) (command_fits (needed_in_image b) b)
+  -- each segment has the protections of its name
   pub l3 : All (λ s. protections_fit s ≡ true) (segments_of b)
-  pub l4 : All (λ s. file_part_inside b s ≡ true) (segments_of b)
-  pub l5 : All (λ s. segment_is_paged s ≡ true) (segments_of b)
-  pub l6 : All (λ s. segment_ends s ≡ true) (segments_of b) × EachNext (λ s t. begins_behind s t ≡ true) (segments_of b)
-  pub l7 : (length (segments_named TEXT b) ≡ 1) × All (λ s. text_holds_commands b s ≡ true) (segments_named TEXT b)
+  -- its bytes lie in the file, and are no more than it has in memory
+  pub l4 : All (λ s. (nat_le (s.fileoff + s.filesize) (length b) && nat_le s.filesize s.vmsize) ≡ true) (segments_of b)
+  -- it is made of whole pages
+  pub l5 : All (λ s. ((s.vmaddr % SEGMENT_PAGE == 0) && (s.vmsize % SEGMENT_PAGE == 0) && (s.fileoff % SEGMENT_PAGE == 0)) ≡ true)
+      (segments_of b)
+  -- segments end in the address space, and begin behind the end of the one before
+  pub l6 : All (λ s. nat_le (s.vmaddr + s.vmsize) (2 ^ 64) ≡ true) (segments_of b)
+      × EachNext (λ s t. nat_le (s.vmaddr + s.vmsize) t.vmaddr ≡ true) (segments_of b)
+  -- the one `__TEXT` holds the header and the load commands
+  pub l7 : (length (segments_named TEXT b) ≡ 1)
+      × All (λ s. ((s.fileoff == 0) && nat_le (commands_end b) s.filesize) ≡ true) (segments_named TEXT b)
   pub l8 : (length (tables_of b) ≤ 1) × All (λ t. table_fits b t ≡ true) (tables_of b)
   pub l9 : (t : Table) (k : ℕ) → Contains (tables_of b) t → k < (fixups_header b t).imports_count → import_fits b t k ≡ true
   pub l10 : (number : ℕ) (s : SegmentCommand) (page a : ℕ) → IsNumber (segments_of b) number s

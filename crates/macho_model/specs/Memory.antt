@@ -1,6 +1,6 @@
 -- The memory of a loaded image, at a slide and for a choice of import addresses: each segment's file bytes, then zeros;
 -- and in place of the bytes of each word on the chain, the word that the loader makes of it.
-use Rattle.std.specs.Prelude.{◌≡◌, ℕ, ◌+◌, ◌*◌, ◌-◌, ◌%◌, ◌^◌, ◌<◌, ◌≤◌, ◌⊎◌, nat_lt, if◌then◌else◌, Bool, true, false, List, length, slice_index, Option, Some, All, Contains}
+use Rattle.std.specs.Prelude.{◌≡◌, ℕ, ◌+◌, ◌*◌, ◌-◌, ◌%◌, ◌^◌, ◌<◌, ◌≤◌, ◌⊎◌, nat_lt, if◌then◌else◌, Bool, true, false, List, length, slice_index, Option, Some, Contains}
 use Rattle.std.specs.FinMap.{FinMap, get}
 use Rattle.std.specs.Ordering.{ordering_then, nat_cmp}
 use Rattle.std.specs.declared.cmp.Ordering.{Ordering}
@@ -30,10 +30,6 @@ BindsAll b choice =
     (t : Table) (k : ℕ) → Contains (tables_of b) t → k < (fixups_header b t).imports_count
     → (x : ℕ) × (x < 2 ^ 64) × (chosen choice (import_library_name b (import_entry b t k)) (import_name b t (import_entry b t k)) ≡ Some x)
 
--- a slide fits an image: no mapped segment passes 2 ^ 64
-abbrev pub FitsSlide : List ℕ → ℕ → Type 0
-FitsSlide b s = All (λ segment. segment.vmaddr + segment.vmsize + s ≤ 2 ^ 64) (mapped_segments b)
-
 -- the parts of a word that moves with the image: its target from the base, and the highest byte of the pointer
 abbrev pub rebase_target : ℕ → ℕ
 rebase_target word = bits 0 36 word
@@ -51,8 +47,8 @@ pub record IsBound (b : List ℕ) (choice : Choice) (word value : ℕ) : Type 0 
   pub one : Contains (tables_of b) table
   pub import : ordinal_of word < (fixups_header b table).imports_count
   pub address : ℕ
-  pub chooses : chosen choice (import_library_name b (import_entry b table (ordinal_of word))) (import_name b table (import_entry b table (ordinal_of word)))
-      ≡ Some address
+  pub chooses : chosen choice (import_library_name b (import_entry b table (ordinal_of word)))
+      (import_name b table (import_entry b table (ordinal_of word))) ≡ Some address
   pub is : value ≡ (address + (import_entry b table (ordinal_of word)).addend + bind_addend word) % 2 ^ 64
 
 -- what the loader makes of a word, at a slide

@@ -1,7 +1,8 @@
 -- What the objects ask for, in the order of one walk: carried relocations, then initializers, then personality
 -- functions of unwind entries, then the plain names of the export lists. From it come imports and libraries.
-use Rattle.std.specs.Prelude.{ℕ, ◌+◌, ◌-◌, ◌*◌, ◌/◌, ◌==◌, ◌&&◌, ◌||◌, not, if◌then◌else◌, Bool, true, false, List, [], ◌∷◌, ◌++◌, map, filter, Option, Some, None}
+use Rattle.std.specs.Prelude.{ℕ, ◌+◌, ◌-◌, ◌*◌, ◌/◌, ◌==◌, ◌&&◌, ◌||◌, not, if◌then◌else◌, Bool, List, [], ◌∷◌, ◌++◌, map, filter, Option, Some, None, is_some, get_or}
 use Rattle.std.specs.List.{flat_map, filter_map, range_with_len, list_any}
+use Rattle.std.specs.Option.{unwrap_or}
 use Rattle.std.specs.Str.{bytes_eq}
 use Rattle.macho_records.specs.RelocationInfo.{RelocationInfo}
 use Rattle.macho_records.specs.Sections.{should_exclude_of}
@@ -9,8 +10,8 @@ use Rattle.macho_records.specs.declared.constants.TheConstants.{ARM64_RELOC_ADDE
 use Rattle.macho_records.specs.Symbols.{is_global}
 use Rattle.macho_model.specs.Objects.{relocation_at}
 use Rattle.macho_model.specs.ExportLists.{plain_entries}
-use Rattle.macho_model.specs.Links.{Link, object_of, SectionId, header_at, is_initializers, is_unwind_entries, sections_of, carried_of}
-use Rattle.macho_model.specs.Resolution.{SymbolId, Definition, Library, definition_of, entry_at, name_at, library_name, library_of_input}
+use Rattle.macho_model.specs.Links.{Object, Link, object_of, SectionId, header_at, is_initializers, is_unwind_entries, sections_of, carried_of}
+use Rattle.macho_model.specs.Resolution.{SymbolId, definition_of, entry_at, name_at, library_in, library_of_input}
 
 -- the bytes of a pointer, a slot or a word on a chain and of a compact unwind entry, and the place of the personality in the latter
 -- (`mach-o/compact_unwind_encoding.h`)
@@ -23,12 +24,9 @@ UNWIND_ENTRY_SIZE = 32
 abbrev pub PERSONALITY_PLACE : ℕ
 PERSONALITY_PLACE = 16
 
--- A use of a symbol: by a relocation of a section, or by a name of an export list.
-pub data Use : Type 0 where
-  ByRelocation : (s : SectionId) (relocation : ℕ) → Use
-  ByInitializer : (s : SectionId) (relocation : ℕ) → Use
-  ByPersonality : (s : SectionId) (relocation : ℕ) → Use
-  ByName : (name : List ℕ) → Use
+-- A relocation of an object, by its section and number.
+abbrev pub RelocationId : Type 0
+RelocationId = SectionId × ℕ
 
 abbrev pub relocation_in : Link → SectionId → ℕ → RelocationInfo
 relocation_in l s r = relocation_at (object_of l s.file) s.section r
@@ -52,30 +50,21 @@ initializer_sections l = filter (λ s. not (should_exclude_of (header_at l s)) &
 unfoldable pub unwind_sections : Link → List SectionId
 unwind_sections l = filter (λ s. not (should_exclude_of (header_at l s)) && is_unwind_entries (header_at l s)) (sections_of l)
 
-abbrev pub carried_uses : Link → SectionId → List Use
-carried_uses l s = map (ByRelocation s) (relocations_of l s)
+-- the relocations of carried sections, by file, then section
+unfoldable pub carried_relocations : Link → List RelocationId
+carried_relocations l = flat_map (λ s. map (λ r. (s, r)) (relocations_of l s)) (carried_of l)
 
-abbrev pub initializer_uses : Link → SectionId → List Use
-initializer_uses l s =
-    flat_map (λ slot. map (ByInitializer s) (relocations_at l s (POINTER_SIZE * slot))) (range_with_len 0 ((header_at l s).size / POINTER_SIZE))
+-- the relocations at one place in each record of a section, whose records have this size
+abbrev pub relocations_in_records : Link → ℕ → ℕ → SectionId → List RelocationId
+relocations_in_records l size place s =
+    flat_map (λ k. map (λ r. (s, r)) (relocations_at l s (size * k + place))) (range_with_len 0 ((header_at l s).size / size))
 
-abbrev pub personality_uses : Link → SectionId → List Use
-personality_uses l s =
-    flat_map (λ entry. map (ByPersonality s) (relocations_at l s (UNWIND_ENTRY_SIZE * entry + PERSONALITY_PLACE)))
-    (range_with_len 0 ((header_at l s).size / UNWIND_ENTRY_SIZE))
+-- those of initializers, by slot, and those of personality functions, by entry
+unfoldable pub initializer_relocations : Link → List RelocationId
+initializer_relocations l = flat_map (relocations_in_records l POINTER_SIZE 0) (initializer_sections l)
 
--- a name is defined by a library
-abbrev pub is_library : Option Definition → Bool
-is_library (Some (Library file)) = true
-is_library d = false
-
-abbrev pub is_imported : Link → List ℕ → Bool
-is_imported l name = is_library (definition_of l name)
-
-unfoldable pub uses_of : Link → List Use
-uses_of l =
-    flat_map (carried_uses l) (carried_of l) ++ flat_map (initializer_uses l) (initializer_sections l)
-    ++ flat_map (personality_uses l) (unwind_sections l) ++ map ByName (filter (is_imported l) (plain_entries l.export_lists))
+unfoldable pub personality_relocations : Link → List RelocationId
+personality_relocations l = flat_map (relocations_in_records l UNWIND_ENTRY_SIZE PERSONALITY_PLACE) (unwind_sections l)
 
 -- the symbol that a relocation names, if it names one
 abbrev pub symbol_of_relocation : Link → SectionId → ℕ → Option SymbolId
@@ -83,41 +72,30 @@ symbol_of_relocation l s r =
     if (relocation_in l s r).r_extern && not ((relocation_in l s r).r_type == ARM64_RELOC_ADDEND)
     then Some (record { file = s.file; symbol = (relocation_in l s r).r_symbolnum }) else None
 
-abbrev pub symbol_used : Link → Use → Option SymbolId
-symbol_used l (ByRelocation s r) = symbol_of_relocation l s r
-symbol_used l (ByInitializer s r) = symbol_of_relocation l s r
-symbol_used l (ByPersonality s r) = symbol_of_relocation l s r
-symbol_used l (ByName name) = None
-
--- the global name that a symbol stands for
-abbrev pub global_name : Link → Option SymbolId → Option (List ℕ)
-global_name l None = None
-global_name l (Some s) = if is_global (entry_at l s) then Some (name_at l s) else None
-
--- the global name that is used, if one is
-abbrev pub name_used : Link → Use → Option (List ℕ)
-name_used l (ByRelocation s r) = global_name l (symbol_of_relocation l s r)
-name_used l (ByInitializer s r) = global_name l (symbol_of_relocation l s r)
-name_used l (ByPersonality s r) = global_name l (symbol_of_relocation l s r)
-name_used l (ByName name) = Some name
+-- the global symbols that some relocations name, in order
+abbrev pub globals_used : Link → List RelocationId → List SymbolId
+globals_used l us = filter (λ s. is_global (entry_at l s)) (filter_map (λ u. symbol_of_relocation l u.0 u.1) us)
 
 -- a list with repeats taken out: each element stands where it stood first
 abbrev pub distinct : {X : Type 0} → (X → X → Bool) → List X → List X
 distinct same [] = []
 distinct same (x ∷ xs) = x ∷ filter (λ y. not (same x y)) (distinct same xs)
 
+abbrev pub is_imported : Link → List ℕ → Bool
+is_imported l name = is_some (library_in (definition_of l name))
+
 -- the imported names, by first use; an import is numbered by its place here
 unfoldable pub imports_of : Link → List (List ℕ)
-imports_of l = distinct bytes_eq (filter (is_imported l) (filter_map (name_used l) (uses_of l)))
-
--- the number of the library that defines a name, 0 for any other name
-abbrev pub library_file : Option Definition → ℕ
-library_file (Some (Library file)) = file
-library_file d = 0
+imports_of l =
+    distinct bytes_eq (filter (is_imported l)
+    (map (name_at l) (globals_used l (carried_relocations l ++ initializer_relocations l ++ personality_relocations l))
+    ++ plain_entries l.export_lists))
 
 -- the install name of the library that an import is bound to
 abbrev pub import_library : Link → List ℕ → List ℕ
-import_library l name = library_name l (library_file (definition_of l name))
+import_library l name =
+    let file = unwrap_or (library_in (definition_of l name)) 0 in
+    unwrap_or (library_of_input (get_or l.inputs file (Object []))) []
 
 -- the libraries of the image, by install name in input order: all of them, or only those that an import is bound to
 unfoldable pub libraries_needed : Link → List (List ℕ)

@@ -1,37 +1,28 @@
 -- The output sections of an image: which there are, in which order they stand, and the header of each
 -- (`struct section_64` of `mach-o/loader.h`).
-use Rattle.std.specs.Prelude.{ℕ, ◌+◌, ◌-◌, ◌%◌, ◌^◌, ◌==◌, nat_lt, ◌&&◌, ◌||◌, not, if◌then◌else◌, Bool, true, false, List, [], ◌∷◌, ◌++◌, length, map, filter, min, codes, bit_and, bit_or, fold}
-use Rattle.std.specs.List.{flat_map, list_any}
+use Rattle.std.specs.Prelude.{ℕ, ◌+◌, ◌-◌, ◌%◌, ◌^◌, ◌==◌, nat_lt, ◌&&◌, not, if◌then◌else◌, Bool, true, false, List, [], ◌∷◌, ◌++◌, length, map, filter, min, codes, bit_and, bit_or, fold}
+use Rattle.std.specs.List.{flat_map}
 use Rattle.std.specs.Str.{bytes_eq}
 use Rattle.macho_records.specs.declared.header.SectionHeader.{SectionHeader}
 use Rattle.macho_records.specs.declared.constants.TheConstants.{S_ATTR_EXT_RELOC, S_ATTR_LOC_RELOC, S_ATTR_PURE_INSTRUCTIONS, S_ATTR_SOME_INSTRUCTIONS, S_INIT_FUNC_OFFSETS, S_NON_LAZY_SYMBOL_POINTERS, S_SYMBOL_STUBS, S_THREAD_LOCAL_REGULAR, S_THREAD_LOCAL_ZEROFILL}
 use Rattle.macho_records.specs.Sections.{has_instructions, is_zerofill_type}
 use Rattle.macho_records.specs.Segments.{name_field}
-use Rattle.macho_records.specs.Symbols.{common_exponent_of}
 use Rattle.macho_model.specs.declared.placed.Counts.{Counts}
-use Rattle.macho_model.specs.declared.placed.PlacedSection.{PlacedSection}
-use Rattle.macho_model.specs.declared.placed.PlacedCommon.{PlacedCommon}
-use Rattle.macho_model.specs.declared.placed.Slot.{Slot}
-use Rattle.macho_model.specs.declared.placed.Stub.{Stub}
-use Rattle.macho_model.specs.Links.{Link, SectionId, header_at, carried_of, placed_exponent, greatest}
-use Rattle.macho_model.specs.Resolution.{entry_at}
+use Rattle.macho_model.specs.Links.{Link, header_at, carried_of, greatest}
 use Rattle.macho_model.specs.Targets.{slots_of, stubs_of}
 use Rattle.macho_model.specs.Segments.{TEXT, DATA_CONST, DATA, OutputKey, same_key, key_of, common_key, output_keys_of, segment_names_of, list_if}
 use Rattle.macho_model.specs.WrittenSum.{STUB_SIZE}
-use Rattle.macho_model.specs.Placement.{Placed, Span, id_of, section_span, common_of, common_span, slot_span, stub_span, range_span, is_segment_named}
+use Rattle.macho_model.specs.Placement.{Placed, Piece, end_of_piece, id_of, section_piece, common_piece, slot_piece, stub_piece, range_piece, is_segment_named}
 use Rattle.macho_model.specs.Lists.{of_first}
 
--- An output section: sections of the objects that are merged, or one that the linker makes.
-pub data OutputSection : Type 0 where
-  Merged : (key : OutputKey) → OutputSection
-  InitOffsets : OutputSection
-  UnwindInfo : OutputSection
-  Stubs : OutputSection
-  Slots : OutputSection
-
--- the carried sections that are merged under a key, by file, then section
-abbrev pub members_of : Link → OutputKey → List SectionId
-members_of l key = filter (λ s. same_key (key_of (header_at l s)) key) (carried_of l)
+-- An output section: its segment, name and type; whether it is merged from what the objects have (sections or commons), else the linker
+-- makes it; its flags; the size of a stub in it, 0 where it has none; and the pieces that it has in a placement.
+pub record OutputSection : Type 0 where
+  pub key : OutputKey
+  pub is_merged : Bool
+  pub flags : ℕ
+  pub stub_size : ℕ
+  pub pieces : Placed → List Piece
 
 -- all flags but those that tell of relocations in an object
 abbrev pub KEPT_FLAGS : ℕ
@@ -39,79 +30,69 @@ KEPT_FLAGS = 2 ^ 32 - 1 - S_ATTR_EXT_RELOC - S_ATTR_LOC_RELOC
 
 -- the joined flags of what is merged
 abbrev pub flags_of_key : Link → OutputKey → ℕ
-flags_of_key l key = bit_and (fold bit_or key.type (map (λ s. (header_at l s).flags) (members_of l key))) KEPT_FLAGS
+flags_of_key l key =
+    bit_and (fold bit_or key.type
+    (map (λ s. (header_at l s).flags) (filter (λ s. same_key (key_of (header_at l s)) key) (carried_of l)))) KEPT_FLAGS
 
--- what a merged section is: zeros without file bytes, or data, of which some is instructions
+-- what an output section is: zeros without file bytes, or data; and whether merged data has instructions in it
 abbrev pub is_zeros : OutputKey → Bool
 is_zeros key = is_zerofill_type key.type
 
 abbrev pub is_code : Link → OutputKey → Bool
 is_code l key = not (is_zeros key) && has_instructions (flags_of_key l key)
 
+-- what is merged under a key: the carried sections that have it, as the placement lists them; behind those of `__common` the chosen commons
+abbrev pub merged : Link → OutputKey → OutputSection
+merged l key =
+    let pieces : Placed → List Piece = λ p. map (section_piece l) (filter (λ q. same_key (key_of (header_at l (id_of q))) key) p.sections)
+    ++ list_if (same_key common_key key) (map (common_piece l) p.commons) in
+    record { key = key; is_merged = true; flags = flags_of_key l key; stub_size = 0; pieces = pieces }
+
+-- a section that the linker makes where something is in it: its segment, its name, its flags (the low byte is the type), the size of a stub,
+-- its pieces
+abbrev pub made : Bool → List ℕ → List ℕ → ℕ → ℕ → (Placed → List Piece) → List OutputSection
+made some segment name flags stub_size pieces =
+    let key : OutputKey = record { segment = segment; name = name; type = flags % 256 } in
+    list_if some (record { key = key; is_merged = false; flags = flags; stub_size = stub_size; pieces = pieces } ∷ [])
+
 -- the merged sections of a segment that pass a test, as first seen
 abbrev pub merged_in : Link → List ℕ → (OutputKey → Bool) → List OutputSection
-merged_in l segment test = map Merged (filter (λ key. bytes_eq key.segment segment && test key) (output_keys_of l))
+merged_in l segment test = map (merged l) (filter (λ key. bytes_eq key.segment segment && test key) (output_keys_of l))
 
--- The output sections of `__TEXT`: code, then what the linker makes, then other data, then zeros.
+-- The output sections of `__TEXT`: code, then what the linker makes, then other data, then zeros. Offsets of initializers and unwind
+-- information stand at multiples of 4.
 abbrev pub sections_of_text : Link → Counts → List OutputSection
 sections_of_text l counts =
-    merged_in l TEXT (is_code l) ++ list_if (nat_lt 0 counts.initializers) (InitOffsets ∷ []) ++ list_if (nat_lt 0 counts.unwind) (UnwindInfo ∷ [])
-    ++ list_if (not (length (stubs_of l) == 0)) (Stubs ∷ []) ++ merged_in l TEXT (λ key. not (is_zeros key) && not (is_code l key))
-    ++ merged_in l TEXT is_zeros
+    merged_in l TEXT (is_code l)
+    ++ made (nat_lt 0 counts.initializers) TEXT (codes "__init_offsets") S_INIT_FUNC_OFFSETS 0 (λ p. range_piece 2 p.init_offsets ∷ [])
+    ++ made (nat_lt 0 counts.unwind) TEXT (codes "__unwind_info") 0 0 (λ p. range_piece 2 p.unwind ∷ [])
+    ++ made (not (length (stubs_of l) == 0)) TEXT (codes "__stubs") (S_SYMBOL_STUBS + S_ATTR_PURE_INSTRUCTIONS + S_ATTR_SOME_INSTRUCTIONS)
+    STUB_SIZE (λ p. map stub_piece p.stubs)
+    ++ merged_in l TEXT (λ key. not (is_zeros key) && not (is_code l key)) ++ merged_in l TEXT is_zeros
 
 -- Of `__DATA`: data; the initial values of thread-local variables, first those with bytes; commons; other zeros.
 abbrev pub sections_of_data : Link → List OutputSection
 sections_of_data l =
-    merged_in l DATA (λ key. not (is_zeros key) && not (key.type == S_THREAD_LOCAL_REGULAR)) ++ merged_in l DATA (λ key. key.type == S_THREAD_LOCAL_REGULAR)
+    merged_in l DATA (λ key. not (is_zeros key) && not (key.type == S_THREAD_LOCAL_REGULAR))
+    ++ merged_in l DATA (λ key. key.type == S_THREAD_LOCAL_REGULAR)
     ++ merged_in l DATA (λ key. key.type == S_THREAD_LOCAL_ZEROFILL) ++ merged_in l DATA (same_key common_key)
     ++ merged_in l DATA (λ key. is_zeros key && not (key.type == S_THREAD_LOCAL_ZEROFILL) && not (same_key common_key key))
 
 -- Of any other segment: data, then zeros; in `__DATA_CONST` behind the slots.
 abbrev pub sections_of_other : Link → List ℕ → List OutputSection
 sections_of_other l segment =
-    list_if (bytes_eq segment DATA_CONST && not (length (slots_of l) == 0)) (Slots ∷ []) ++ merged_in l segment (λ key. not (is_zeros key))
-    ++ merged_in l segment is_zeros
+    made (bytes_eq segment DATA_CONST && not (length (slots_of l) == 0)) DATA_CONST (codes "__got") S_NON_LAZY_SYMBOL_POINTERS 0
+    (λ p. map slot_piece p.slots)
+    ++ merged_in l segment (λ key. not (is_zeros key)) ++ merged_in l segment is_zeros
 
 -- the output sections of a segment, and of the image, in the order in which they stand
 abbrev pub output_sections_in : Link → Counts → List ℕ → List OutputSection
 output_sections_in l counts segment =
-    if bytes_eq segment TEXT then sections_of_text l counts else if bytes_eq segment DATA then sections_of_data l else sections_of_other l segment
+    if bytes_eq segment TEXT then sections_of_text l counts
+    else if bytes_eq segment DATA then sections_of_data l else sections_of_other l segment
 
 unfoldable pub output_sections_of : Link → Counts → List OutputSection
 output_sections_of l counts = flat_map (output_sections_in l counts) (segment_names_of l)
-
--- A piece of the image: a range of addresses, and its alignment as an exponent of 2.
-pub record Piece : Type 0 where
-  pub start : ℕ
-  pub size : ℕ
-  pub exponent : ℕ
-
-abbrev pub piece : ℕ → Span → Piece
-piece exponent span = record { start = span.start; size = span.size; exponent = exponent }
-
-abbrev pub end_of_piece : Piece → ℕ
-end_of_piece c = c.start + c.size
-
--- the alignments of what the linker makes: pointers of 8 bytes, instructions and offsets of 4
-abbrev pub POINTER_EXPONENT : ℕ
-POINTER_EXPONENT = 3
-
-abbrev pub WORD_EXPONENT : ℕ
-WORD_EXPONENT = 2
-
--- the placed sections that are merged under a key, as the placement lists them
-abbrev pub placed_members : Link → Placed → OutputKey → List PlacedSection
-placed_members l p key = filter (λ q. same_key (key_of (header_at l (id_of q))) key) p.sections
-
--- The pieces that an output section is made of; behind the sections of `__common` stand the chosen commons.
-unfoldable pub pieces_of : Link → Placed → OutputSection → List Piece
-pieces_of l p (Merged key) =
-    map (λ q. piece (placed_exponent l (id_of q)) (section_span l q)) (placed_members l p key)
-    ++ list_if (same_key common_key key) (map (λ c. piece (common_exponent_of (entry_at l (common_of l c.id))) (common_span l c)) p.commons)
-pieces_of l p InitOffsets = piece WORD_EXPONENT (range_span p.init_offsets) ∷ []
-pieces_of l p UnwindInfo = piece WORD_EXPONENT (range_span p.unwind) ∷ []
-pieces_of l p Stubs = map (λ s. piece WORD_EXPONENT (stub_span s)) p.stubs
-pieces_of l p Slots = map (λ s. piece POINTER_EXPONENT (slot_span s)) p.slots
 
 -- the least of some numbers, 0 of none
 abbrev pub least : List ℕ → ℕ
@@ -126,51 +107,29 @@ around cs = record {
   exponent = greatest (map (λ c. c.exponent) cs);
 }
 
-abbrev pub extent_of : Link → Placed → OutputSection → Piece
-extent_of l p o = around (pieces_of l p o)
-
--- the segment, the name and the type of an output section
-abbrev pub key_of_output : OutputSection → OutputKey
-key_of_output (Merged key) = key
-key_of_output InitOffsets = record { segment = TEXT; name = codes "__init_offsets"; type = S_INIT_FUNC_OFFSETS }
-key_of_output UnwindInfo = record { segment = TEXT; name = codes "__unwind_info"; type = 0 }
-key_of_output Stubs = record { segment = TEXT; name = codes "__stubs"; type = S_SYMBOL_STUBS }
-key_of_output Slots = record { segment = DATA_CONST; name = codes "__got"; type = S_NON_LAZY_SYMBOL_POINTERS }
-
-abbrev pub flags_of_output : Link → OutputSection → ℕ
-flags_of_output l (Merged key) = flags_of_key l key
-flags_of_output l Stubs = S_SYMBOL_STUBS + S_ATTR_PURE_INSTRUCTIONS + S_ATTR_SOME_INSTRUCTIONS
-flags_of_output l o = (key_of_output o).type
-
--- `reserved2` of stubs is the size of one
-abbrev pub stub_size_of : OutputSection → ℕ
-stub_size_of Stubs = STUB_SIZE
-stub_size_of o = 0
-
--- the file offset of an address of a segment; 0 of zeros, which have no bytes in the file, and where there is no such segment
-abbrev pub file_offset_of : Placed → OutputKey → ℕ → ℕ
-file_offset_of p key address =
-    if is_zeros key then 0
-    else of_first 0 (λ s. s.file_offset + (address - s.address)) (filter (is_segment_named key.segment) p.segments)
+abbrev pub extent_of : Placed → OutputSection → Piece
+extent_of p o = around (o.pieces p)
 
 -- the header of an output section
-abbrev pub output_header : Link → Placed → OutputSection → SectionHeader
-output_header l p o = record {
-  sectname = name_field (key_of_output o).name;
-  segname = name_field (key_of_output o).segment;
-  addr = (extent_of l p o).start;
-  size = (extent_of l p o).size;
-  -- of 32 bits, which are passed only in a placement that is kept because of that
-  offset = file_offset_of p (key_of_output o) (extent_of l p o).start % 2 ^ 32;
-  align = (extent_of l p o).exponent;
+abbrev pub output_header : Placed → OutputSection → SectionHeader
+output_header p o = record {
+  sectname = name_field o.key.name;
+  segname = name_field o.key.segment;
+  addr = (extent_of p o).start;
+  size = (extent_of p o).size;
+  -- 0 for zeros, which have no bytes in the file; the low 32 bits, since a placement that a refusal keeps may have more
+  offset = (if is_zeros o.key then 0
+      else of_first 0 (λ s. s.file_offset + ((extent_of p o).start - s.address))
+      (filter (is_segment_named o.key.segment) p.segments)) % 2 ^ 32;
+  align = (extent_of p o).exponent;
   reloff = 0;
   nreloc = 0;
-  flags = flags_of_output l o;
+  flags = o.flags;
   reserved1 = 0;
-  reserved2 = stub_size_of o;
+  reserved2 = o.stub_size;
   reserved3 = 0;
 }
 
 -- THE section headers of an image, in the order in which the sections stand
 unfoldable pub output_sections_for : Link → Counts → Placed → List SectionHeader
-output_sections_for l counts p = map (output_header l p) (output_sections_of l counts)
+output_sections_for l counts p = map (output_header p) (output_sections_of l counts)

@@ -9,7 +9,7 @@ use Rattle.macho_model.specs.Links.{Link, SectionId, header_at}
 use Rattle.macho_model.specs.Needs.{relocation_in}
 use Rattle.macho_model.specs.Targets.{target_of_relocation, is_import, is_defined}
 use Rattle.macho_model.specs.Fields.{content_of, has_subtrahend, has_addend, is_pair}
-use Rattle.macho_model.specs.Words.{is_adrp, is_branch, is_add, is_ldr, is_load_store, written_register, REGISTER_31}
+use Rattle.macho_model.specs.Words.{is_adrp, is_branch, is_add, is_ldr, is_load_store, written_register}
 
 -- a relocation's length, whether it is relative to its place, and whether it names a symbol
 abbrev pub has_form : RelocationInfo → ℕ → Bool → Bool → Bool
@@ -40,7 +40,8 @@ pointer_fits l s r =
 abbrev pub defined_or_import : Target → Bool
 defined_or_import t = is_defined t || is_import t
 
--- A relocation is supported. An import is called without an addend; a load that becomes an ADD does not load into the zero register.
+-- A relocation is supported. An import is called without an addend; a load that becomes an ADD does not load into register 31, which is the
+-- zero register in a load and the stack pointer in an ADD.
 unfoldable pub is_supported : Link → SectionId → ℕ → Bool
 is_supported l s r = supported (relocation_in l s r) (target_of_relocation l s r) (content_of l s r)
   where
@@ -52,9 +53,10 @@ is_supported l s r = supported (relocation_in l s r) (target_of_relocation l s r
         then has_form rel 2 true true && is_branch w && (is_defined t || (is_import t && not (has_addend l s r)))
         else if rel.r_type == ARM64_RELOC_PAGE21 then has_form rel 2 true true && is_adrp w && is_defined t
         else if rel.r_type == ARM64_RELOC_PAGEOFF12 then has_form rel 2 false true && (is_add w || is_load_store w) && is_defined t
-        else if (rel.r_type == ARM64_RELOC_GOT_LOAD_PAGE21) || (rel.r_type == ARM64_RELOC_TLVP_LOAD_PAGE21) then has_form rel 2 true true && is_adrp w && defined_or_import t
+        else if (rel.r_type == ARM64_RELOC_GOT_LOAD_PAGE21) || (rel.r_type == ARM64_RELOC_TLVP_LOAD_PAGE21)
+        then has_form rel 2 true true && is_adrp w && defined_or_import t
         else if (rel.r_type == ARM64_RELOC_GOT_LOAD_PAGEOFF12) || (rel.r_type == ARM64_RELOC_TLVP_LOAD_PAGEOFF12)
-        then has_form rel 2 false true && (is_ldr w && (is_import t || not (written_register w == REGISTER_31))) && defined_or_import t
+        then has_form rel 2 false true && (is_ldr w && (is_import t || not (written_register w == 31))) && defined_or_import t
         else if rel.r_type == ARM64_RELOC_POINTER_TO_GOT then has_form rel 2 true true && defined_or_import t
         else if rel.r_type == ARM64_RELOC_ADDEND then ((rel.r_length == 2) && not rel.r_pcrel) && begins_pair l s r
         else false

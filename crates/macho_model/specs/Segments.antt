@@ -50,7 +50,8 @@ is_known_segment name =
 
 -- the other segments, in the order in which the carried sections name them first
 unfoldable pub other_segments : Link → List (List ℕ)
-other_segments l = filter (λ name. not (is_known_segment name)) (distinct bytes_eq (map (λ s. segment_name_of (header_at l s)) (carried_of l)))
+other_segments l =
+    filter (λ name. not (is_known_segment name)) (distinct bytes_eq (map (λ s. segment_name_of (header_at l s)) (carried_of l)))
 
 -- The rank of a segment: `__PAGEZERO`, `__TEXT`, `__DATA_CONST`, `__DATA`, the others as first seen. `__LINKEDIT` is behind all of them.
 unfoldable pub segment_rank : Link → List ℕ → ℕ
@@ -117,5 +118,5 @@ one_if b = if b then 1 else 0
 -- unwind information, stubs, slots
 unfoldable pub output_count : Link → Counts → ℕ
 output_count l counts =
-    length (output_keys_of l) + one_if (nat_lt 0 counts.initializers) + one_if (nat_lt 0 counts.unwind) + one_if (not (length (stubs_of l) == 0))
-    + one_if (not (length (slots_of l) == 0))
+    length (output_keys_of l) + one_if (nat_lt 0 counts.initializers) + one_if (nat_lt 0 counts.unwind)
+    + one_if (not (length (stubs_of l) == 0)) + one_if (not (length (slots_of l) == 0))

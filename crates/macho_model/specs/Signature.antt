@@ -15,13 +15,11 @@ use Rattle.macho_model.specs.WrittenSum.{SIGNED_PAGE, DIGEST_SIZE}
 use Rattle.macho_model.specs.Images.{signatures_of, segments_named}
 use Rattle.macho_model.specs.Faults.{last_part}
 
--- the 16 bytes of a UUID as they are written: version 3 in the upper half of byte 6, the variant 10 in the highest bits of
--- byte 8 (RFC 9562)
-abbrev pub uuid_byte : ℕ → ℕ → ℕ
-uuid_byte k byte = if k == 6 then 0x30 + byte % 16 else if k == 8 then 0x80 + byte % 64 else byte
-
+-- the 16 bytes of a UUID as they are written: version 3 in the upper half of byte 6, the variant 10 in the highest bits of byte 8 (RFC 9562)
 unfoldable pub uuid_written : List ℕ → List ℕ
-uuid_written uuid = map (λ k. uuid_byte k (slice_index uuid k)) (range_with_len 0 16)
+uuid_written uuid =
+    map (λ k. let byte = slice_index uuid k in if k == 6 then 0x30 + byte % 16 else if k == 8 then 0x80 + byte % 64 else byte)
+    (range_with_len 0 16)
 
 -- the file has one UUID command, which holds this UUID
 abbrev pub UuidSays : List ℕ → List ℕ → Type 0

@@ -1,6 +1,6 @@
 -- When an image stands in memory: every carried section and chosen common whole at its place, every relocated field
 -- denoting its target and addend, every slot and stub leading to its target.
-use Rattle.std.specs.Prelude.{◌≡◌, ℕ, ◌+◌, ◌%◌, ◌<◌, ◌≤◌, ◌⊎◌, ◌==◌, ◌&&◌, ◌||◌, if◌then◌else◌, Bool, true, false, List, [], get_or, slice_index, Option, Some, None, MatchOption, All, Contains, is_some}
+use Rattle.std.specs.Prelude.{◌≡◌, ℕ, ◌+◌, ◌%◌, ◌<◌, ◌≤◌, ◌⊎◌, ◌==◌, ◌&&◌, ◌||◌, if◌then◌else◌, Bool, true, false, List, [], get_or, slice_index, Option, Some, None, MatchOption, All, Contains, is_some, ◌^◌}
 use Rattle.macho_model.specs.declared.placed.Counts.{Counts}
 use Rattle.macho_model.specs.declared.placed.PlacedSection.{PlacedSection}
 use Rattle.macho_model.specs.declared.placed.PlacedCommon.{PlacedCommon}
@@ -22,7 +22,8 @@ use Rattle.macho_model.specs.Meaning.{Same, IsDifference, BranchesTo, PagesTo, O
 use Rattle.macho_model.specs.Segments.{SEGMENT_PAGE}
 use Rattle.macho_model.specs.Placement.{Placed, id_of, common_of, IsPlaced}
 use Rattle.macho_model.specs.Loader.{IsAccepted}
-use Rattle.macho_model.specs.Memory.{Choice, chosen, BindsAll, FitsSlide, Holds, HoldsNumber}
+use Rattle.macho_model.specs.Memory.{Choice, chosen, BindsAll, Holds, HoldsNumber}
+use Rattle.macho_model.specs.Images.{mapped_segments}
 
 -- a section's place: its placed address
 abbrev pub SectionAt : Placed → ℕ → ℕ → ℕ → Type 0
@@ -39,16 +40,13 @@ IsAt l p s choice target.Base x = x ≡ p.base + s
 IsAt l p s choice (target.Absolute value) x = x ≡ value
 IsAt l p s choice target.None x = ⊥
 
--- the slot of a target, and the stub of an import, in memory
+-- the slot of a target, in memory
 abbrev pub SlotAt : Placed → ℕ → Target → ℕ → Type 0
 SlotAt p s t x = (slot : Slot) × Contains p.slots slot × (slot.target ≡ t) × (x ≡ slot.address + s)
 
-abbrev pub StubAt : Placed → ℕ → ℕ → ℕ → Type 0
-StubAt p s id x = (stub : Stub) × Contains p.stubs stub × (stub.import ≡ id) × (x ≡ stub.address + s)
-
 -- where a call of a target goes: to an import by its stub
 abbrev pub CallIsAt : Link → Placed → ℕ → Choice → Target → ℕ → Type 0
-CallIsAt l p s choice (target.Import id) x = StubAt p s id x
+CallIsAt l p s choice (target.Import id) x = (stub : Stub) × Contains p.stubs stub × (stub.import ≡ id) × (x ≡ stub.address + s)
 CallIsAt l p s choice t x = IsAt l p s choice t x
 
 -- What a relocated field is, by the type of its relocation.
@@ -127,19 +125,11 @@ pub record Denotes (l : Link) (b : List ℕ) (p : Placed) (s : ℕ) (choice : Ch
   pub says : Says l p s choice (id_of q) f (q.address + f.offset + s) word (content_of l (id_of q) f.relocation)
       (kind_of f.type (is_some f.subtrahend))
 
--- an offset in a section is in none of its fields
-abbrev pub IsOutsideField : ℕ → Field → Type 0
-IsOutsideField i f = (i + 1 ≤ f.offset) ⊎ (f.offset + f.width ≤ i)
-
 -- A carried section stands: outside its fields its input's bytes, zeros for zerofill; and each field denotes.
 pub record SectionStands (l : Link) (b : List ℕ) (p : Placed) (s : ℕ) (choice : Choice) (q : PlacedSection) : Type 0 where
-  pub bytes : (i : ℕ) → i < (header_at l (id_of q)).size → All (IsOutsideField i) (fields_of l (id_of q))
+  pub bytes : (i : ℕ) → i < (header_at l (id_of q)).size → All (λ f. (i + 1 ≤ f.offset) ⊎ (f.offset + f.width ≤ i)) (fields_of l (id_of q))
       → Holds b s choice (q.address + i + s) (slice_index (section_bytes (object_of l q.file) q.section) i)
   pub fields : All (Denotes l b p s choice q) (fields_of l (id_of q))
-
--- a chosen common is zeros over its size
-abbrev pub CommonStands : Link → List ℕ → ℕ → Choice → PlacedCommon → Type 0
-CommonStands l b s choice c = (i : ℕ) → i < common_size_of (entry_at l (common_of l c.id)) → Holds b s choice (c.address + i + s) 0
 
 -- a slot holds the address of its target
 pub record SlotStands (l : Link) (b : List ℕ) (p : Placed) (s : ℕ) (choice : Choice) (slot : Slot) : Type 0 where
@@ -164,13 +154,15 @@ pub record StubStands (b : List ℕ) (p : Placed) (s : ℕ) (choice : Choice) (s
 -- THE image stands, at a slide and for a choice of import addresses.
 pub record ImageStands (l : Link) (b : List ℕ) (p : Placed) (s : ℕ) (choice : Choice) : Type 0 where
   pub sections : All (SectionStands l b p s choice) p.sections
-  pub commons : All (CommonStands l b s choice) p.commons
+  -- a chosen common is zeros over its size
+  pub commons : All (λ c. (i : ℕ) → i < common_size_of (entry_at l (common_of l c.id)) → Holds b s choice (c.address + i + s) 0) p.commons
   pub slots : All (SlotStands l b p s choice) p.slots
   pub stubs : All (StubStands b p s choice) p.stubs
 
--- THE promise of a link: its parts are placed, the loader accepts the bytes, and at every slide of whole pages that
--- fits, for every choice that binds all imports, the image stands.
+-- THE promise of a link: its parts are placed, the loader accepts the bytes, and at every slide of whole pages by which no mapped segment
+-- passes 2 ^ 64, for every choice that binds all imports, the image stands.
 pub record IsLoadable (l : Link) (counts : Counts) (b : List ℕ) (p : Placed) : Type 0 where
   pub placed : IsPlaced l counts p
   pub accepted : IsAccepted b
-  pub stands : (s : ℕ) (choice : Choice) → s % SEGMENT_PAGE ≡ 0 → FitsSlide b s → BindsAll b choice → ImageStands l b p s choice
+  pub stands : (s : ℕ) (choice : Choice) → s % SEGMENT_PAGE ≡ 0 → All (λ t. t.vmaddr + t.vmsize + s ≤ 2 ^ 64) (mapped_segments b)
+      → BindsAll b choice → ImageStands l b p s choice

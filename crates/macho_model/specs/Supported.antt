@@ -5,8 +5,12 @@ use Rattle.macho_model.specs.Links.{Link, SectionId, header_at, carried_of}
 use Rattle.macho_model.specs.Needs.{relocation_in}
 use Rattle.macho_model.specs.Targets.{is_defined, is_import, target_of_relocation}
 use Rattle.macho_model.specs.Fields.{has_addend}
-use Rattle.macho_model.specs.Words.{is_add, is_ldr, is_load_store, written_register, REGISTER_31}
+use Rattle.macho_model.specs.Words.{is_add, is_ldr, is_load_store, written_register}
 use Rattle.macho_model.specs.Rows.{is_supported, share_byte, are_pair}
+
+-- register 31 is the zero register in a load and the stack pointer in an ADD
+abbrev pub REGISTER_31 : ℕ
+REGISTER_31 = 31
 
 -- an addend has 4 bytes, and isn't relative to its place
 abbrev pub addend_fits : Link → SectionId → ℕ → Bool

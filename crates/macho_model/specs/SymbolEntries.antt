@@ -1,5 +1,5 @@
 -- The symbol table of an image: the entries that a link and its placement ask for, and those that a file has (`mach-o/nlist.h`).
-use Rattle.std.specs.Prelude.{◌≡◌, ℕ, ◌+◌, ◌-◌, ◌*◌, ◌^◌, ◌&&◌, ◌||◌, not, if◌then◌else◌, Bool, false, List, [], ◌∷◌, ◌++◌, length, map, bit_and, bit_or}
+use Rattle.std.specs.Prelude.{◌≡◌, ℕ, ◌+◌, ◌-◌, ◌*◌, ◌^◌, ◌&&◌, ◌||◌, not, if◌then◌else◌, List, [], ◌∷◌, ◌++◌, length, map, bit_and, bit_or}
 use Rattle.std.specs.List.{flat_map, position_or_len, range_with_len}
 use Rattle.macho_records.specs.Numbers.{bits}
 use Rattle.macho_records.specs.declared.constants.TheConstants.{N_EXT, N_PEXT, N_SECT, N_ABS}
@@ -11,19 +11,15 @@ use Rattle.macho_model.specs.Resolution.{SymbolId, entry_at, name_at, section_of
 use Rattle.macho_model.specs.Targets.{own_target}
 use Rattle.macho_model.specs.declared.placed.Counts.{Counts}
 use Rattle.macho_model.specs.Segments.{OutputKey, same_key, key_of, common_key}
-use Rattle.macho_model.specs.OutputSections.{OutputSection, Merged, output_sections_of}
+use Rattle.macho_model.specs.OutputSections.{output_sections_of}
 use Rattle.macho_model.specs.Placement.{Placed}
 use Rattle.macho_model.specs.Exports.{is_listed}
 use Rattle.macho_model.specs.Addresses.{address_of}
 use Rattle.macho_model.specs.SymbolTable.{table_symbols}
 
--- an output section is the one that sections of a key are merged into; its number counts from 1
-abbrev pub is_merged : OutputKey → OutputSection → Bool
-is_merged key (Merged other) = same_key key other
-is_merged key made = false
-
+-- the number of the output section that sections of a key are merged into, from 1
 abbrev pub section_number : Link → Counts → OutputKey → ℕ
-section_number l counts key = position_or_len (is_merged key) (output_sections_of l counts) + 1
+section_number l counts key = position_or_len (λ o. o.is_merged && same_key key o.key) (output_sections_of l counts) + 1
 
 -- the number of the section that a symbol stands in, 0 for a value of its own
 abbrev pub entry_section : Link → Counts → SymbolId → ℕ
@@ -32,30 +28,20 @@ entry_section l counts s =
     else if has_type N_ABS (entry_at l s) then 0
     else section_number l counts (key_of (header_at l (section_of_symbol l s)))
 
--- only this image sees a global symbol that is hidden, or that the export lists leave out
-abbrev pub is_kept_inside : Link → SymbolId → Bool
-is_kept_inside l s = is_global (entry_at l s) && (is_hidden_of (entry_at l s) || not (is_listed l (name_at l s)))
-
--- the type with `N_PEXT` in place of `N_EXT`
-abbrev pub hidden_type : ℕ → ℕ
-hidden_type type = bit_or (bit_and type (255 - N_EXT)) N_PEXT
-
 -- a common has become a symbol of a section
 abbrev pub placed_type : Link → SymbolId → ℕ
 placed_type l s = if is_common_of (entry_at l s) then bit_or (entry_at l s).n_type N_SECT else (entry_at l s).n_type
-
--- and has lost its alignment, bits 8 to 11 of the description
-abbrev pub placed_description : Link → SymbolId → ℕ
-placed_description l s =
-    if is_common_of (entry_at l s) then (entry_at l s).n_desc - bits 8 4 (entry_at l s).n_desc * 2 ^ 8 else (entry_at l s).n_desc
 
 -- the entry of a symbol whose name stands at a place of the string table
 abbrev pub entry_of_symbol : Link → Counts → Placed → ℕ → SymbolId → SymtabEntry
 entry_of_symbol l counts p place s = record {
   n_strx = place;
-  n_type = if is_kept_inside l s then hidden_type (placed_type l s) else placed_type l s;
+  -- only this image sees a global symbol that is hidden, or that the export lists leave out: it has `N_PEXT` in place of `N_EXT`
+  n_type = if is_global (entry_at l s) && (is_hidden_of (entry_at l s) || not (is_listed l (name_at l s)))
+      then bit_or (bit_and (placed_type l s) (255 - N_EXT)) N_PEXT else placed_type l s;
   n_sect = entry_section l counts s;
-  n_desc = placed_description l s;
+  -- a common has lost its alignment, bits 8 to 11
+  n_desc = if is_common_of (entry_at l s) then (entry_at l s).n_desc - bits 8 4 (entry_at l s).n_desc * 2 ^ 8 else (entry_at l s).n_desc;
   n_value = address_of p (own_target l s);
 }
 

@@ -1,6 +1,6 @@
 -- Targets: what a symbol and a relocation lead to; and the slots and stubs that references need.
-use Rattle.std.specs.Prelude.{ℕ, ◌-◌, ◌==◌, ◌&&◌, ◌||◌, if◌then◌else◌, Bool, true, false, List, Option, Some, None, option_map}
-use Rattle.std.specs.List.{filter_map, position_or_len}
+use Rattle.std.specs.Prelude.{ℕ, ◌-◌, ◌==◌, ◌&&◌, ◌||◌, if◌then◌else◌, Bool, true, false, List, [], ◌∷◌, ◌++◌, map, filter, Option, Some, None, option_map, nat_eq}
+use Rattle.std.specs.List.{position_or_len, list_any}
 use Rattle.std.specs.Str.{bytes_eq}
 use Rattle.std.specs.Option.{unwrap_or}
 use Rattle.macho_model.specs.declared.targets.Target.{Target}
@@ -9,7 +9,7 @@ use Rattle.macho_records.specs.Symbols.{is_common_of, has_type, is_global}
 use Rattle.macho_records.specs.declared.constants.TheConstants.{ARM64_RELOC_BRANCH26, ARM64_RELOC_GOT_LOAD_PAGE21, ARM64_RELOC_GOT_LOAD_PAGEOFF12, ARM64_RELOC_POINTER_TO_GOT, ARM64_RELOC_TLVP_LOAD_PAGE21, ARM64_RELOC_TLVP_LOAD_PAGEOFF12, N_ABS}
 use Rattle.macho_model.specs.Links.{Link, SectionId, header_at, is_carried}
 use Rattle.macho_model.specs.Resolution.{SymbolId, Definition, Symbol, Library, ImageBase, entry_at, name_at, same_symbol, section_of_symbol, stands_in_carried, definition_of, chosen_commons}
-use Rattle.macho_model.specs.Needs.{Use, ByRelocation, ByPersonality, relocation_in, section_named, symbol_of_relocation, imports_of, uses_of, distinct}
+use Rattle.macho_model.specs.Needs.{RelocationId, relocation_in, section_named, symbol_of_relocation, carried_relocations, personality_relocations, imports_of, distinct}
 
 -- what a symbol leads to by itself: its place in a section that goes into the image, its value, its number among the commons, or nothing
 abbrev pub own_target : Link → SymbolId → Target
@@ -27,18 +27,13 @@ definition_target l noted name (Some (Symbol s)) = own_target l s
 definition_target l noted name (Some (Library file)) = target.Import (position_or_len (bytes_eq name) noted)
 definition_target l noted name (Some ImageBase) = target.Base
 
--- The target of a symbol where some imports are noted: that of its name where it is global, else its own place or value, if it has one.
-abbrev pub target_with : Link → List (List ℕ) → SymbolId → Target
-target_with l noted s =
-    if is_global (entry_at l s) then definition_target l noted (name_at l s) (definition_of l (name_at l s)) else own_target l s
-
 -- the target of a global name, where all imports are noted
 abbrev pub target_of_name : Link → List ℕ → Target
 target_of_name l name = definition_target l (imports_of l) name (definition_of l name)
 
--- The target of a symbol, where all imports are noted.
+-- The target of a symbol: that of its name where it is global, else its own place or value, if it has one.
 unfoldable pub target_of : Link → SymbolId → Target
-target_of l s = target_with l (imports_of l) s
+target_of l s = if is_global (entry_at l s) then target_of_name l (name_at l s) else own_target l s
 
 -- the target of a relocation: of its symbol, or the start of the carried section that it names by number
 unfoldable pub target_of_relocation : Link → SectionId → ℕ → Target
@@ -67,36 +62,27 @@ same_target (target.Absolute v) (target.Absolute w) = v == w
 same_target target.None target.None = true
 same_target t u = false
 
--- a reference of a type goes through a slot where its target is an import
-abbrev pub goes_by_slot : ℕ → Bool
-goes_by_slot type =
-    (type == ARM64_RELOC_BRANCH26) || (type == ARM64_RELOC_GOT_LOAD_PAGE21) || (type == ARM64_RELOC_GOT_LOAD_PAGEOFF12) || (type == ARM64_RELOC_TLVP_LOAD_PAGE21) || (type == ARM64_RELOC_TLVP_LOAD_PAGEOFF12)
+-- the targets of some relocations
+abbrev pub targets_at : Link → List RelocationId → List Target
+targets_at l us = map (λ u. target_of_relocation l u.0 u.1) us
 
--- the target that a use needs a slot for, if it needs one: an import that is loaded or called, and whatever a pointer
--- to a slot or a personality function names
-abbrev pub slot_of_relocation : ℕ → Target → Option Target
-slot_of_relocation type t = if (type == ARM64_RELOC_POINTER_TO_GOT) || (goes_by_slot type && is_import t) then Some t else None
+-- a relocation needs a slot for an import that it calls or loads, and for whatever a pointer to a slot names
+abbrev pub needs_slot : Link → RelocationId → Bool
+needs_slot l u =
+    let type = (relocation_in l u.0 u.1).r_type in
+    (type == ARM64_RELOC_POINTER_TO_GOT)
+    || (list_any (nat_eq type) (ARM64_RELOC_BRANCH26 ∷ ARM64_RELOC_GOT_LOAD_PAGE21 ∷ ARM64_RELOC_GOT_LOAD_PAGEOFF12
+    ∷ ARM64_RELOC_TLVP_LOAD_PAGE21 ∷ ARM64_RELOC_TLVP_LOAD_PAGEOFF12 ∷ []) && is_import (target_of_relocation l u.0 u.1))
 
-abbrev pub slot_of_use : Link → Use → Option Target
-slot_of_use l (ByRelocation s r) = slot_of_relocation (relocation_in l s r).r_type (target_of_relocation l s r)
-slot_of_use l (ByPersonality s r) = Some (target_of_relocation l s r)
-slot_of_use l u = None
-
--- the targets that have a slot, by first need; a slot is numbered by its place here
+-- the targets that have a slot, by first need, in carried sections and then in unwind entries; a slot is numbered by its place here
 unfoldable pub slots_of : Link → List Target
-slots_of l = distinct same_target (filter_map (slot_of_use l) (uses_of l))
+slots_of l = distinct same_target (targets_at l (filter (needs_slot l) (carried_relocations l) ++ personality_relocations l))
 
 abbrev pub slot_number : Link → Target → ℕ
 slot_number l t = position_or_len (same_target t) (slots_of l)
 
--- the import that a use calls through a stub, if it calls one
-abbrev pub stub_of_relocation : ℕ → Target → Option Target
-stub_of_relocation type t = if (type == ARM64_RELOC_BRANCH26) && is_import t then Some t else None
-
-abbrev pub stub_of_use : Link → Use → Option Target
-stub_of_use l (ByRelocation s r) = stub_of_relocation (relocation_in l s r).r_type (target_of_relocation l s r)
-stub_of_use l u = None
-
--- the imports that have a stub, by first need; a stub is numbered by its place here
+-- the imports that are called, by first call: each has a stub, which is numbered by its place here
 unfoldable pub stubs_of : Link → List Target
-stubs_of l = distinct same_target (filter_map (stub_of_use l) (uses_of l))
+stubs_of l =
+    distinct same_target (filter is_import
+    (targets_at l (filter (λ u. (relocation_in l u.0 u.1).r_type == ARM64_RELOC_BRANCH26) (carried_relocations l))))

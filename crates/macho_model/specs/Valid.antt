@@ -44,7 +44,8 @@ stays_inside l t addend = false
 -- A field is sure to fit, by its kind. A pointer that the loader writes is aligned, in a segment that may hold it, and leads into its target.
 abbrev pub field_fits : Link → SectionId → Field → Kind → Bool
 field_fits l s f Pointer =
-    not (needs_fixup l s f) || (may_hold_pointers (segment_name_of (header_at l s)) && stands_at_multiple l s 8 f && stays_inside l f.target f.addend)
+    not (needs_fixup l s f)
+    || (may_hold_pointers (segment_name_of (header_at l s)) && stands_at_multiple l s 8 f && stays_inside l f.target f.addend)
 field_fits l s f Difference = (f.width == 8) || is_small f.addend
 field_fits l s f Branch = is_small f.addend && stands_at_multiple l s 4 f && is_multiple l 4 f.target f.addend
 field_fits l s f Page = is_small f.addend

@@ -35,14 +35,10 @@ is_load_store w = (bits 27 3 w == 0b111) && (bits 24 2 w == 0b01)
 abbrev pub imm12 : ℕ → ℕ
 imm12 w = bits 10 12 w
 
--- the bytes that a load or store moves: 2 to the power of its size; size 0 of a vector register with the upper bit of
--- opc set stands for 16
-abbrev pub load_scale : ℕ → ℕ
-load_scale w = if (bits 30 2 w == 0) && (bits 26 1 w == 1) && (bits 23 1 w == 1) then 16 else 2 ^ bits 30 2 w
-
--- the scale of an immediate of 12 bits
+-- the scale of an immediate of 12 bits: 1 in an ADD; in a load or store the bytes that it moves, 2 to the power of its size, where size 0
+-- of a vector register with the upper bit of opc set stands for 16
 abbrev pub scale_of : ℕ → ℕ
-scale_of w = if is_add w then 1 else load_scale w
+scale_of w = if is_add w then 1 else if (bits 30 2 w == 0) && (bits 26 1 w == 1) && (bits 23 1 w == 1) then 16 else 2 ^ bits 30 2 w
 
 -- the registers of a load or an ADD: the base and the one that is written
 abbrev pub base_register : ℕ → ℕ
@@ -50,10 +46,6 @@ base_register w = bits 5 5 w
 
 abbrev pub written_register : ℕ → ℕ
 written_register w = bits 0 5 w
-
--- register 31 is the zero register in a load and the stack pointer in an ADD
-abbrev pub REGISTER_31 : ℕ
-REGISTER_31 = 31
 
 -- what is left of a word when an immediate is taken out
 abbrev pub without_imm21 : ℕ → ℕ

@@ -55,8 +55,8 @@ FIXUP_RECORDS = 188
 -- each segment but `__PAGEZERO` (alignment fills less than one of the two)
 unfoldable pub unsigned_sum : Link → Counts → ℕ
 unsigned_sum l counts =
-    content_sum l counts + size_of mach_header + command_sum l counts + counts.padding + counts.trie + SYMBOL_SIZE * counts.symbols + counts.strings
-    + (FIXUP_RECORDS + 28) + counts.import_size * counts.imports + counts.name_bytes
+    content_sum l counts + size_of mach_header + command_sum l counts + counts.padding + counts.trie + SYMBOL_SIZE * counts.symbols
+    + counts.strings + (FIXUP_RECORDS + 28) + counts.import_size * counts.imports + counts.name_bytes
     + 2 * (content_sum l counts / SEGMENT_PAGE + (length (carried_of l) + length (chosen_commons l) + 1))
     + 2 * SEGMENT_PAGE * (length (segment_names_of l) - one_if l.executable)
 

@@ -16,14 +16,15 @@ use Rattle.macho_model.specs.Commands.{commands_of, command_fits}
 use Rattle.macho_model.specs.ObjectRules.{commands_inside}
 use Rattle.macho_model.specs.Segments.{TEXT}
 use Rattle.macho_model.specs.Images.{segments_of, segments_named, tables_of, fixups_header}
-use Rattle.macho_model.specs.LoadRules.{image_head_fits, needed_in_image, protections_fit, file_part_inside, segment_is_paged}
-use Rattle.macho_model.specs.LoadRules.{segment_ends, begins_behind, text_holds_commands, table_fits, import_fits}
+use Rattle.macho_model.specs.LoadRules.{image_head_fits, needed_in_image, protections_fit}
+use Rattle.macho_model.specs.LoadRules.{table_fits, import_fits}
 use Rattle.macho_model.specs.Loader.{IsAccepted}
 use Rattle.macho_model_walks.specs.steps.WordTests.{EachWordFits}
 use Rattle.macho_model_walks.specs.steps.Asked.{LoadKeeps}
 use Rattle.macho_model.proofs.EachBelow.{each_below, true_or_false, and_left, and_right, and_both, is_equal, equal_is, same_number}
 use Rattle.macho_model.proofs.EachBelow.{other_number, all_pass, pass_all, below_pass, pass_below}
 use Rattle.macho_model.specs.Lists.{EachNext}
+use Rattle.macho_model.specs.SegmentRules.{segment_ends, begins_behind, file_part_inside, segment_is_paged, text_holds_commands}
 
 -- an image that keeps each rule is accepted
 pub accepted_keeping : (b : List ℕ) → ((rule : LoadRule) → LoadKeeps b rule) → IsAccepted b

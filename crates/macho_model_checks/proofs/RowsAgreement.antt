@@ -7,7 +7,7 @@
 use Rattle.std.proofs.Common.{◌≡◌, ℕ, ◌%◌, Bool, true, false, List, [], ◌∷◌, ◌++◌, length, get_or, map, replicate, refl, ap, ◌∙◌, sym, arith, None}
 use Rattle.std.specs.Prelude.{codes, ◌+◌, if◌then◌else◌}
 use Rattle.macho_bytes.specs.Numbers.{le_at, le_bytes, row_bytes}
-use Rattle.macho_bytes.specs.Layouts.{reading, spelling}
+use Rattle.macho_bytes.specs.Layouts.{reading}
 use Rattle.macho_bytes.proofs.Numbers.{drop-stands}
 use Rattle.macho_records.specs.declared.constants.TheConstants.{MH_DYLDLINK, MH_HAS_TLV_DESCRIPTORS, MH_NOUNDEFS, MH_PIE, MH_TWOLEVEL}
 use Rattle.macho_records.specs.declared.segments.TheConstants.SegmentName as name
@@ -17,13 +17,16 @@ use Rattle.macho_model.specs.Commands.{header_of, commands_from, commands_of, co
 use Rattle.macho_model.specs.Links.{Link}
 use Rattle.macho_model.specs.Images.{segments_of, base_of, libraries_of, tables_of, entries_of_file}
 use Rattle.macho_model.specs.Placement.{Placed, head_size}
-use Rattle.macho_model.specs.Agreement.{SegmentPlace, place_by_command, SegmentsAgree, section_headers_at, section_headers_of}
-use Rattle.macho_model.specs.Head.{HeadSays, commands_for, describes_thread_locals, flags_for, head_for}
+use Rattle.macho_model.specs.Agreement.{SegmentsAgree, section_headers_at, section_headers_of}
+use Rattle.macho_model.specs.Head.{HeadSays, commands_for, head_for}
 use Rattle.macho_model_checks.proofs.Examples.{words8, words, name16}
 use Rattle.macho_model_checks.proofs.ExampleImages.{smallest}
 use Rattle.macho_model_checks.proofs.ExamplePlacement.{counts_a, placed_a, placed_with, pagezero_to, text_from, header_a, section_a}
 use Rattle.macho_model_checks.proofs.ExamplePlacement.{nothing, no_tables}
 use Rattle.macho_model_checks.proofs.LoaderTests.{load_verdict, load_all_pass}
+use Rattle.macho_bytes.specs.Spellings.{spelling}
+use Rattle.macho_model.specs.steps.Agreement.{SegmentPlace, place_by_command}
+use Rattle.macho_model.specs.HeadCommands.{flags_for, describes_thread_locals}
 
 -- The smallest image: four commands of 280 bytes, two segments, one section header.
 pub smallest_agrees : SegmentsAgree smallest placed_a
@@ -58,11 +61,11 @@ unfoldable pub head_of : ℕ → ℕ → List ℕ
 head_of count size = words (0xfeedfacf ∷ 0x0100000c ∷ 0 ∷ 2 ∷ count ∷ size ∷ 0x200085 ∷ 0 ∷ [])
 
 -- another list of segments
-differ : (xs ys : List SegmentPlace) (k : ℕ) (d : SegmentPlace) → xs ≡ ys → (get_or xs k d).size ≡ (get_or ys k d).size
-differ xs ys k d same = ap (λ (zs : List SegmentPlace). (get_or zs k d).size) same
+differ : (xs ys : List SegmentPlace) (k : ℕ) (d : SegmentPlace) → xs ≡ ys → (get_or xs k d).2 ≡ (get_or ys k d).2
+differ xs ys k d same = ap (λ (zs : List SegmentPlace). (get_or zs k d).2) same
 
 no_place : SegmentPlace
-no_place = record { name = []; address = 0; size = 0; file_offset = 0; file_size = 0 }
+no_place = ([], 0, 0, 0, 0)
 
 -- 1. The entry is in unmapped memory: `__X` takes the addresses where the placement tells `__TEXT`, which stands behind it. A loader
 -- counts the entry from the file's own `__TEXT`.
@@ -147,14 +150,14 @@ with_data = record {
 }
 
 twice_facts : (load_verdict one_page_twice ≡ load_all_pass) × ((get_or (map place_by_command (segments_of one_page_twice)) 2
-    no_place).file_offset ≡ 0)
+    no_place).3 ≡ 0)
 unfolding load_verdict commands_end tables_of base_of segments_of libraries_of commands_of commands_from header_of reading le_at row_bytes
     le_bytes words8 words name16 plain_segment no_page text_with_section begins_at head_of one_page_twice no_place
 twice_facts = (refl, refl)
 
 pub one_page_twice_is_refused : SegmentsAgree one_page_twice with_data → ⊥
 one_page_twice_is_refused agree =
-    let offset : 0 ≡ 0x4000 = sym twice_facts.1 ∙ ap (λ (zs : List SegmentPlace). (get_or zs 2 no_place).file_offset) agree in
+    let offset : 0 ≡ 0x4000 = sym twice_facts.1 ∙ ap (λ (zs : List SegmentPlace). (get_or zs 2 no_place).3) agree in
     absurd (omega (arith, offset))
 
 -- 4. Data in text: the file has no `__DATA`, and a `__TEXT` that goes on over what the placement tells as data; so data can be run and

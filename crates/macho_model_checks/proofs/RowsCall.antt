@@ -8,7 +8,7 @@ use Rattle.std.specs.Prelude.{codes, slice_range}
 use Rattle.std.specs.List.{range_with_len}
 use Rattle.macho_records.specs.declared.symbols.SymtabEntry.{SymtabEntry}
 use Rattle.macho_bytes.specs.Numbers.{le_at, le_bytes, be_at, be_bytes, row_bytes}
-use Rattle.macho_bytes.specs.Layouts.{reading, spelling}
+use Rattle.macho_bytes.specs.Layouts.{reading}
 use Rattle.macho_structs.specs.Layouts.{uuid_command, code_directory}
 use Rattle.macho_records.specs.declared.constants.TheConstants.{LC_UUID}
 use Rattle.macho_model.specs.declared.placed.Counts.{Counts}
@@ -20,13 +20,14 @@ use Rattle.macho_model.specs.Objects.{num_sections, section_place, section_at, s
 use Rattle.macho_model.specs.Objects.{symbol_place, symbol_at, strings_of, symbol_name, relocation_place, relocation_at}
 use Rattle.macho_model.specs.ExportLists.{plain_entries, all_entries, entries_of}
 use Rattle.macho_model.specs.Links.{Link, sections_of, carried_of, template_exponent, placed_exponent}
-use Rattle.macho_model.specs.Resolution.{symbols_of, strong_of, weak_of, commons_of, greatest_of, libraries_with, definition_of}
+use Rattle.macho_model.specs.Resolution.{symbols_of, strong_of, commons_of, greatest_of, libraries_with, definition_of}
+use Rattle.macho_model.specs.steps.Resolved.{weak_of}
 use Rattle.macho_model.specs.Resolution.{chosen_commons}
-use Rattle.macho_model.specs.Needs.{initializer_sections, unwind_sections, uses_of, imports_of, import_library, libraries_needed}
+use Rattle.macho_model.specs.Needs.{initializer_sections, unwind_sections, imports_of, import_library, libraries_needed, carried_relocations, initializer_relocations, personality_relocations}
 use Rattle.macho_model.specs.Targets.{target_of, target_of_relocation, slots_of, stubs_of}
 use Rattle.macho_model.specs.Fields.{fields_of}
 use Rattle.macho_model.specs.Segments.{other_segments, segment_names_of, output_keys_of, segments_for}
-use Rattle.macho_model.specs.OutputSections.{output_sections_of, output_sections_for, pieces_of}
+use Rattle.macho_model.specs.steps.Outputs.{output_sections_of, output_sections_for, pieces_of}
 use Rattle.macho_model.specs.Images.{import_entry, segments_of, mapped_segments, base_of, libraries_of, Table, tables_of, tries_of}
 use Rattle.macho_model.specs.Images.{signatures_of, symbol_tables_of, string_tables_of, entries_of_file}
 use Rattle.macho_model.specs.Loader.{IsAccepted}
@@ -52,29 +53,35 @@ use Rattle.macho_model.specs.declared.rules.LoadRule.{LoadRule}
 use Rattle.macho_model.specs.declared.rules.LoadRule.TheVariants.{L1, L2, L3, L4, L5, L6, L7, L8, L9, L10}
 use Rattle.macho_model_walks.specs.steps.Asked.{LoadKeeps}
 use Rattle.macho_model_checks.proofs.WordsBySegment.{segments_pass, words_fit_in}
+use Rattle.macho_bytes.specs.Spellings.{spelling}
+use Rattle.macho_model.specs.OutputSections.{output_sections_for as headers_for, output_sections_of as all_sections}
+use Rattle.macho_model.proofs.Outputs.{headers_same}
 
 -- what the link has: one import, and two words that the loader writes: its slot, and the pointer
 pub call_needs : (imports_of calling ≡ codes "_exit" ∷ []) × (fixup_count calling ≡ 2)
 unfolding commands_end commands_of commands_from header_of reading le_at row_bytes le_bytes words8 words halves name16 entry calls_exit
     head_of_call fixups_of_call tables_of_call be_at be_bytes big_words signature_of_call call_image num_sections section_place
     section_at section_bytes symtab_of num_symbols symbol_place symbol_at strings_of symbol_name relocation_place relocation_at
-    sections_of carried_of template_exponent placed_exponent symbols_of strong_of weak_of commons_of greatest_of libraries_with
-    definition_of chosen_commons initializer_sections unwind_sections uses_of imports_of libraries_needed target_of
+    sections_of carried_of template_exponent placed_exponent symbols_of strong_of commons_of greatest_of libraries_with
+    definition_of chosen_commons initializer_sections unwind_sections carried_relocations initializer_relocations personality_relocations imports_of libraries_needed target_of
     target_of_relocation slots_of stubs_of fields_of plain_entries all_entries entries_of other_segments segment_names_of
     output_keys_of own_entries import_entries_of entries_have_addends fixup_count names_text
 call_needs = (refl, refl)
 
--- THE section headers that the link asks for are those written out
-pub call_sections : output_sections_for calling counts_of_call placed_call ≡ placed_call.output_sections
+kinds_of_call : output_sections_for calling counts_of_call placed_call ≡ placed_call.output_sections
 unfolding commands_end commands_of commands_from header_of reading le_at row_bytes le_bytes words8 words halves name16 entry calls_exit
     head_of_call fixups_of_call tables_of_call be_at be_bytes big_words signature_of_call call_image num_sections section_place
     section_at section_bytes symtab_of num_symbols symbol_place symbol_at strings_of symbol_name relocation_place relocation_at
-    sections_of carried_of template_exponent placed_exponent symbols_of strong_of weak_of commons_of greatest_of libraries_with
-    definition_of chosen_commons initializer_sections unwind_sections uses_of imports_of libraries_needed target_of
+    sections_of carried_of template_exponent placed_exponent symbols_of strong_of commons_of greatest_of libraries_with
+    definition_of chosen_commons initializer_sections unwind_sections carried_relocations initializer_relocations personality_relocations imports_of libraries_needed target_of
     target_of_relocation slots_of stubs_of fields_of plain_entries all_entries entries_of other_segments segment_names_of
-    output_keys_of table_symbols symbol_entries output_sections_of output_sections_for pieces_of
+    output_keys_of table_symbols symbol_entries output_sections_of all_sections output_sections_for pieces_of
     segments_for
-call_sections = refl
+kinds_of_call = refl
+
+-- THE section headers that the link asks for are those written out
+pub call_sections : headers_for calling counts_of_call placed_call ≡ placed_call.output_sections
+call_sections = headers_same calling counts_of_call placed_call ∙ kinds_of_call
 
 -- THE header and the thirteen commands, byte for byte: 32 and 888 bytes
 call_long : length call_image ≡ 49948
@@ -86,8 +93,8 @@ head_long : length (head_for calling placed_call (head.commands_for calling coun
 unfolding commands_end commands_of commands_from header_of reading le_at row_bytes le_bytes words8 words halves name16 entry calls_exit
     head_of_call fixups_of_call tables_of_call be_at be_bytes big_words signature_of_call call_image num_sections section_place
     section_at section_bytes symtab_of num_symbols symbol_place symbol_at strings_of symbol_name relocation_place relocation_at
-    sections_of carried_of template_exponent placed_exponent symbols_of strong_of weak_of commons_of greatest_of libraries_with
-    definition_of chosen_commons initializer_sections unwind_sections uses_of imports_of libraries_needed target_of
+    sections_of carried_of template_exponent placed_exponent symbols_of strong_of commons_of greatest_of libraries_with
+    definition_of chosen_commons initializer_sections unwind_sections carried_relocations initializer_relocations personality_relocations imports_of libraries_needed target_of
     target_of_relocation slots_of stubs_of fields_of plain_entries all_entries entries_of other_segments segment_names_of
     output_keys_of section_address common_address slot_address head.commands_for head_for spelling
     section_headers_of section_headers_at uuid_written
@@ -97,8 +104,8 @@ head_stands : slice_range call_image 0 920 ≡ head_for calling placed_call (hea
 unfolding commands_end commands_of commands_from header_of reading le_at row_bytes le_bytes words8 words halves name16 entry calls_exit
     head_of_call fixups_of_call tables_of_call be_at be_bytes big_words signature_of_call call_image num_sections section_place
     section_at section_bytes symtab_of num_symbols symbol_place symbol_at strings_of symbol_name relocation_place relocation_at
-    sections_of carried_of template_exponent placed_exponent symbols_of strong_of weak_of commons_of greatest_of libraries_with
-    definition_of chosen_commons initializer_sections unwind_sections uses_of imports_of libraries_needed target_of
+    sections_of carried_of template_exponent placed_exponent symbols_of strong_of commons_of greatest_of libraries_with
+    definition_of chosen_commons initializer_sections unwind_sections carried_relocations initializer_relocations personality_relocations imports_of libraries_needed target_of
     target_of_relocation slots_of stubs_of fields_of plain_entries all_entries entries_of other_segments segment_names_of
     output_keys_of section_address common_address slot_address head.commands_for head_for spelling
     section_headers_of section_headers_at uuid_written
@@ -119,8 +126,8 @@ pub call_commands : CommandsSay calling counts_of_call uuid_given call_image pla
 unfolding commands_end commands_of commands_from header_of reading le_at row_bytes le_bytes words8 words halves name16 entry calls_exit
     head_of_call fixups_of_call tables_of_call be_at be_bytes big_words signature_of_call call_image num_sections section_place
     section_at section_bytes symtab_of num_symbols symbol_place symbol_at strings_of symbol_name relocation_place relocation_at
-    sections_of carried_of template_exponent placed_exponent symbols_of strong_of weak_of commons_of greatest_of libraries_with
-    definition_of chosen_commons initializer_sections unwind_sections uses_of imports_of libraries_needed target_of
+    sections_of carried_of template_exponent placed_exponent symbols_of strong_of commons_of greatest_of libraries_with
+    definition_of chosen_commons initializer_sections unwind_sections carried_relocations initializer_relocations personality_relocations imports_of libraries_needed target_of
     target_of_relocation slots_of stubs_of fields_of plain_entries all_entries entries_of other_segments segment_names_of
     output_keys_of section_address common_address slot_address commands_in command_in commands_for header_for
     section_headers_of section_headers_at uuid_written
@@ -160,11 +167,11 @@ pub call_symbols : SymbolsSay calling counts_of_call call_image placed_call
 unfolding commands_end commands_of commands_from header_of reading le_at row_bytes le_bytes words8 words halves name16 entry calls_exit
     head_of_call fixups_of_call tables_of_call be_at be_bytes big_words signature_of_call call_image num_sections section_place
     section_at section_bytes symtab_of num_symbols symbol_place symbol_at strings_of symbol_name relocation_place relocation_at
-    sections_of carried_of template_exponent placed_exponent symbols_of strong_of weak_of commons_of greatest_of libraries_with
-    definition_of chosen_commons initializer_sections unwind_sections uses_of imports_of libraries_needed target_of
+    sections_of carried_of template_exponent placed_exponent symbols_of strong_of commons_of greatest_of libraries_with
+    definition_of chosen_commons initializer_sections unwind_sections carried_relocations initializer_relocations personality_relocations imports_of libraries_needed target_of
     target_of_relocation slots_of stubs_of fields_of plain_entries all_entries entries_of other_segments segment_names_of
     output_keys_of table_symbols symbol_entries strings_text
-    output_sections_of output_sections_for pieces_of segments_for section_address common_address slot_address
+    output_sections_of all_sections output_sections_for pieces_of segments_for section_address common_address slot_address
 call_symbols = record { entries = refl; strings = refl }
 
 -- its name is found at its place
@@ -179,8 +186,8 @@ first_entry : EntrySays calling call_image (record { at = 0xc000; size = 0xd0 })
 unfolding commands_end commands_of commands_from header_of reading le_at row_bytes le_bytes words8 words halves name16 entry calls_exit
     head_of_call fixups_of_call tables_of_call be_at be_bytes big_words signature_of_call call_image num_sections section_place
     section_at section_bytes symtab_of num_symbols symbol_place symbol_at strings_of symbol_name relocation_place relocation_at
-    sections_of carried_of template_exponent placed_exponent symbols_of strong_of weak_of commons_of greatest_of libraries_with
-    definition_of chosen_commons initializer_sections unwind_sections uses_of imports_of libraries_needed target_of
+    sections_of carried_of template_exponent placed_exponent symbols_of strong_of commons_of greatest_of libraries_with
+    definition_of chosen_commons initializer_sections unwind_sections carried_relocations initializer_relocations personality_relocations imports_of libraries_needed target_of
     target_of_relocation slots_of stubs_of fields_of plain_entries all_entries entries_of other_segments segment_names_of
     output_keys_of own_entries import_entries_of entries_have_addends fixup_count names_text segments_of
     mapped_segments base_of libraries_of tables_of tries_of signatures_of symbol_tables_of string_tables_of
@@ -191,8 +198,8 @@ entry_facts : (tables_of call_image ≡ record { at = 0xc000; size = 0xd0 } ∷ 
 unfolding commands_end commands_of commands_from header_of reading le_at row_bytes le_bytes words8 words halves name16 entry calls_exit
     head_of_call fixups_of_call tables_of_call be_at be_bytes big_words signature_of_call call_image num_sections section_place
     section_at section_bytes symtab_of num_symbols symbol_place symbol_at strings_of symbol_name relocation_place relocation_at
-    sections_of carried_of template_exponent placed_exponent symbols_of strong_of weak_of commons_of greatest_of libraries_with
-    definition_of chosen_commons initializer_sections unwind_sections uses_of imports_of libraries_needed target_of
+    sections_of carried_of template_exponent placed_exponent symbols_of strong_of commons_of greatest_of libraries_with
+    definition_of chosen_commons initializer_sections unwind_sections carried_relocations initializer_relocations personality_relocations imports_of libraries_needed target_of
     target_of_relocation slots_of stubs_of fields_of plain_entries all_entries entries_of other_segments segment_names_of
     output_keys_of own_entries import_entries_of entries_have_addends fixup_count names_text segments_of
     mapped_segments base_of libraries_of tables_of tries_of signatures_of symbol_tables_of string_tables_of
@@ -207,8 +214,8 @@ pub call_imports : ImportTableSays calling call_image
 unfolding commands_end commands_of commands_from header_of reading le_at row_bytes le_bytes words8 words halves name16 entry calls_exit
     head_of_call fixups_of_call tables_of_call be_at be_bytes big_words signature_of_call call_image num_sections section_place
     section_at section_bytes symtab_of num_symbols symbol_place symbol_at strings_of symbol_name relocation_place relocation_at
-    sections_of carried_of template_exponent placed_exponent symbols_of strong_of weak_of commons_of greatest_of libraries_with
-    definition_of chosen_commons initializer_sections unwind_sections uses_of imports_of libraries_needed target_of
+    sections_of carried_of template_exponent placed_exponent symbols_of strong_of commons_of greatest_of libraries_with
+    definition_of chosen_commons initializer_sections unwind_sections carried_relocations initializer_relocations personality_relocations imports_of libraries_needed target_of
     target_of_relocation slots_of stubs_of fields_of plain_entries all_entries entries_of other_segments segment_names_of
     output_keys_of own_entries import_entries_of entries_have_addends fixup_count names_text segments_of
     mapped_segments base_of libraries_of tables_of tries_of signatures_of symbol_tables_of string_tables_of
@@ -226,8 +233,8 @@ pub call_libraries : LibrariesSay calling call_image
 unfolding commands_end commands_of commands_from header_of reading le_at row_bytes le_bytes words8 words halves name16 entry calls_exit
     head_of_call fixups_of_call tables_of_call be_at be_bytes big_words signature_of_call call_image num_sections section_place
     section_at section_bytes symtab_of num_symbols symbol_place symbol_at strings_of symbol_name relocation_place relocation_at
-    sections_of carried_of template_exponent placed_exponent symbols_of strong_of weak_of commons_of greatest_of libraries_with
-    definition_of chosen_commons initializer_sections unwind_sections uses_of imports_of libraries_needed target_of
+    sections_of carried_of template_exponent placed_exponent symbols_of strong_of commons_of greatest_of libraries_with
+    definition_of chosen_commons initializer_sections unwind_sections carried_relocations initializer_relocations personality_relocations imports_of libraries_needed target_of
     target_of_relocation slots_of stubs_of fields_of plain_entries all_entries entries_of other_segments segment_names_of
     output_keys_of segments_of mapped_segments base_of libraries_of tables_of tries_of signatures_of symbol_tables_of
     string_tables_of entries_of_file
@@ -396,10 +403,10 @@ value_asked : map (λ e. e.n_value) (symbol_entries calling counts_of_call place
 unfolding commands_end commands_of commands_from header_of reading le_at row_bytes le_bytes words8 words halves name16 entry calls_exit
     head_of_call fixups_of_call tables_of_call be_at be_bytes big_words signature_of_call call_image num_sections section_place
     section_at section_bytes symtab_of num_symbols symbol_place symbol_at strings_of symbol_name relocation_place relocation_at
-    sections_of carried_of template_exponent placed_exponent symbols_of strong_of weak_of commons_of greatest_of libraries_with
-    definition_of chosen_commons initializer_sections unwind_sections uses_of imports_of libraries_needed target_of
+    sections_of carried_of template_exponent placed_exponent symbols_of strong_of commons_of greatest_of libraries_with
+    definition_of chosen_commons initializer_sections unwind_sections carried_relocations initializer_relocations personality_relocations imports_of libraries_needed target_of
     target_of_relocation slots_of stubs_of fields_of plain_entries all_entries entries_of other_segments segment_names_of
-    output_keys_of table_symbols symbol_entries output_sections_of output_sections_for pieces_of
+    output_keys_of table_symbols symbol_entries output_sections_of all_sections output_sections_for pieces_of
     segments_for section_address common_address slot_address
 value_asked = refl
 
@@ -420,7 +427,7 @@ unfolding changed with_another_library commands_end commands_of commands_from he
     halves name16 entry calls_exit head_of_call fixups_of_call tables_of_call be_at be_bytes big_words signature_of_call call_image
     num_sections section_place section_at section_bytes symtab_of num_symbols symbol_place symbol_at strings_of symbol_name
     relocation_place relocation_at sections_of carried_of template_exponent placed_exponent symbols_of strong_of weak_of
-    commons_of greatest_of libraries_with definition_of chosen_commons initializer_sections unwind_sections uses_of imports_of
+    commons_of greatest_of libraries_with definition_of chosen_commons initializer_sections unwind_sections carried_relocations initializer_relocations personality_relocations imports_of
     libraries_needed target_of target_of_relocation slots_of stubs_of fields_of plain_entries all_entries entries_of
     other_segments segment_names_of output_keys_of own_entries import_entries_of entries_have_addends fixup_count
     names_text segments_of mapped_segments base_of libraries_of tables_of tries_of signatures_of symbol_tables_of
@@ -452,8 +459,8 @@ names_asked : get_or (get_or (libraries_needed calling) 0 []) 0 0 ≡ 0x2f
 unfolding commands_end commands_of commands_from header_of reading le_at row_bytes le_bytes words8 words halves name16 entry calls_exit
     head_of_call fixups_of_call tables_of_call be_at be_bytes big_words signature_of_call call_image num_sections section_place
     section_at section_bytes symtab_of num_symbols symbol_place symbol_at strings_of symbol_name relocation_place relocation_at
-    sections_of carried_of template_exponent placed_exponent symbols_of strong_of weak_of commons_of greatest_of libraries_with
-    definition_of chosen_commons initializer_sections unwind_sections uses_of imports_of libraries_needed target_of
+    sections_of carried_of template_exponent placed_exponent symbols_of strong_of commons_of greatest_of libraries_with
+    definition_of chosen_commons initializer_sections unwind_sections carried_relocations initializer_relocations personality_relocations imports_of libraries_needed target_of
     target_of_relocation slots_of stubs_of fields_of plain_entries all_entries entries_of other_segments segment_names_of
     output_keys_of
 names_asked = refl

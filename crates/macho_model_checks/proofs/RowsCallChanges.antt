@@ -10,9 +10,10 @@ use Rattle.macho_model.specs.Objects.{num_sections, section_place, section_at, s
 use Rattle.macho_model.specs.Objects.{symbol_place, symbol_at, strings_of, symbol_name, relocation_place, relocation_at}
 use Rattle.macho_model.specs.ExportLists.{plain_entries, all_entries, entries_of}
 use Rattle.macho_model.specs.Links.{sections_of, carried_of, template_exponent, placed_exponent}
-use Rattle.macho_model.specs.Resolution.{symbols_of, strong_of, weak_of, commons_of, greatest_of, libraries_with, definition_of}
+use Rattle.macho_model.specs.Resolution.{symbols_of, strong_of, commons_of, greatest_of, libraries_with, definition_of}
+use Rattle.macho_model.specs.steps.Resolved.{weak_of}
 use Rattle.macho_model.specs.Resolution.{chosen_commons}
-use Rattle.macho_model.specs.Needs.{initializer_sections, unwind_sections, uses_of, imports_of, libraries_needed}
+use Rattle.macho_model.specs.Needs.{initializer_sections, unwind_sections, imports_of, libraries_needed, carried_relocations, initializer_relocations, personality_relocations}
 use Rattle.macho_model.specs.Targets.{target_of, target_of_relocation, slots_of, stubs_of, target_of_name}
 use Rattle.macho_model.specs.Fields.{fields_of}
 use Rattle.macho_model.specs.Segments.{other_segments, segment_names_of, output_keys_of, segments_for}
@@ -27,7 +28,7 @@ use Rattle.macho_model_checks.proofs.ExampleCall.{tables_of_call, big_words, sig
 use Rattle.macho_model_checks.proofs.ExampleCall.{range}
 use Rattle.std.specs.Prelude.{codes}
 use Rattle.std.specs.FinMap.{empty}
-use Rattle.macho_model.specs.OutputSections.{output_sections_of, output_sections_for, pieces_of}
+use Rattle.macho_model.specs.steps.Outputs.{output_sections_of, output_sections_for, pieces_of}
 use Rattle.macho_model.specs.Agreement.{EntryAgrees}
 use Rattle.macho_model.specs.Signature.{IsSigned}
 use Rattle.macho_model.specs.SymbolTable.{table_symbols}
@@ -45,6 +46,7 @@ use Rattle.macho_promise.specs.Promise.{IsLaidOut}
 use Rattle.macho_model_checks.proofs.RowsCallTrie.{trie_table, first_node, edge_main, exported_is}
 use Rattle.macho_model.specs.declared.targets.Target.TheVariants as target
 use Rattle.macho_trie.specs.Lookup as lookup
+use Rattle.macho_model.proofs.Outputs.{headers_same}
 
 -- of the exports trie the value: `_main` is found four bytes behind its place
 unfoldable pub with_another_export : List ℕ
@@ -114,7 +116,7 @@ unfolding changed with_another_entry commands_end commands_of commands_from head
     mapped_segments base_of libraries_of tables_of tries_of signatures_of symbol_tables_of string_tables_of entries_of_file
     num_sections section_place section_at section_bytes symtab_of num_symbols symbol_place symbol_at strings_of symbol_name
     relocation_place relocation_at sections_of carried_of template_exponent placed_exponent symbols_of strong_of weak_of
-    commons_of greatest_of libraries_with definition_of chosen_commons initializer_sections unwind_sections uses_of
+    commons_of greatest_of libraries_with definition_of chosen_commons initializer_sections unwind_sections carried_relocations initializer_relocations personality_relocations
     imports_of libraries_needed target_of target_of_relocation slots_of stubs_of fields_of plain_entries all_entries
     entries_of other_segments segment_names_of output_keys_of own_entries import_entries_of entries_have_addends
     fixup_count names_text
@@ -153,8 +155,8 @@ header_there : map (λ (h : SectionHeader). h.addr) (output_sections_for calling
 unfolding commands_end commands_of commands_from header_of reading le_at row_bytes le_bytes words8 words halves name16 entry calls_exit
     head_of_call fixups_of_call tables_of_call be_at be_bytes big_words signature_of_call call_image num_sections section_place
     section_at section_bytes symtab_of num_symbols symbol_place symbol_at strings_of symbol_name relocation_place relocation_at
-    sections_of carried_of template_exponent placed_exponent symbols_of strong_of weak_of commons_of greatest_of libraries_with
-    definition_of chosen_commons initializer_sections unwind_sections uses_of imports_of libraries_needed target_of
+    sections_of carried_of template_exponent placed_exponent symbols_of strong_of commons_of greatest_of libraries_with
+    definition_of chosen_commons initializer_sections unwind_sections carried_relocations initializer_relocations personality_relocations imports_of libraries_needed target_of
     target_of_relocation slots_of stubs_of fields_of plain_entries all_entries entries_of other_segments segment_names_of
     output_keys_of table_symbols output_sections_of output_sections_for pieces_of
     segments_for
@@ -162,6 +164,6 @@ header_there = refl
 
 pub header_is_asked : IsLaidOut calling counts_of_call data_higher → ⊥
 header_is_asked laid =
-    let addresses = ap (λ (hs : List SectionHeader). map (λ (h : SectionHeader). h.addr) hs) laid.sections ∙ header_there in
+    let addresses = ap (λ (hs : List SectionHeader). map (λ (h : SectionHeader). h.addr) hs) (laid.sections ∙ headers_same calling counts_of_call data_higher) ∙ header_there in
     let address : 0x100008000 ≡ 0x100008008 = ap (λ (ns : List ℕ). get_or ns 3 0) addresses in
     absurd (omega (arith, address))

@@ -3,11 +3,11 @@
 -- The run is computed from the link and its placement: the slot, bound to the one import with no addend, and the pointer, which moves
 -- with its target. The table of that run and the words with no step are computed by the definitions, and compared with the bytes that
 -- were written out by hand.
-use Rattle.std.proofs.Common.{◌≡◌, ℕ, zero, suc, pos, ◌+◌, ◌%◌, ◌<◌, ◌≤◌, Bool, true, not, List, [], ◌∷◌, ◌++◌, length, get_or, refl, ap}
+use Rattle.std.proofs.Common.{◌≡◌, ℕ, zero, suc, pos, ◌+◌, ◌%◌, ◌<◌, ◌≤◌, true, not, List, [], ◌∷◌, ◌++◌, length, map, get_or, refl, ap}
 use Rattle.std.proofs.Common.{sym, ◌∙◌, subst, arith, All}
 use Rattle.std.specs.Prelude.{codes, slice_range, Contains}
 use Rattle.std.specs.List.{list_all}
-use Rattle.std.proofs.lemmas.List.Elements.{All-nil, All-cons}
+use Rattle.std.proofs.lemmas.List.Elements.{All-nil, All-cons, All-contains}
 use Rattle.std.proofs.lemmas.List.Kept.{AllPairs-cons}
 use Rattle.macho_bytes.specs.Texts.{Stands, Part}
 use Rattle.macho_model.specs.declared.placed.Slot.{Slot}
@@ -29,21 +29,23 @@ use Rattle.macho_fixups.specs.Runs.{AreFixups, Holds, pages_of, start_of}
 use Rattle.macho_fixups.specs.Chains.{word_part, place_of, step_of}
 use Rattle.macho_fixups.specs.Tables.{table_text, entry_text, image_starts_text, image_starts_size, offsets_text, segment_text}
 use Rattle.macho_fixups.specs.Tables.{segment_size, starts_text, page_starts_text}
-use Rattle.macho_promise.specs.FixupsSay.{IsFixupOf, kind_for, fixup_segments, FixupsSay}
+use Rattle.macho_fixups.specs.Rows.{segment_rows, image_rows, table_rows}
+use Rattle.macho_fixups.proofs.Rows.{words_stand}
+use Rattle.macho_promise.specs.FixupsSay.{IsFixupOf, kind_for, fixup_segments, entry_row, FixupsSay}
 use Rattle.macho_promise.specs.FixupsSay as promised
 use Rattle.macho_model_checks.proofs.ExampleCall.{calls_exit, calling, code_placed, slot_placed, data_placed, placed_call, head_of_call}
 use Rattle.macho_model_checks.proofs.ExampleCall.{fixups_of_call, tables_of_call, big_words, signature_of_call, call_image}
 use Rattle.macho_model_checks.proofs.ValidTests.{one_passes}
 use Rattle.macho_bytes.specs.Numbers.{le_at, le_bytes, be_at, be_bytes, row_bytes}
-use Rattle.macho_bytes.specs.Layouts.{reading, spelling}
+use Rattle.macho_bytes.specs.Layouts.{reading}
 use Rattle.macho_model.specs.Commands.{header_of, commands_from, commands_of, commands_end}
 use Rattle.macho_model.specs.Objects.{num_sections, section_place, section_at, section_bytes, symtab_of, num_symbols}
 use Rattle.macho_model.specs.Objects.{symbol_place, symbol_at, strings_of, symbol_name, relocation_place, relocation_at}
 use Rattle.macho_model.specs.ExportLists.{plain_entries, all_entries, entries_of}
 use Rattle.macho_model.specs.Links.{sections_of, carried_of, template_exponent, placed_exponent}
-use Rattle.macho_model.specs.Resolution.{symbols_of, strong_of, weak_of, commons_of, greatest_of, libraries_with, definition_of}
+use Rattle.macho_model.specs.Resolution.{symbols_of, strong_of, commons_of, greatest_of, libraries_with, definition_of}
 use Rattle.macho_model.specs.Resolution.{chosen_commons}
-use Rattle.macho_model.specs.Needs.{initializer_sections, unwind_sections, uses_of, imports_of, libraries_needed, POINTER_SIZE}
+use Rattle.macho_model.specs.Needs.{initializer_sections, unwind_sections, imports_of, libraries_needed, POINTER_SIZE, carried_relocations, initializer_relocations, personality_relocations}
 use Rattle.macho_model.specs.Targets.{target_of, target_of_relocation, slots_of, stubs_of}
 use Rattle.macho_model.specs.Fields.{fields_of}
 use Rattle.macho_model.specs.Segments.{other_segments, segment_names_of, output_keys_of, SEGMENT_PAGE}
@@ -54,6 +56,7 @@ use Rattle.macho_model.specs.ImportTable.{fixup_count, names_text}
 use Rattle.macho_model_checks.proofs.Examples.{words8, words, halves, name16}
 use Rattle.macho_model_checks.proofs.ExampleLinks.{entry}
 use Rattle.macho_model_checks.proofs.RowsCallChain.{pointer_field, data_fields}
+use Rattle.macho_bytes.specs.Spellings.{spelling}
 
 -- the slot of import 0, with no addend; the pointer to the code, so far behind the base
 abbrev pub fixup_of_slot : Fixup
@@ -110,8 +113,8 @@ branch_plain : list_all (λ (f : Field). not (needs_fixup calling (id_of code_pl
 unfolding commands_end commands_of commands_from header_of reading le_at row_bytes le_bytes words8 words halves name16 entry calls_exit
     head_of_call fixups_of_call tables_of_call be_at be_bytes big_words signature_of_call call_image num_sections section_place
     section_at section_bytes symtab_of num_symbols symbol_place symbol_at strings_of symbol_name relocation_place relocation_at
-    sections_of carried_of template_exponent placed_exponent symbols_of strong_of weak_of commons_of greatest_of libraries_with
-    definition_of chosen_commons initializer_sections unwind_sections uses_of imports_of libraries_needed target_of
+    sections_of carried_of template_exponent placed_exponent symbols_of strong_of commons_of greatest_of libraries_with
+    definition_of chosen_commons initializer_sections unwind_sections carried_relocations initializer_relocations personality_relocations imports_of libraries_needed target_of
     target_of_relocation slots_of stubs_of fields_of plain_entries all_entries entries_of other_segments segment_names_of
     output_keys_of own_entries import_entries_of entries_have_addends fixup_count names_text segments_of
     mapped_segments base_of libraries_of tables_of tries_of signatures_of symbol_tables_of string_tables_of
@@ -170,8 +173,8 @@ pub what_is_asked : (import_format calling ≡ 1) × (names_text calling ≡ nam
 unfolding commands_end commands_of commands_from header_of reading le_at row_bytes le_bytes words8 words halves name16 entry calls_exit
     head_of_call fixups_of_call tables_of_call be_at be_bytes big_words signature_of_call call_image num_sections section_place
     section_at section_bytes symtab_of num_symbols symbol_place symbol_at strings_of symbol_name relocation_place relocation_at
-    sections_of carried_of template_exponent placed_exponent symbols_of strong_of weak_of commons_of greatest_of libraries_with
-    definition_of chosen_commons initializer_sections unwind_sections uses_of imports_of libraries_needed target_of
+    sections_of carried_of template_exponent placed_exponent symbols_of strong_of commons_of greatest_of libraries_with
+    definition_of chosen_commons initializer_sections unwind_sections carried_relocations initializer_relocations personality_relocations imports_of libraries_needed target_of
     target_of_relocation slots_of stubs_of fields_of plain_entries all_entries entries_of other_segments segment_names_of
     output_keys_of own_entries import_entries_of entries_have_addends fixup_count names_text segments_of
     mapped_segments base_of libraries_of tables_of tries_of signatures_of symbol_tables_of string_tables_of
@@ -183,8 +186,8 @@ table_there : slice_range call_image 0xc000 0xc06e
 unfolding commands_end commands_of commands_from header_of reading le_at row_bytes le_bytes words8 words halves name16 entry calls_exit
     head_of_call fixups_of_call tables_of_call be_at be_bytes big_words signature_of_call call_image num_sections section_place
     section_at section_bytes symtab_of num_symbols symbol_place symbol_at strings_of symbol_name relocation_place relocation_at
-    sections_of carried_of template_exponent placed_exponent symbols_of strong_of weak_of commons_of greatest_of libraries_with
-    definition_of chosen_commons initializer_sections unwind_sections uses_of imports_of libraries_needed target_of
+    sections_of carried_of template_exponent placed_exponent symbols_of strong_of commons_of greatest_of libraries_with
+    definition_of chosen_commons initializer_sections unwind_sections carried_relocations initializer_relocations personality_relocations imports_of libraries_needed target_of
     target_of_relocation slots_of stubs_of fields_of plain_entries all_entries entries_of other_segments segment_names_of
     output_keys_of own_entries import_entries_of entries_have_addends fixup_count names_text segments_of
     mapped_segments base_of libraries_of tables_of tries_of signatures_of symbol_tables_of string_tables_of
@@ -238,16 +241,62 @@ unfolding commands_end commands_of commands_from header_of reading le_at row_byt
     libraries_of tables_of tries_of signatures_of symbol_tables_of string_tables_of entries_of_file
 one_table = refl
 
+-- the same table as rows of numbers
+abbrev rows_of_exit : List ℕ
+rows_of_exit = table_rows 0x100000000 fixups_in_call (fixup_segments placed_call) 1 ((1 ∷ 0 ∷ 0 ∷ 0 ∷ []) ∷ []) name_of_exit
+
+entry_is_asked : map (entry_row calling) (import_entries_of calling) ≡ (1 ∷ 0 ∷ 0 ∷ 0 ∷ []) ∷ []
+unfolding commands_end commands_of commands_from header_of reading le_at row_bytes le_bytes words8 words halves name16 entry calls_exit
+    head_of_call fixups_of_call tables_of_call be_at be_bytes big_words signature_of_call call_image num_sections section_place
+    section_at section_bytes symtab_of num_symbols symbol_place symbol_at strings_of symbol_name relocation_place relocation_at
+    sections_of carried_of template_exponent placed_exponent symbols_of strong_of commons_of greatest_of libraries_with
+    definition_of chosen_commons initializer_sections unwind_sections carried_relocations initializer_relocations personality_relocations imports_of libraries_needed target_of
+    target_of_relocation slots_of stubs_of fields_of plain_entries all_entries entries_of other_segments segment_names_of
+    output_keys_of own_entries import_entries_of entries_have_addends fixup_count names_text segments_of
+    mapped_segments base_of libraries_of tables_of tries_of signatures_of symbol_tables_of string_tables_of
+    entries_of_file
+entry_is_asked = refl
+
+rows_size : length rows_of_exit ≡ 110
+unfolding table_rows image_rows segment_rows pages_of start_of row_bytes le_bytes
+rows_size = refl
+
+rows_there : slice_range call_image 0xc000 0xc06e ≡ rows_of_exit
+unfolding commands_end commands_of commands_from header_of reading le_at row_bytes le_bytes words8 words halves name16 entry calls_exit
+    head_of_call fixups_of_call tables_of_call be_at be_bytes big_words signature_of_call call_image num_sections section_place
+    section_at section_bytes symtab_of num_symbols symbol_place symbol_at strings_of symbol_name relocation_place relocation_at
+    sections_of carried_of template_exponent placed_exponent symbols_of strong_of commons_of greatest_of libraries_with
+    definition_of chosen_commons initializer_sections unwind_sections carried_relocations initializer_relocations personality_relocations imports_of libraries_needed target_of
+    target_of_relocation slots_of stubs_of fields_of plain_entries all_entries entries_of other_segments segment_names_of
+    output_keys_of own_entries import_entries_of entries_have_addends fixup_count names_text segments_of
+    mapped_segments base_of libraries_of tables_of tries_of signatures_of symbol_tables_of string_tables_of
+    entries_of_file table_rows image_rows segment_rows pages_of start_of
+rows_there = refl
+
+pub rows_stand : Stands call_image (record {
+  at = 0xc000;
+  text =
+      table_rows 0x100000000 fixups_in_call (fixup_segments placed_call) (import_format calling)
+      (map (entry_row calling) (import_entries_of calling))
+      (names_text calling);
+})
+rows_stand = rw (entry_is_asked, what_is_asked.0, what_is_asked.1) (record {
+  within = omega (arith, rows_size, image_size);
+  same = ap (λ n. slice_range call_image 0xc000 (0xc000 + n)) rows_size ∙ rows_there;
+})
+
 -- THE fixup table and the words of its chains
 unfoldable pub call_fixups : FixupsSay calling call_image placed_call
 call_fixups = record {
   fixups = fixups_in_call;
-  run = run_of_call;
-  each = both (IsFixupOf calling placed_call) is_of_slot is_of_pointer;
-  all = each_there;
+  fits = run_of_call;
+  are = λ f. (
+    (λ c. All-contains (IsFixupOf calling placed_call) fixups_in_call f
+        (both (IsFixupOf calling placed_call) is_of_slot is_of_pointer) c),
+    each_there f,
+  );
   table = record { at = 0xc000; size = 0xd0 };
   one = one_table;
-  entries = entry_of_exit ∷ [];
-  text = table_stands;
-  words = record { each = each_word };
+  text = rows_stand;
+  words = words_stand (fixup_segments placed_call) fixups_in_call call_image (record { each = each_word });
 }

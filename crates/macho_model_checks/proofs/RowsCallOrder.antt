@@ -8,9 +8,13 @@ use Rattle.std.specs.List.{list_all}
 use Rattle.macho_bytes.specs.Numbers.{rounded_up}
 use Rattle.macho_model.specs.declared.placed.PlacedSegment.{PlacedSegment}
 use Rattle.macho_model.specs.Lists.{EachNext}
-use Rattle.macho_model.specs.OutputSections.{OutputSection, Piece, end_of_piece}
-use Rattle.macho_model.specs.Order.{sections_in, row_of, table_pieces, BeginsLeast, StandInOrder, AreLeast, least_size}
-use Rattle.macho_model.specs.Order.{least_file_size, HaveRoom}
+use Rattle.macho_model.specs.steps.Outputs.{OutputSection}
+use Rattle.macho_model.specs.Placement.{Piece, end_of_piece}
+use Rattle.macho_model.specs.Order.{table_pieces, BeginsLeast}
+use Rattle.macho_model.specs.steps.Least.{sections_in, row_of, AreLeast, least_size}
+use Rattle.macho_model.specs.Spans.{StandInOrder}
+use Rattle.macho_model.specs.Order.{HaveRoom}
+use Rattle.macho_model.specs.steps.Least.{least_file_size}
 use Rattle.macho_model.proofs.EachBelow.{and_left, and_right, is_equal, all_pass}
 use Rattle.macho_model_checks.proofs.ExampleCall.{calls_exit, calling, counts_of_call, placed_call, head_of_call, fixups_of_call}
 use Rattle.macho_model_checks.proofs.ExampleCall.{tables_of_call, big_words, signature_of_call, call_image}
@@ -21,16 +25,18 @@ use Rattle.macho_model.specs.Objects.{num_sections, section_place, section_at, s
 use Rattle.macho_model.specs.Objects.{symbol_place, symbol_at, strings_of, symbol_name, relocation_place, relocation_at}
 use Rattle.macho_model.specs.ExportLists.{plain_entries, all_entries, entries_of}
 use Rattle.macho_model.specs.Links.{sections_of, carried_of, template_exponent, placed_exponent}
-use Rattle.macho_model.specs.Resolution.{symbols_of, strong_of, weak_of, commons_of, greatest_of, libraries_with, definition_of}
+use Rattle.macho_model.specs.Resolution.{symbols_of, strong_of, commons_of, greatest_of, libraries_with, definition_of}
 use Rattle.macho_model.specs.Resolution.{chosen_commons}
-use Rattle.macho_model.specs.Needs.{initializer_sections, unwind_sections, uses_of, imports_of, libraries_needed}
+use Rattle.macho_model.specs.Needs.{initializer_sections, unwind_sections, imports_of, libraries_needed, carried_relocations, initializer_relocations, personality_relocations}
 use Rattle.macho_model.specs.Targets.{target_of, target_of_relocation, slots_of, stubs_of}
 use Rattle.macho_model.specs.Fields.{fields_of}
 use Rattle.macho_model.specs.Segments.{other_segments, segment_names_of, output_keys_of, segments_for}
-use Rattle.macho_model.specs.OutputSections.{output_sections_of, output_sections_for, pieces_of}
+use Rattle.macho_model.specs.steps.Outputs.{output_sections_of, output_sections_for, pieces_of}
 use Rattle.macho_model.specs.SymbolTable.{table_symbols}
 use Rattle.macho_model_checks.proofs.Examples.{words8, words, halves, name16}
 use Rattle.macho_model_checks.proofs.ExampleLinks.{entry}
+use Rattle.macho_model.specs.Order.{AreLeast as StandLeast}
+use Rattle.macho_model.proofs.Outputs.{stand_least}
 
 -- pieces that pass the tests stand one behind the other, each as low as it may
 abbrev pub is_next : Piece → Piece → Bool
@@ -77,8 +83,8 @@ least_computed : (list_all (λ (s : PlacedSegment). are_least (row_in_call s)) p
 unfolding commands_end commands_of commands_from header_of reading le_at row_bytes le_bytes words8 words halves name16 entry calls_exit
     head_of_call fixups_of_call tables_of_call be_at be_bytes big_words signature_of_call call_image num_sections section_place
     section_at section_bytes symtab_of num_symbols symbol_place symbol_at strings_of symbol_name relocation_place relocation_at
-    sections_of carried_of template_exponent placed_exponent symbols_of strong_of weak_of commons_of greatest_of libraries_with
-    definition_of chosen_commons initializer_sections unwind_sections uses_of imports_of libraries_needed target_of
+    sections_of carried_of template_exponent placed_exponent symbols_of strong_of commons_of greatest_of libraries_with
+    definition_of chosen_commons initializer_sections unwind_sections carried_relocations initializer_relocations personality_relocations imports_of libraries_needed target_of
     target_of_relocation slots_of stubs_of fields_of plain_entries all_entries entries_of other_segments segment_names_of
     output_keys_of table_symbols output_sections_of output_sections_for pieces_of
     segments_for row_of
@@ -92,8 +98,8 @@ pub call_stands_in_order : StandInOrder calling counts_of_call placed_call
 unfolding commands_end commands_of commands_from header_of reading le_at row_bytes le_bytes words8 words halves name16 entry calls_exit
     head_of_call fixups_of_call tables_of_call be_at be_bytes big_words signature_of_call call_image num_sections section_place
     section_at section_bytes symtab_of num_symbols symbol_place symbol_at strings_of symbol_name relocation_place relocation_at
-    sections_of carried_of template_exponent placed_exponent symbols_of strong_of weak_of commons_of greatest_of libraries_with
-    definition_of chosen_commons initializer_sections unwind_sections uses_of imports_of libraries_needed target_of
+    sections_of carried_of template_exponent placed_exponent symbols_of strong_of commons_of greatest_of libraries_with
+    definition_of chosen_commons initializer_sections unwind_sections carried_relocations initializer_relocations personality_relocations imports_of libraries_needed target_of
     target_of_relocation slots_of stubs_of fields_of plain_entries all_entries entries_of other_segments segment_names_of
     output_keys_of table_symbols output_sections_of output_sections_for pieces_of
     segments_for row_of
@@ -104,9 +110,8 @@ call_stands_in_order = record {
   commons = refl;
 }
 
--- THE least places
-pub call_is_least : AreLeast calling counts_of_call placed_call
-call_is_least = record {
+least_of_kinds : AreLeast calling counts_of_call placed_call
+least_of_kinds = record {
   front = λ s one. subst (λ (x : PlacedSegment). x.file_offset ≡ 0) one.1 refl;
   rows = λ k d lt. least_pieces (row_in_call (get_or placed_call.segments k d))
       (all_pass (λ (s : PlacedSegment). are_least (row_in_call s)) placed_call.segments least_computed.0 k d lt);
@@ -119,3 +124,7 @@ call_is_least = record {
       (all_pass (λ (s : PlacedSegment). s.file_size == file_size_in_call s) placed_call.segments least_computed.4 k d lt);
   rooms = call_rooms;
 }
+
+-- THE least places
+pub call_is_least : StandLeast calling counts_of_call placed_call
+call_is_least = stand_least least_of_kinds

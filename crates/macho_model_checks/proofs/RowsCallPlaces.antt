@@ -7,9 +7,13 @@ use Rattle.std.proofs.Common.{◌≡◌, ℕ, ◌≤◌, ◌==◌, ◌&&◌, Boo
 use Rattle.std.specs.List.{All, AllPairs, list_all}
 use Rattle.macho_model.specs.declared.placed.PlacedSegment.{PlacedSegment}
 use Rattle.macho_model.specs.Lists.{IsNumber, EachNext}
-use Rattle.macho_model.specs.OutputSections.{OutputSection, Piece}
-use Rattle.macho_model.specs.Order.{sections_in, row_of, table_pieces, BeginsLeast, StandInOrder, AreLeast, least_size}
-use Rattle.macho_model.specs.Order.{least_file_size, HaveRoom}
+use Rattle.macho_model.specs.steps.Outputs.{OutputSection}
+use Rattle.macho_model.specs.Placement.{Piece}
+use Rattle.macho_model.specs.Order.{table_pieces, BeginsLeast}
+use Rattle.macho_model.specs.steps.Least.{sections_in, row_of, AreLeast, least_size}
+use Rattle.macho_model.specs.Spans.{StandInOrder}
+use Rattle.macho_model.specs.Order.{HaveRoom}
+use Rattle.macho_model.specs.steps.Least.{least_file_size}
 use Rattle.macho_model.proofs.Least.{EndsBefore, rows_in_order}
 use Rattle.macho_model.proofs.EachBelow.{and_left, and_right, is_equal, all_pass}
 use Rattle.macho_model_checks.proofs.ExampleCall.{calls_exit, calling, counts_of_call, placed_call, code_placed, data_placed, stub_placed}
@@ -22,13 +26,13 @@ use Rattle.macho_model.specs.Objects.{num_sections, section_place, section_at, s
 use Rattle.macho_model.specs.Objects.{symbol_place, symbol_at, strings_of, symbol_name, relocation_place, relocation_at}
 use Rattle.macho_model.specs.ExportLists.{plain_entries, all_entries, entries_of}
 use Rattle.macho_model.specs.Links.{sections_of, carried_of, template_exponent, placed_exponent}
-use Rattle.macho_model.specs.Resolution.{symbols_of, strong_of, weak_of, commons_of, greatest_of, libraries_with, definition_of}
+use Rattle.macho_model.specs.Resolution.{symbols_of, strong_of, commons_of, greatest_of, libraries_with, definition_of}
 use Rattle.macho_model.specs.Resolution.{chosen_commons}
-use Rattle.macho_model.specs.Needs.{initializer_sections, unwind_sections, uses_of, imports_of, libraries_needed}
+use Rattle.macho_model.specs.Needs.{initializer_sections, unwind_sections, imports_of, libraries_needed, carried_relocations, initializer_relocations, personality_relocations}
 use Rattle.macho_model.specs.Targets.{target_of, target_of_relocation, slots_of, stubs_of}
 use Rattle.macho_model.specs.Fields.{fields_of}
 use Rattle.macho_model.specs.Segments.{other_segments, segment_names_of, output_keys_of, segments_for}
-use Rattle.macho_model.specs.OutputSections.{output_sections_of, output_sections_for, pieces_of}
+use Rattle.macho_model.specs.steps.Outputs.{output_sections_of, output_sections_for, pieces_of}
 use Rattle.macho_model.specs.SymbolTable.{table_symbols}
 use Rattle.macho_model_checks.proofs.Examples.{words8, words, halves, name16}
 use Rattle.macho_model_checks.proofs.ExampleLinks.{entry}
@@ -36,6 +40,10 @@ use Rattle.macho_model_checks.proofs.ExamplePlacement.{header_a, section_a, text
 use Rattle.macho_model_checks.proofs.RowsCallOrder.{are_least, least_pieces, outputs_of_call, call_is_least}
 use Rattle.macho_model.specs.Links.{SectionId}
 use Rattle.macho_model.specs.Placement.{Placed, id_of}
+use Rattle.macho_model.specs.Placement.{IsWholeList}
+use Rattle.macho_model.specs.OutputSections.{output_sections_for as headers_for}
+use Rattle.macho_model.specs.Order.{AreLeast as StandLeast}
+use Rattle.macho_model.proofs.Outputs.{stand_least, least_of, headers_same}
 
 -- what the link has with a placement
 abbrev row_with : Placed → PlacedSegment → List Piece
@@ -99,8 +107,8 @@ gap_row : row_with with_gap data_segment ≡ front_of_data ∷ data_extent ∷ [
 unfolding commands_end commands_of commands_from header_of reading le_at row_bytes le_bytes words8 words halves name16 entry calls_exit
     head_of_call fixups_of_call tables_of_call be_at be_bytes big_words signature_of_call call_image num_sections section_place
     section_at section_bytes symtab_of num_symbols symbol_place symbol_at strings_of symbol_name relocation_place relocation_at
-    sections_of carried_of template_exponent placed_exponent symbols_of strong_of weak_of commons_of greatest_of libraries_with
-    definition_of chosen_commons initializer_sections unwind_sections uses_of imports_of libraries_needed target_of
+    sections_of carried_of template_exponent placed_exponent symbols_of strong_of commons_of greatest_of libraries_with
+    definition_of chosen_commons initializer_sections unwind_sections carried_relocations initializer_relocations personality_relocations imports_of libraries_needed target_of
     target_of_relocation slots_of stubs_of fields_of plain_entries all_entries entries_of other_segments segment_names_of
     output_keys_of table_symbols output_sections_of output_sections_for pieces_of
     segments_for row_of
@@ -111,8 +119,8 @@ pub gap_in_order : StandInOrder calling counts_of_call with_gap
 unfolding commands_end commands_of commands_from header_of reading le_at row_bytes le_bytes words8 words halves name16 entry calls_exit
     head_of_call fixups_of_call tables_of_call be_at be_bytes big_words signature_of_call call_image num_sections section_place
     section_at section_bytes symtab_of num_symbols symbol_place symbol_at strings_of symbol_name relocation_place relocation_at
-    sections_of carried_of template_exponent placed_exponent symbols_of strong_of weak_of commons_of greatest_of libraries_with
-    definition_of chosen_commons initializer_sections unwind_sections uses_of imports_of libraries_needed target_of
+    sections_of carried_of template_exponent placed_exponent symbols_of strong_of commons_of greatest_of libraries_with
+    definition_of chosen_commons initializer_sections unwind_sections carried_relocations initializer_relocations personality_relocations imports_of libraries_needed target_of
     target_of_relocation slots_of stubs_of fields_of plain_entries all_entries entries_of other_segments segment_names_of
     output_keys_of table_symbols output_sections_of output_sections_for pieces_of
     segments_for row_of
@@ -123,20 +131,23 @@ gap_in_order = record {
   commons = refl;
 }
 
-pub gap_in_headers : with_gap.output_sections ≡ output_sections_for calling counts_of_call with_gap
+kinds_in_headers : with_gap.output_sections ≡ output_sections_for calling counts_of_call with_gap
 unfolding commands_end commands_of commands_from header_of reading le_at row_bytes le_bytes words8 words halves name16 entry calls_exit
     head_of_call fixups_of_call tables_of_call be_at be_bytes big_words signature_of_call call_image num_sections section_place
     section_at section_bytes symtab_of num_symbols symbol_place symbol_at strings_of symbol_name relocation_place relocation_at
-    sections_of carried_of template_exponent placed_exponent symbols_of strong_of weak_of commons_of greatest_of libraries_with
-    definition_of chosen_commons initializer_sections unwind_sections uses_of imports_of libraries_needed target_of
+    sections_of carried_of template_exponent placed_exponent symbols_of strong_of commons_of greatest_of libraries_with
+    definition_of chosen_commons initializer_sections unwind_sections carried_relocations initializer_relocations personality_relocations imports_of libraries_needed target_of
     target_of_relocation slots_of stubs_of fields_of plain_entries all_entries entries_of other_segments segment_names_of
     output_keys_of table_symbols output_sections_of output_sections_for pieces_of
     segments_for row_of
-gap_in_headers = refl
+kinds_in_headers = refl
 
-pub least_is_asked : AreLeast calling counts_of_call with_gap → ⊥
+pub gap_in_headers : with_gap.output_sections ≡ headers_for calling counts_of_call with_gap
+gap_in_headers = kinds_in_headers ∙ sym (headers_same calling counts_of_call with_gap)
+
+pub least_is_asked : StandLeast calling counts_of_call with_gap → ⊥
 least_is_asked least =
-    let next = subst (λ (row : List Piece). EachNext BeginsLeast row) gap_row (least.rows 3 data_segment (omega arith)) in
+    let next = subst (λ (row : List Piece). EachNext BeginsLeast row) gap_row ((least_of least).rows 3 data_segment (omega arith)) in
     let place : 0x100008008 ≡ 0x100008000 = next 0 front_of_data data_extent (omega arith, refl) (omega arith, refl) in
     omega (arith, place)
 
@@ -151,8 +162,8 @@ exchanged_facts : (are_rows_least with_list_exchanged ≡ true) × (are_pieces_l
 unfolding commands_end commands_of commands_from header_of reading le_at row_bytes le_bytes words8 words halves name16 entry calls_exit
     head_of_call fixups_of_call tables_of_call be_at be_bytes big_words signature_of_call call_image num_sections section_place
     section_at section_bytes symtab_of num_symbols symbol_place symbol_at strings_of symbol_name relocation_place relocation_at
-    sections_of carried_of template_exponent placed_exponent symbols_of strong_of weak_of commons_of greatest_of libraries_with
-    definition_of chosen_commons initializer_sections unwind_sections uses_of imports_of libraries_needed target_of
+    sections_of carried_of template_exponent placed_exponent symbols_of strong_of commons_of greatest_of libraries_with
+    definition_of chosen_commons initializer_sections unwind_sections carried_relocations initializer_relocations personality_relocations imports_of libraries_needed target_of
     target_of_relocation slots_of stubs_of fields_of plain_entries all_entries entries_of other_segments segment_names_of
     output_keys_of table_symbols output_sections_of output_sections_for pieces_of
     segments_for row_of
@@ -170,15 +181,16 @@ exchanged_rooms = record {
 }
 
 -- each part has its least place
-pub exchanged_is_least : AreLeast calling counts_of_call with_list_exchanged
+pub exchanged_is_least : StandLeast calling counts_of_call with_list_exchanged
 exchanged_is_least =
-    least_places with_list_exchanged call_is_least.front exchanged_facts.0 exchanged_facts.1 exchanged_facts.2
-    exchanged_facts.3 exchanged_rooms
+    stand_least
+    (least_places with_list_exchanged call_is_least.front exchanged_facts.0 exchanged_facts.1 exchanged_facts.2
+    exchanged_facts.3 exchanged_rooms)
 
-pub list_order_is_asked : StandInOrder calling counts_of_call with_list_exchanged → ⊥
-list_order_is_asked order =
+pub list_order_is_asked : IsWholeList calling with_list_exchanged → ⊥
+list_order_is_asked whole =
     let numbers : 1 ∷ 0 ∷ [] ≡ 0 ∷ 1 ∷ [] =
-    sym exchanged_facts.4 ∙ ap (λ (ss : List SectionId). map (λ (s : SectionId). s.section) ss) order.sections ∙ exchanged_facts.5 in
+    sym exchanged_facts.4 ∙ ap (λ (ss : List SectionId). map (λ (s : SectionId). s.section) ss) whole.sections ∙ exchanged_facts.5 in
     let first : 1 ≡ 0 = ap (λ (ns : List ℕ). get_or ns 0 0) numbers in
     omega (arith, first)
 
@@ -196,16 +208,16 @@ places_row : row_with with_places_exchanged (text_from 0x100000000 0x4000)
 unfolding commands_end commands_of commands_from header_of reading le_at row_bytes le_bytes words8 words halves name16 entry calls_exit
     head_of_call fixups_of_call tables_of_call be_at be_bytes big_words signature_of_call call_image num_sections section_place
     section_at section_bytes symtab_of num_symbols symbol_place symbol_at strings_of symbol_name relocation_place relocation_at
-    sections_of carried_of template_exponent placed_exponent symbols_of strong_of weak_of commons_of greatest_of libraries_with
-    definition_of chosen_commons initializer_sections unwind_sections uses_of imports_of libraries_needed target_of
+    sections_of carried_of template_exponent placed_exponent symbols_of strong_of commons_of greatest_of libraries_with
+    definition_of chosen_commons initializer_sections unwind_sections carried_relocations initializer_relocations personality_relocations imports_of libraries_needed target_of
     target_of_relocation slots_of stubs_of fields_of plain_entries all_entries entries_of other_segments segment_names_of
     output_keys_of table_symbols output_sections_of output_sections_for pieces_of
     segments_for row_of
 places_row = refl
 
-pub order_is_asked : AreLeast calling counts_of_call with_places_exchanged → ⊥
+pub order_is_asked : StandLeast calling counts_of_call with_places_exchanged → ⊥
 order_is_asked least =
     let pairs = subst (λ (row : List Piece). AllPairs EndsBefore row) places_row
-    (rows_in_order calling counts_of_call with_places_exchanged least 1 data_segment (omega arith)) in
+    (rows_in_order calling counts_of_call with_places_exchanged (least_of least) 1 data_segment (omega arith)) in
     let behind : 0x1000003ac ≤ 0x100000398 = pairs 1 2 (piece 0 0 0) (omega arith) (omega arith) in
     omega (arith, behind)

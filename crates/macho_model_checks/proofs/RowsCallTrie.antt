@@ -16,12 +16,12 @@ use Rattle.std.proofs.lemmas.List.{take-append-drop}
 use Rattle.macho_model.specs.declared.placed.PlacedSection.{PlacedSection}
 use Rattle.macho_model.specs.declared.targets.Target.{Target}
 use Rattle.macho_model.specs.declared.targets.Target.TheVariants as target
-use Rattle.macho_model.specs.Exports.{IsExported, weak_flag, section_flag}
+use Rattle.macho_model.specs.Exports.{IsExported, section_flag}
 use Rattle.macho_trie.specs.Exports.{Exported, as_value}
 use Rattle.macho_trie.specs.Nodes.{Edge, Node, node_at, terminal_at, terminal_between, export_in, edges_at, edge_at, ended_name}
 use Rattle.macho_trie.specs.Trees.{Edges, no_edge, edge, LeadsTo, node_count, AreRadix}
 use Rattle.macho_trie.specs.Encoding.{says_of, tree_bytes, place_of, terminal_size, AreLeast}
-use Rattle.macho_trie.specs.Lookup.{leads, Finds, trie_finds}
+use Rattle.macho_trie.specs.Lookup.{Finds, trie_finds, leads}
 use Rattle.macho_trie.specs.Lookup as lookup
 use Rattle.macho_promise.specs.TrieSays.{ExportedAs, from_object, from_library, ValueOf, table_bytes, IsTrieText, TrieSays}
 use Rattle.macho_model_checks.proofs.ExamplePlacement.{section_a}
@@ -34,9 +34,11 @@ use Rattle.macho_model.specs.Objects.{num_sections, section_place, section_at, s
 use Rattle.macho_model.specs.Objects.{symbol_place, symbol_at, strings_of, symbol_name, relocation_place, relocation_at}
 use Rattle.macho_model.specs.ExportLists.{plain_entries, all_entries, entries_of}
 use Rattle.macho_model.specs.Links.{sections_of, carried_of, template_exponent, placed_exponent}
-use Rattle.macho_model.specs.Resolution.{SymbolId, Definition, Symbol, Library, ImageBase, DSO_HANDLE, first_or, symbols_of, strong_of}
-use Rattle.macho_model.specs.Resolution.{weak_of, commons_of, greatest_of, libraries_with, definition_of, chosen_commons}
-use Rattle.macho_model.specs.Needs.{initializer_sections, unwind_sections, uses_of, imports_of, libraries_needed}
+use Rattle.macho_model.specs.Resolution.{SymbolId, Definition, Symbol, Library, ImageBase, symbols_of, strong_of}
+use Rattle.macho_model.specs.steps.Resolved.{DSO_HANDLE, first_or, first_definition}
+use Rattle.macho_model.specs.Resolution.{commons_of, greatest_of, libraries_with, definition_of, chosen_commons}
+use Rattle.macho_model.specs.steps.Resolved.{weak_of}
+use Rattle.macho_model.specs.Needs.{initializer_sections, unwind_sections, imports_of, libraries_needed, carried_relocations, initializer_relocations, personality_relocations}
 use Rattle.macho_model.specs.Targets.{target_of_name, target_of, target_of_relocation, slots_of, stubs_of}
 use Rattle.macho_model.specs.Fields.{fields_of}
 use Rattle.macho_model.specs.Segments.{other_segments, segment_names_of, output_keys_of}
@@ -46,6 +48,8 @@ use Rattle.macho_model.specs.Fixups.{own_entries, import_entries_of, entries_hav
 use Rattle.macho_model.specs.ImportTable.{fixup_count, names_text}
 use Rattle.macho_model_checks.proofs.Examples.{words8, words, halves, name16}
 use Rattle.macho_model_checks.proofs.ExampleLinks.{entry}
+use Rattle.macho_model.specs.steps.Exports.{weak_flag}
+use Rattle.macho_model.proofs.Resolved.{definition_is_first}
 
 unfoldable pub trie_of_call : List ℕ
 trie_of_call = 0x00 ∷ 0x01 ∷ 0x5f ∷ 0x6d ∷ 0x61 ∷ 0x69 ∷ 0x6e ∷ 0x00 ∷ 0x09 ∷ 0x03 ∷ 0x00 ∷ 0x98 ∷ 0x07 ∷ 0x00 ∷ []
@@ -91,11 +95,11 @@ definition_here : (name : List ℕ) → definition_of calling name
 unfolding commands_end commands_of commands_from header_of reading le_at row_bytes le_bytes words8 words halves name16 entry calls_exit
     head_of_call fixups_of_call tables_of_call be_at be_bytes big_words signature_of_call call_image num_sections section_place
     section_at section_bytes symtab_of num_symbols symbol_place symbol_at strings_of symbol_name relocation_place relocation_at
-    sections_of carried_of template_exponent placed_exponent symbols_of strong_of weak_of commons_of greatest_of definition_of
-    chosen_commons initializer_sections unwind_sections uses_of imports_of libraries_needed target_of target_of_relocation
+    sections_of carried_of template_exponent placed_exponent symbols_of strong_of weak_of commons_of greatest_of definition_of first_definition
+    chosen_commons initializer_sections unwind_sections carried_relocations initializer_relocations personality_relocations imports_of libraries_needed target_of target_of_relocation
     slots_of stubs_of fields_of plain_entries all_entries entries_of other_segments segment_names_of output_keys_of
     own_entries import_entries_of entries_have_addends fixup_count names_text
-definition_here name = refl
+definition_here name = definition_is_first calling name
 
 pub named_main : (name : List ℕ) (s : SymbolId) → definition_of calling name ≡ Some (Symbol s) → (name ≡ codes "_main") × (s ≡ main_symbol)
 named_main name s h =
@@ -110,7 +114,7 @@ unfolding commands_end commands_of commands_from header_of reading le_at row_byt
     head_of_call fixups_of_call tables_of_call be_at be_bytes big_words signature_of_call call_image num_sections section_place
     section_at section_bytes symtab_of num_symbols symbol_place symbol_at strings_of symbol_name relocation_place relocation_at
     sections_of carried_of template_exponent placed_exponent symbols_of strong_of weak_of commons_of greatest_of libraries_with
-    definition_of chosen_commons initializer_sections unwind_sections uses_of imports_of libraries_needed target_of
+    definition_of chosen_commons initializer_sections unwind_sections carried_relocations initializer_relocations personality_relocations imports_of libraries_needed target_of
     target_of_relocation slots_of stubs_of fields_of plain_entries all_entries entries_of other_segments segment_names_of
     output_keys_of own_entries import_entries_of entries_have_addends fixup_count names_text
 main_facts = (refl, refl, refl)
@@ -140,7 +144,7 @@ unfolding commands_end commands_of commands_from header_of reading le_at row_byt
     head_of_call fixups_of_call tables_of_call be_at be_bytes big_words signature_of_call call_image num_sections section_place
     section_at section_bytes symtab_of num_symbols symbol_place symbol_at strings_of symbol_name relocation_place relocation_at
     sections_of carried_of template_exponent placed_exponent symbols_of strong_of weak_of commons_of greatest_of libraries_with
-    definition_of chosen_commons initializer_sections unwind_sections uses_of imports_of libraries_needed target_of
+    definition_of chosen_commons initializer_sections unwind_sections carried_relocations initializer_relocations personality_relocations imports_of libraries_needed target_of
     target_of_relocation slots_of stubs_of fields_of plain_entries all_entries entries_of other_segments segment_names_of
     output_keys_of own_entries import_entries_of entries_have_addends fixup_count names_text
 main_is_exported = (refl, refl, refl)
@@ -150,7 +154,7 @@ unfolding commands_end commands_of commands_from header_of reading le_at row_byt
     head_of_call fixups_of_call tables_of_call be_at be_bytes big_words signature_of_call call_image num_sections section_place
     section_at section_bytes symtab_of num_symbols symbol_place symbol_at strings_of symbol_name relocation_place relocation_at
     sections_of carried_of template_exponent placed_exponent symbols_of strong_of weak_of commons_of greatest_of libraries_with
-    definition_of chosen_commons initializer_sections unwind_sections uses_of imports_of libraries_needed target_of
+    definition_of chosen_commons initializer_sections unwind_sections carried_relocations initializer_relocations personality_relocations imports_of libraries_needed target_of
     target_of_relocation slots_of stubs_of fields_of plain_entries all_entries entries_of other_segments segment_names_of
     output_keys_of own_entries import_entries_of entries_have_addends fixup_count names_text
 main_exported = from_object main_symbol (as_value 0 0x398) main_is_exported

@@ -10,8 +10,9 @@ use Rattle.macho_model.specs.Fields.{Field}
 use Rattle.macho_model.specs.Placement.{Placed}
 use Rattle.macho_model.specs.Memory.{Choice}
 use Rattle.macho_model.specs.Stands.{Pointer, Says, LoadSays, LoadIsAt}
-use Rattle.macho_model.specs.Words.{is_branch, is_adrp, is_add, is_ldr, is_load_store, load_scale, scale_of}
+use Rattle.macho_model.specs.Words.{is_branch, is_adrp, is_add, is_ldr, is_load_store, scale_of}
 use Rattle.macho_model.specs.Meaning.{PointsTo, IsDifference, BranchesTo, PagesTo, OffsetsTo, AddsTo, LoadsFrom, IsDistance, GoesThrough}
+use Rattle.macho_model.specs.steps.Words.{load_scale}
 
 -- the slide of the second facts, one that takes the image over the middle of the addresses
 abbrev pub slide : ℕ

@@ -11,9 +11,9 @@ use Rattle.macho_model.specs.Objects.{num_sections, section_place, section_at, s
 use Rattle.macho_model.specs.Objects.{symbol_place, symbol_at, strings_of, symbol_name, relocation_place, relocation_at}
 use Rattle.macho_model.specs.ExportLists.{plain_entries, all_entries, entries_of}
 use Rattle.macho_model.specs.Links.{sections_of, carried_of, template_exponent, placed_exponent}
-use Rattle.macho_model.specs.Resolution.{Definition, Symbol, Library, ImageBase, symbols_of, strong_of, weak_of, commons_of, greatest_of}
+use Rattle.macho_model.specs.Resolution.{Definition, Symbol, Library, ImageBase, symbols_of, strong_of, commons_of, greatest_of}
 use Rattle.macho_model.specs.Resolution.{libraries_with, definition_of, chosen_commons}
-use Rattle.macho_model.specs.Needs.{initializer_sections, unwind_sections, uses_of, imports_of, libraries_needed}
+use Rattle.macho_model.specs.Needs.{initializer_sections, unwind_sections, imports_of, libraries_needed, carried_relocations, initializer_relocations, personality_relocations}
 use Rattle.macho_model.specs.Targets.{target_of, target_of_relocation, slots_of, stubs_of}
 use Rattle.macho_model.specs.Fields.{fields_of}
 use Rattle.macho_model.specs.Rows.{is_supported, share_byte, are_pair}
@@ -42,8 +42,8 @@ answers =
 pub each_name_has_its_definition : AllByRecursion (λ a. definition_of resolving a.name ≡ a.definition) answers
 unfolding header_of commands_from commands_of commands_end num_sections section_place section_at section_bytes symtab_of
     num_symbols symbol_place symbol_at strings_of symbol_name relocation_place relocation_at sections_of carried_of template_exponent
-    placed_exponent symbols_of strong_of weak_of commons_of greatest_of libraries_with definition_of chosen_commons
-    initializer_sections unwind_sections uses_of imports_of libraries_needed target_of target_of_relocation slots_of stubs_of
+    placed_exponent symbols_of strong_of commons_of greatest_of libraries_with definition_of chosen_commons
+    initializer_sections unwind_sections carried_relocations initializer_relocations personality_relocations imports_of libraries_needed target_of target_of_relocation slots_of stubs_of
     fields_of is_supported plain_entries all_entries entries_of le_at le_bytes row_bytes reading words8 words halves name16
     object_b entry text_object asks defines_strongly defines_weakly finds_addresses asks_too_much
 each_name_has_its_definition = (refl, (refl, (refl, (refl, (refl, (refl, (refl, tt)))))))
@@ -52,8 +52,8 @@ each_name_has_its_definition = (refl, (refl, (refl, (refl, (refl, (refl, (refl, 
 pub one_common_is_chosen : chosen_commons resolving ≡ symbol 1 2 ∷ []
 unfolding header_of commands_from commands_of commands_end num_sections section_place section_at section_bytes symtab_of
     num_symbols symbol_place symbol_at strings_of symbol_name relocation_place relocation_at sections_of carried_of template_exponent
-    placed_exponent symbols_of strong_of weak_of commons_of greatest_of libraries_with definition_of chosen_commons
-    initializer_sections unwind_sections uses_of imports_of libraries_needed target_of target_of_relocation slots_of stubs_of
+    placed_exponent symbols_of strong_of commons_of greatest_of libraries_with definition_of chosen_commons
+    initializer_sections unwind_sections carried_relocations initializer_relocations personality_relocations imports_of libraries_needed target_of target_of_relocation slots_of stubs_of
     fields_of is_supported plain_entries all_entries entries_of le_at le_bytes row_bytes reading words8 words halves name16
     object_b entry text_object asks defines_strongly defines_weakly finds_addresses asks_too_much
 one_common_is_chosen = refl
@@ -63,8 +63,8 @@ pub symbols_lead_to : map (target_of resolving) (symbol 0 0 ∷ symbol 0 1 ∷ s
     ∷ target.Common 0 ∷ []
 unfolding header_of commands_from commands_of commands_end num_sections section_place section_at section_bytes symtab_of
     num_symbols symbol_place symbol_at strings_of symbol_name relocation_place relocation_at sections_of carried_of template_exponent
-    placed_exponent symbols_of strong_of weak_of commons_of greatest_of libraries_with definition_of chosen_commons
-    initializer_sections unwind_sections uses_of imports_of libraries_needed target_of target_of_relocation slots_of stubs_of
+    placed_exponent symbols_of strong_of commons_of greatest_of libraries_with definition_of chosen_commons
+    initializer_sections unwind_sections carried_relocations initializer_relocations personality_relocations imports_of libraries_needed target_of target_of_relocation slots_of stubs_of
     fields_of is_supported plain_entries all_entries entries_of le_at le_bytes row_bytes reading words8 words halves name16
     object_b entry text_object asks defines_strongly defines_weakly finds_addresses asks_too_much
 symbols_lead_to = refl
@@ -73,8 +73,8 @@ symbols_lead_to = refl
 pub two_strong_ones : strong_of doubled (codes "_f") ≡ symbol 0 0 ∷ symbol 2 0 ∷ []
 unfolding header_of commands_from commands_of commands_end num_sections section_place section_at section_bytes symtab_of
     num_symbols symbol_place symbol_at strings_of symbol_name relocation_place relocation_at sections_of carried_of template_exponent
-    placed_exponent symbols_of strong_of weak_of commons_of greatest_of libraries_with definition_of chosen_commons
-    initializer_sections unwind_sections uses_of imports_of libraries_needed target_of target_of_relocation slots_of stubs_of
+    placed_exponent symbols_of strong_of commons_of greatest_of libraries_with definition_of chosen_commons
+    initializer_sections unwind_sections carried_relocations initializer_relocations personality_relocations imports_of libraries_needed target_of target_of_relocation slots_of stubs_of
     fields_of is_supported plain_entries all_entries entries_of le_at le_bytes row_bytes reading words8 words halves name16
     object_b entry text_object asks defines_strongly defines_weakly finds_addresses asks_too_much
 two_strong_ones = refl
@@ -83,8 +83,8 @@ two_strong_ones = refl
 pub carried_sections : carried_of linked_b ≡ section 0 0 ∷ section 0 1 ∷ section 0 2 ∷ section 0 3 ∷ []
 unfolding header_of commands_from commands_of commands_end num_sections section_place section_at section_bytes symtab_of
     num_symbols symbol_place symbol_at strings_of symbol_name relocation_place relocation_at sections_of carried_of template_exponent
-    placed_exponent symbols_of strong_of weak_of commons_of greatest_of libraries_with definition_of chosen_commons
-    initializer_sections unwind_sections uses_of imports_of libraries_needed target_of target_of_relocation slots_of stubs_of
+    placed_exponent symbols_of strong_of commons_of greatest_of libraries_with definition_of chosen_commons
+    initializer_sections unwind_sections carried_relocations initializer_relocations personality_relocations imports_of libraries_needed target_of target_of_relocation slots_of stubs_of
     fields_of is_supported plain_entries all_entries entries_of le_at le_bytes row_bytes reading words8 words halves name16
     object_b entry text_object asks defines_strongly defines_weakly finds_addresses asks_too_much
 carried_sections = refl
@@ -104,8 +104,8 @@ pub fields_of_data : fields_of linked_b (section 0 1) ≡
     ∷ []
 unfolding header_of commands_from commands_of commands_end num_sections section_place section_at section_bytes symtab_of
     num_symbols symbol_place symbol_at strings_of symbol_name relocation_place relocation_at sections_of carried_of template_exponent
-    placed_exponent symbols_of strong_of weak_of commons_of greatest_of libraries_with definition_of chosen_commons
-    initializer_sections unwind_sections uses_of imports_of libraries_needed target_of target_of_relocation slots_of stubs_of
+    placed_exponent symbols_of strong_of commons_of greatest_of libraries_with definition_of chosen_commons
+    initializer_sections unwind_sections carried_relocations initializer_relocations personality_relocations imports_of libraries_needed target_of target_of_relocation slots_of stubs_of
     fields_of is_supported plain_entries all_entries entries_of le_at le_bytes row_bytes reading words8 words halves name16
     object_b entry text_object asks defines_strongly defines_weakly finds_addresses asks_too_much
 fields_of_data = refl
@@ -115,8 +115,8 @@ pub fields_of_text : fields_of linked_b (section 0 0) ≡
     record { relocation = 0; offset = 0; width = 4; type = 2; target = target.Import 0; subtrahend = None; addend = 0 } ∷ []
 unfolding header_of commands_from commands_of commands_end num_sections section_place section_at section_bytes symtab_of
     num_symbols symbol_place symbol_at strings_of symbol_name relocation_place relocation_at sections_of carried_of template_exponent
-    placed_exponent symbols_of strong_of weak_of commons_of greatest_of libraries_with definition_of chosen_commons
-    initializer_sections unwind_sections uses_of imports_of libraries_needed target_of target_of_relocation slots_of stubs_of
+    placed_exponent symbols_of strong_of commons_of greatest_of libraries_with definition_of chosen_commons
+    initializer_sections unwind_sections carried_relocations initializer_relocations personality_relocations imports_of libraries_needed target_of target_of_relocation slots_of stubs_of
     fields_of is_supported plain_entries all_entries entries_of le_at le_bytes row_bytes reading words8 words halves name16
     object_b entry text_object asks defines_strongly defines_weakly finds_addresses asks_too_much
 fields_of_text = refl
@@ -127,8 +127,8 @@ pub needs_of_a_call : (imports_of linked_b ≡ codes "_exit" ∷ []) × (stubs_o
     × (libraries_needed linked_b ≡ codes "/usr/lib/libSystem.B.dylib" ∷ [])
 unfolding header_of commands_from commands_of commands_end num_sections section_place section_at section_bytes symtab_of
     num_symbols symbol_place symbol_at strings_of symbol_name relocation_place relocation_at sections_of carried_of template_exponent
-    placed_exponent symbols_of strong_of weak_of commons_of greatest_of libraries_with definition_of chosen_commons
-    initializer_sections unwind_sections uses_of imports_of libraries_needed target_of target_of_relocation slots_of stubs_of
+    placed_exponent symbols_of strong_of commons_of greatest_of libraries_with definition_of chosen_commons
+    initializer_sections unwind_sections carried_relocations initializer_relocations personality_relocations imports_of libraries_needed target_of target_of_relocation slots_of stubs_of
     fields_of is_supported plain_entries all_entries entries_of le_at le_bytes row_bytes reading words8 words halves name16
     object_b entry text_object asks defines_strongly defines_weakly finds_addresses asks_too_much
 needs_of_a_call = (refl, refl, refl, refl)
@@ -142,8 +142,8 @@ pub fields_with_addends : fields_of finding (section 0 0) ≡
     ∷ []
 unfolding header_of commands_from commands_of commands_end num_sections section_place section_at section_bytes symtab_of
     num_symbols symbol_place symbol_at strings_of symbol_name relocation_place relocation_at sections_of carried_of template_exponent
-    placed_exponent symbols_of strong_of weak_of commons_of greatest_of libraries_with definition_of chosen_commons
-    initializer_sections unwind_sections uses_of imports_of libraries_needed target_of target_of_relocation slots_of stubs_of
+    placed_exponent symbols_of strong_of commons_of greatest_of libraries_with definition_of chosen_commons
+    initializer_sections unwind_sections carried_relocations initializer_relocations personality_relocations imports_of libraries_needed target_of target_of_relocation slots_of stubs_of
     fields_of is_supported plain_entries all_entries entries_of le_at le_bytes row_bytes reading words8 words halves name16
     object_b entry text_object asks defines_strongly defines_weakly finds_addresses asks_too_much
 fields_with_addends = refl
@@ -152,8 +152,8 @@ fields_with_addends = refl
 pub needs_of_a_load : (slots_of finding ≡ target.Import 0 ∷ []) × (stubs_of finding ≡ [])
 unfolding header_of commands_from commands_of commands_end num_sections section_place section_at section_bytes symtab_of
     num_symbols symbol_place symbol_at strings_of symbol_name relocation_place relocation_at sections_of carried_of template_exponent
-    placed_exponent symbols_of strong_of weak_of commons_of greatest_of libraries_with definition_of chosen_commons
-    initializer_sections unwind_sections uses_of imports_of libraries_needed target_of target_of_relocation slots_of stubs_of
+    placed_exponent symbols_of strong_of commons_of greatest_of libraries_with definition_of chosen_commons
+    initializer_sections unwind_sections carried_relocations initializer_relocations personality_relocations imports_of libraries_needed target_of target_of_relocation slots_of stubs_of
     fields_of is_supported plain_entries all_entries entries_of le_at le_bytes row_bytes reading words8 words halves name16
     object_b entry text_object asks defines_strongly defines_weakly finds_addresses asks_too_much
 needs_of_a_load = (refl, refl)
@@ -162,8 +162,8 @@ needs_of_a_load = (refl, refl)
 pub supported_ones : map (is_supported finding (section 0 0)) (0 ∷ 1 ∷ 2 ∷ 3 ∷ 4 ∷ 5 ∷ []) ≡ true ∷ true ∷ true ∷ true ∷ true ∷ true ∷ []
 unfolding header_of commands_from commands_of commands_end num_sections section_place section_at section_bytes symtab_of
     num_symbols symbol_place symbol_at strings_of symbol_name relocation_place relocation_at sections_of carried_of template_exponent
-    placed_exponent symbols_of strong_of weak_of commons_of greatest_of libraries_with definition_of chosen_commons
-    initializer_sections unwind_sections uses_of imports_of libraries_needed target_of target_of_relocation slots_of stubs_of
+    placed_exponent symbols_of strong_of commons_of greatest_of libraries_with definition_of chosen_commons
+    initializer_sections unwind_sections carried_relocations initializer_relocations personality_relocations imports_of libraries_needed target_of target_of_relocation slots_of stubs_of
     fields_of is_supported plain_entries all_entries entries_of le_at le_bytes row_bytes reading words8 words halves name16
     object_b entry text_object asks defines_strongly defines_weakly finds_addresses asks_too_much
 supported_ones = refl
@@ -172,8 +172,8 @@ pub pairs : (share_byte finding (section 0 0) 0 1 ≡ true) × (are_pair finding
     × (share_byte finding (section 0 0) 1 2 ≡ false)
 unfolding header_of commands_from commands_of commands_end num_sections section_place section_at section_bytes symtab_of
     num_symbols symbol_place symbol_at strings_of symbol_name relocation_place relocation_at sections_of carried_of template_exponent
-    placed_exponent symbols_of strong_of weak_of commons_of greatest_of libraries_with definition_of chosen_commons
-    initializer_sections unwind_sections uses_of imports_of libraries_needed target_of target_of_relocation slots_of stubs_of
+    placed_exponent symbols_of strong_of commons_of greatest_of libraries_with definition_of chosen_commons
+    initializer_sections unwind_sections carried_relocations initializer_relocations personality_relocations imports_of libraries_needed target_of target_of_relocation slots_of stubs_of
     fields_of is_supported plain_entries all_entries entries_of le_at le_bytes row_bytes reading words8 words halves name16
     object_b entry text_object asks defines_strongly defines_weakly finds_addresses asks_too_much
 pairs = (refl, refl, refl)
@@ -183,8 +183,8 @@ pairs = (refl, refl, refl)
 pub unsupported_ones : map (is_supported unsupported (section 0 0)) (0 ∷ 1 ∷ 2 ∷ 3 ∷ []) ≡ false ∷ false ∷ true ∷ false ∷ []
 unfolding header_of commands_from commands_of commands_end num_sections section_place section_at section_bytes symtab_of
     num_symbols symbol_place symbol_at strings_of symbol_name relocation_place relocation_at sections_of carried_of template_exponent
-    placed_exponent symbols_of strong_of weak_of commons_of greatest_of libraries_with definition_of chosen_commons
-    initializer_sections unwind_sections uses_of imports_of libraries_needed target_of target_of_relocation slots_of stubs_of
+    placed_exponent symbols_of strong_of commons_of greatest_of libraries_with definition_of chosen_commons
+    initializer_sections unwind_sections carried_relocations initializer_relocations personality_relocations imports_of libraries_needed target_of target_of_relocation slots_of stubs_of
     fields_of is_supported plain_entries all_entries entries_of le_at le_bytes row_bytes reading words8 words halves name16
     object_b entry text_object asks defines_strongly defines_weakly finds_addresses asks_too_much
 unsupported_ones = refl
@@ -193,8 +193,8 @@ unsupported_ones = refl
 pub overlap : (share_byte unsupported (section 0 0) 3 4 ≡ true) × (are_pair unsupported (section 0 0) 3 4 ≡ false)
 unfolding header_of commands_from commands_of commands_end num_sections section_place section_at section_bytes symtab_of
     num_symbols symbol_place symbol_at strings_of symbol_name relocation_place relocation_at sections_of carried_of template_exponent
-    placed_exponent symbols_of strong_of weak_of commons_of greatest_of libraries_with definition_of chosen_commons
-    initializer_sections unwind_sections uses_of imports_of libraries_needed target_of target_of_relocation slots_of stubs_of
+    placed_exponent symbols_of strong_of commons_of greatest_of libraries_with definition_of chosen_commons
+    initializer_sections unwind_sections carried_relocations initializer_relocations personality_relocations imports_of libraries_needed target_of target_of_relocation slots_of stubs_of
     fields_of is_supported plain_entries all_entries entries_of le_at le_bytes row_bytes reading words8 words halves name16
     object_b entry text_object asks defines_strongly defines_weakly finds_addresses asks_too_much
 overlap = (refl, refl)

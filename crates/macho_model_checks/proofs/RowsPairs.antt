@@ -9,9 +9,9 @@ use Rattle.macho_model.specs.Objects.{num_sections, section_place, section_at, s
 use Rattle.macho_model.specs.Objects.{symbol_place, symbol_at, strings_of, symbol_name, relocation_place, relocation_at}
 use Rattle.macho_model.specs.ExportLists.{plain_entries, all_entries, entries_of}
 use Rattle.macho_model.specs.Links.{Link, Object, sections_of, carried_of, template_exponent, placed_exponent}
-use Rattle.macho_model.specs.Resolution.{symbols_of, strong_of, weak_of, commons_of, greatest_of, libraries_with, definition_of}
+use Rattle.macho_model.specs.Resolution.{symbols_of, strong_of, commons_of, greatest_of, libraries_with, definition_of}
 use Rattle.macho_model.specs.Resolution.{chosen_commons}
-use Rattle.macho_model.specs.Needs.{initializer_sections, unwind_sections, uses_of, imports_of, libraries_needed}
+use Rattle.macho_model.specs.Needs.{initializer_sections, unwind_sections, imports_of, libraries_needed, carried_relocations, initializer_relocations, personality_relocations}
 use Rattle.macho_model.specs.Targets.{target_of, target_of_relocation, slots_of, stubs_of}
 use Rattle.macho_model.specs.Fields.{fields_of}
 use Rattle.macho_model.specs.Rows.{is_supported, are_pair}
@@ -38,8 +38,8 @@ pub no_difference : (fields_of apart (section 0 0) ≡
     × (are_pair apart (section 0 0) 0 1 ≡ false)
 unfolding header_of commands_from commands_of commands_end num_sections section_place section_at section_bytes symtab_of
     num_symbols symbol_place symbol_at strings_of symbol_name relocation_place relocation_at sections_of carried_of template_exponent
-    placed_exponent symbols_of strong_of weak_of commons_of greatest_of libraries_with definition_of chosen_commons
-    initializer_sections unwind_sections uses_of imports_of libraries_needed target_of target_of_relocation slots_of stubs_of
+    placed_exponent symbols_of strong_of commons_of greatest_of libraries_with definition_of chosen_commons
+    initializer_sections unwind_sections carried_relocations initializer_relocations personality_relocations imports_of libraries_needed target_of target_of_relocation slots_of stubs_of
     fields_of is_supported plain_entries all_entries entries_of le_at le_bytes row_bytes reading words8 words halves name16
     entry text_object of_text
 no_difference = (refl, refl, refl, refl)
@@ -52,8 +52,8 @@ pub no_uneven_difference : (is_supported uneven (section 0 0) 0 ≡ false) × (i
     × (are_pair uneven (section 0 0) 0 1 ≡ false)
 unfolding header_of commands_from commands_of commands_end num_sections section_place section_at section_bytes symtab_of
     num_symbols symbol_place symbol_at strings_of symbol_name relocation_place relocation_at sections_of carried_of template_exponent
-    placed_exponent symbols_of strong_of weak_of commons_of greatest_of libraries_with definition_of chosen_commons
-    initializer_sections unwind_sections uses_of imports_of libraries_needed target_of target_of_relocation slots_of stubs_of
+    placed_exponent symbols_of strong_of commons_of greatest_of libraries_with definition_of chosen_commons
+    initializer_sections unwind_sections carried_relocations initializer_relocations personality_relocations imports_of libraries_needed target_of target_of_relocation slots_of stubs_of
     fields_of is_supported plain_entries all_entries entries_of le_at le_bytes row_bytes reading words8 words halves name16
     entry text_object of_text
 no_uneven_difference = (refl, refl, refl)
@@ -76,8 +76,8 @@ pub a_difference : (fields_of together (section 0 0) ≡
     × (are_pair together (section 0 0) 0 1 ≡ true)
 unfolding header_of commands_from commands_of commands_end num_sections section_place section_at section_bytes symtab_of
     num_symbols symbol_place symbol_at strings_of symbol_name relocation_place relocation_at sections_of carried_of template_exponent
-    placed_exponent symbols_of strong_of weak_of commons_of greatest_of libraries_with definition_of chosen_commons
-    initializer_sections unwind_sections uses_of imports_of libraries_needed target_of target_of_relocation slots_of stubs_of
+    placed_exponent symbols_of strong_of commons_of greatest_of libraries_with definition_of chosen_commons
+    initializer_sections unwind_sections carried_relocations initializer_relocations personality_relocations imports_of libraries_needed target_of target_of_relocation slots_of stubs_of
     fields_of is_supported plain_entries all_entries entries_of le_at le_bytes row_bytes reading words8 words halves name16
     entry text_object of_text
 a_difference = (refl, refl, refl, refl)
@@ -91,8 +91,8 @@ pub no_addend : (fields_of elsewhere (section 0 0) ≡
     × (is_supported elsewhere (section 0 0) 0 ≡ false) × (is_supported elsewhere (section 0 0) 1 ≡ true)
 unfolding header_of commands_from commands_of commands_end num_sections section_place section_at section_bytes symtab_of
     num_symbols symbol_place symbol_at strings_of symbol_name relocation_place relocation_at sections_of carried_of template_exponent
-    placed_exponent symbols_of strong_of weak_of commons_of greatest_of libraries_with definition_of chosen_commons
-    initializer_sections unwind_sections uses_of imports_of libraries_needed target_of target_of_relocation slots_of stubs_of
+    placed_exponent symbols_of strong_of commons_of greatest_of libraries_with definition_of chosen_commons
+    initializer_sections unwind_sections carried_relocations initializer_relocations personality_relocations imports_of libraries_needed target_of target_of_relocation slots_of stubs_of
     fields_of is_supported plain_entries all_entries entries_of le_at le_bytes row_bytes reading words8 words halves name16
     entry text_object of_text
 no_addend = (refl, refl, refl)
@@ -106,8 +106,8 @@ pub addends_by_number : (map (λ f. f.target) (fields_of by_number (section 0 0)
     × (map (λ f. f.addend) (fields_of by_number (section 0 0)) ≡ 8 ∷ (2 ^ 64 - 8) ∷ [])
 unfolding header_of commands_from commands_of commands_end num_sections section_place section_at section_bytes symtab_of
     num_symbols symbol_place symbol_at strings_of symbol_name relocation_place relocation_at sections_of carried_of template_exponent
-    placed_exponent symbols_of strong_of weak_of commons_of greatest_of libraries_with definition_of chosen_commons
-    initializer_sections unwind_sections uses_of imports_of libraries_needed target_of target_of_relocation slots_of stubs_of
+    placed_exponent symbols_of strong_of commons_of greatest_of libraries_with definition_of chosen_commons
+    initializer_sections unwind_sections carried_relocations initializer_relocations personality_relocations imports_of libraries_needed target_of target_of_relocation slots_of stubs_of
     fields_of is_supported plain_entries all_entries entries_of le_at le_bytes row_bytes reading words8 words halves name16
     entry text_object of_text changed
 addends_by_number = (refl, refl)
@@ -120,8 +120,8 @@ with_slots = alone (of_text (words (0 ∷ 0x90000000 ∷ 0x90000000 ∷ [])) (0 
 pub slots_needed : (slots_of with_slots ≡ target.Section 0 0 0 ∷ target.Import 0 ∷ []) × (stubs_of with_slots ≡ [])
 unfolding header_of commands_from commands_of commands_end num_sections section_place section_at section_bytes symtab_of
     num_symbols symbol_place symbol_at strings_of symbol_name relocation_place relocation_at sections_of carried_of template_exponent
-    placed_exponent symbols_of strong_of weak_of commons_of greatest_of libraries_with definition_of chosen_commons
-    initializer_sections unwind_sections uses_of imports_of libraries_needed target_of target_of_relocation slots_of stubs_of
+    placed_exponent symbols_of strong_of commons_of greatest_of libraries_with definition_of chosen_commons
+    initializer_sections unwind_sections carried_relocations initializer_relocations personality_relocations imports_of libraries_needed target_of target_of_relocation slots_of stubs_of
     fields_of is_supported plain_entries all_entries entries_of le_at le_bytes row_bytes reading words8 words halves name16
     entry text_object of_text
 slots_needed = (refl, refl)
@@ -131,8 +131,8 @@ pub other_targets : (target_of with_slots (record { file = 0; symbol = 3 }) ≡ 
     × (target_of with_slots (record { file = 0; symbol = 2 }) ≡ target.Absolute 42)
 unfolding header_of commands_from commands_of commands_end num_sections section_place section_at section_bytes symtab_of
     num_symbols symbol_place symbol_at strings_of symbol_name relocation_place relocation_at sections_of carried_of template_exponent
-    placed_exponent symbols_of strong_of weak_of commons_of greatest_of libraries_with definition_of chosen_commons
-    initializer_sections unwind_sections uses_of imports_of libraries_needed target_of target_of_relocation slots_of stubs_of
+    placed_exponent symbols_of strong_of commons_of greatest_of libraries_with definition_of chosen_commons
+    initializer_sections unwind_sections carried_relocations initializer_relocations personality_relocations imports_of libraries_needed target_of target_of_relocation slots_of stubs_of
     fields_of is_supported plain_entries all_entries entries_of le_at le_bytes row_bytes reading words8 words halves name16
     entry text_object of_text
 other_targets = (refl, refl)
@@ -145,8 +145,8 @@ pub a_listed_name_needs_its_library : (libraries_needed (listing (codes "_exit" 
     × (imports_of (listing (codes "_exit" ∷ [])) ≡ codes "_exit" ∷ []) × (libraries_needed (listing []) ≡ [])
 unfolding header_of commands_from commands_of commands_end num_sections section_place section_at section_bytes symtab_of
     num_symbols symbol_place symbol_at strings_of symbol_name relocation_place relocation_at sections_of carried_of template_exponent
-    placed_exponent symbols_of strong_of weak_of commons_of greatest_of libraries_with definition_of chosen_commons
-    initializer_sections unwind_sections uses_of imports_of libraries_needed target_of target_of_relocation slots_of stubs_of
+    placed_exponent symbols_of strong_of commons_of greatest_of libraries_with definition_of chosen_commons
+    initializer_sections unwind_sections carried_relocations initializer_relocations personality_relocations imports_of libraries_needed target_of target_of_relocation slots_of stubs_of
     fields_of is_supported plain_entries all_entries entries_of le_at le_bytes row_bytes reading words8 words halves name16
     entry text_object of_text
 a_listed_name_needs_its_library = (refl, refl, refl)

@@ -10,17 +10,23 @@ use Rattle.std.specs.List.{AllByRecursion}
 use Rattle.std.proofs.lemmas.Bool.{leb-true, le-leb}
 use Rattle.std.proofs.lemmas.List.Elements.{All-nil, All-cons, All-from_recursion, All-contains, All-weaker}
 use Rattle.std.proofs.lemmas.List.Kept.{AllPairs-cons}
-use Rattle.std.proofs.lemmas.List.Sorted.{IsPermutation-refl, length_permutation}
 use Rattle.macho_records.specs.Sections.{is_zerofill}
 use Rattle.macho_model.specs.declared.placed.Range64.{Range64}
 use Rattle.macho_model.specs.declared.placed.PlacedSegment.{PlacedSegment}
 use Rattle.macho_model.specs.declared.placed.PlacedSection.{PlacedSection}
-use Rattle.macho_model.specs.Links.{SectionId, header_at, carried_of, placed_exponent}
+use Rattle.macho_model.specs.Links.{SectionId, header_at, placed_exponent}
 use Rattle.macho_model.specs.Segments.{TEXT, base_of_link, segment_rank}
 use Rattle.macho_model.specs.WrittenSum.{written_sum_of}
-use Rattle.macho_model.specs.Placement.{Placed, Span, AreApart, spans_with, SectionLies, TableLies, IsWholeList, IsAligned, IsInSegment}
-use Rattle.macho_model.specs.Placement.{IsPaged, Follows, IsInOrder, TextBegins, TemplateHolds, is_segment_named, template_sections}
-use Rattle.macho_model.specs.Placement.{LiesIn, IsPlaced, id_of, section_span, head_span, range_span, linkedit_span, linkedit_ranges}
+use Rattle.macho_model.specs.Placement.{Placed, IsWholeList}
+use Rattle.macho_model.specs.Zeros.{Span}
+use Rattle.macho_model.specs.Spans.{AreApart, spans_with}
+use Rattle.macho_model.specs.steps.Parts.{SectionLies, TableLies, IsAligned, IsInSegment}
+use Rattle.macho_model.specs.Placement.{IsPaged, Follows, is_segment_named, template_sections}
+use Rattle.macho_model.specs.Spans.{IsInOrder, TextBegins}
+use Rattle.macho_model.specs.steps.Parts.{TemplateHolds}
+use Rattle.macho_model.specs.Placement.{IsPlaced, id_of, linkedit_ranges}
+use Rattle.macho_model.specs.steps.Parts.{LiesIn}
+use Rattle.macho_model.specs.Spans.{section_span, head_span, range_span, linkedit_span}
 use Rattle.macho_model.proofs.EachBelow.{true_or_false, and_left, and_right, and_both, either, or_first, or_second, is_equal, equal_is}
 use Rattle.macho_model.proofs.EachBelow.{same_number, other_number}
 use Rattle.macho_model.specs.Lists.{EachNext}
@@ -28,6 +34,8 @@ use Rattle.macho_model_checks.proofs.Examples.{name16}
 use Rattle.macho_model_checks.proofs.ExampleLinks.{section}
 use Rattle.macho_model_checks.proofs.ExamplePlacement.{link_a, counts_a, nothing, pagezero_to, text_from, section_a, placed_with, placed_a}
 use Rattle.macho_model_checks.proofs.FactsA.{section_of_a, carried_a, exponent_a, commons_a, slots_a, stubs_a, sum_a}
+use Rattle.macho_model.specs.Placement.{pieces_with, AreApart as ArePiecesApart, IsInSegment as ArePiecesIn, TemplateHolds as PieceTemplate}
+use Rattle.macho_model.proofs.Parts.{IsEven, even_parts, even_pieces, parts_in, pieces_in, apart_parts, apart_pieces, template_pieces}
 
 -- The parts of the relation.
 pub data PlacementPart : Type 0 where
@@ -43,11 +51,11 @@ pub data PlacementPart : Type 0 where
 abbrev pub Part : Placed → PlacementPart → Type 0
 Part p Base = p.base ≡ base_of_link link_a
 Part p WholeList = IsWholeList link_a p
-Part p Aligned = IsAligned link_a p
-Part p InSegment = IsInSegment link_a p
-Part p NonOverlapping = AllPairs AreApart (spans_with link_a counts_a p p.sections)
+Part p Aligned = All IsEven (pieces_with link_a counts_a p p.sections)
+Part p InSegment = ArePiecesIn link_a p
+Part p NonOverlapping = AllPairs ArePiecesApart (pieces_with link_a counts_a p p.sections)
 Part p InOrder = IsInOrder link_a p
-Part p Template = TemplateHolds link_a counts_a p p.template
+Part p Template = PieceTemplate link_a counts_a p p.template
 Part p WithinSum = All (λ (s : PlacedSegment). s.address + s.size ≤ p.base + written_sum_of link_a counts_a) p.segments
 
 pub placed_by_parts : (p : Placed) → ((part : PlacementPart) → Part p part) → IsPlaced link_a counts_a p
@@ -57,7 +65,9 @@ placed_by_parts p h = record {
   aligned = h Aligned;
   in_segment = h InSegment;
   apart = h NonOverlapping;
-  in_order = h InOrder;
+  paged = (h InOrder).paged;
+  follow = (h InOrder).follow;
+  begins = (h InOrder).begins;
   template = h Template;
   within_sum = h WithinSum;
 }
@@ -77,8 +87,8 @@ module _ (base start address size : ℕ) (template : Option Range64) where
   -- the lists are whole
   whole : IsWholeList link_a (placed_with base start address size template)
   whole = record {
-    sections = rw carried_a (IsPermutation-refl (section 0 0 ∷ []));
-    commons = rw commons_a (IsPermutation-refl []);
+    sections = sym carried_a;
+    commons = rw commons_a refl;
     slots = sym slots_a;
     stubs = sym stubs_a;
     stub_slots = λ k d lt. absurd (omega (arith, lt));
@@ -184,24 +194,28 @@ pub part_holds : (base start address size : ℕ) (template : Option Range64) (pa
     → Part (placed_with base start address size template) part
 part_holds base start address size template Base h = is_equal base 0x100000000 h
 part_holds base start address size template WholeList h = whole base start address size template
-part_holds base start address size template Aligned h = aligned base start address size template (is_equal (address % 4) 0 h)
+part_holds base start address size template Aligned h =
+    even_pieces link_a counts_a (placed_with base start address size template) (aligned base start address size template (is_equal (address % 4) 0 h))
 part_holds base start address size template InSegment h =
-    in_segment base start address size template (leb-true start address (and_left (nat_le start address)
+    pieces_in link_a counts_a (placed_with base start address size template)
+    (in_segment base start address size template (leb-true start address (and_left (nat_le start address)
     (nat_le (address + 8) (start + 0x4000)) h))
-    (leb-true (address + 8) (start + 0x4000) (and_right (nat_le start address) (nat_le (address + 8) (start + 0x4000)) h))
+    (leb-true (address + 8) (start + 0x4000) (and_right (nat_le start address) (nat_le (address + 8) (start + 0x4000)) h)))
 part_holds base start address size template NonOverlapping h =
-    apart base start address size template (beside base start address size template
+    apart_pieces link_a counts_a (placed_with base start address size template) (placed_with base start address size template).sections
+    (apart base start address size template (beside base start address size template
     (elim (either (nat_le (base + 312) address) (nat_le (address + 8) base) h) [
       | inl before ↦ inl (leb-true (base + 312) address before)
       | inr behind ↦ inr (leb-true (address + 8) base behind)
-    ]))
+    ])))
 part_holds base start address size template InOrder h =
     let rest = and_right (size % 0x4000 == 0) (nat_le 0x4000 size && (start == 0x100000000)) h in
     in_order base start address size template (is_equal (size % 0x4000) 0 (and_left (size % 0x4000 == 0)
     (nat_le 0x4000 size && (start == 0x100000000)) h))
     (leb-true 0x4000 size (and_left (nat_le 0x4000 size) (start == 0x100000000) rest))
     (is_equal start 0x100000000 (and_right (nat_le 0x4000 size) (start == 0x100000000) rest))
-part_holds base start address size template Template h = no_template base start address size template (none_is template h)
+part_holds base start address size template Template h =
+    template_pieces link_a counts_a (placed_with base start address size template) template (no_template base start address size template (none_is template h))
 part_holds base start address size template WithinSum h =
     let fits = leb-true (start + size) (base + 66806) h in
     rw sum_a (All-from_recursion (λ (s : PlacedSegment). s.address + s.size ≤ base + 66806) (pagezero_to start ∷ text_from start size ∷ [])
@@ -271,15 +285,16 @@ pub part_asks : (base start address size : ℕ) (template : Option Range64) (par
 part_asks base start address size template Base h = equal_is base 0x100000000 h
 part_asks base start address size template WholeList h = refl
 part_asks base start address size template Aligned h =
-    let first = h.sections 0 (section_a address) (omega arith) in
+    let first = (even_parts link_a counts_a (placed_with base start address size template) h).sections 0 (section_a address) (omega arith) in
     equal_is (address % 4) 0 (rw exponent_a at first)
 part_asks base start address size template InSegment h =
-    let lies = h.sections 0 (section_a address) (omega arith) in
+    let lies = (parts_in link_a counts_a (placed_with base start address size template) h).sections 0 (section_a address) (omega arith) in
     let both = inside start address size lies.0 lies.1.1 lies.3 in
     and_both (nat_le start address) (nat_le (address + 8) (start + 0x4000)) (le-leb start address both.0)
     (le-leb (address + 8) (start + 0x4000) both.1)
 part_asks base start address size template NonOverlapping h =
-    elim (beside_needed base start address size template (first_two base start address size template h)) [
+    elim (beside_needed base start address size template (first_two base start address size template
+    (apart_parts link_a counts_a (placed_with base start address size template) (placed_with base start address size template).sections h))) [
       | inl before ↦ or_first (nat_le (base + 312) address) (nat_le (address + 8) base) (le-leb (base + 312) address before)
       | inr behind ↦ or_second (nat_le (base + 312) address) (nat_le (address + 8) base) (le-leb (address + 8) base behind)
     ]
@@ -392,7 +407,7 @@ placed_without = record placed_a { sections = [] }
 
 section_is_missing : IsWholeList link_a placed_without → ⊥
 section_is_missing whole =
-    let long = length_permutation [] (carried_of link_a) whole.sections in
+    let long = ap (λ (xs : List SectionId). length xs) whole.sections in
     let one = ap (λ (xs : List SectionId). length xs) carried_a in omega arith
 
 apart_without_section : AllPairs AreApart (spans_with link_a counts_a placed_without placed_without.sections)
@@ -405,27 +420,26 @@ apart_without_section =
 others_without : (other : PlacementPart) → part_number other ≢ part_number WholeList → Part placed_without other
 others_without Base apart = refl
 others_without WholeList apart = absurd (apart refl)
-others_without Aligned apart = record {
+others_without Aligned apart = even_pieces link_a counts_a placed_without (record {
   sections = λ k d lt. absurd (omega (arith, lt));
   commons = λ k d lt. absurd (omega (arith, lt));
   slots = λ k d lt. absurd (omega (arith, lt));
   stubs = λ k d lt. absurd (omega (arith, lt));
-}
+})
 others_without InSegment apart =
     let with_it = a_is_placed.in_segment in record {
       sections = λ k d lt. absurd (omega (arith, lt));
       commons = with_it.commons;
       slots = with_it.slots;
       stubs = with_it.stubs;
-      init_offsets = with_it.init_offsets;
-      unwind = with_it.unwind;
+      ranges = with_it.ranges;
       linkedit = with_it.linkedit;
     }
-others_without NonOverlapping apart = apart_without_section
+others_without NonOverlapping apart = apart_pieces link_a counts_a placed_without placed_without.sections apart_without_section
 others_without InOrder apart = record {
-  paged = a_is_placed.in_order.paged;
-  follow = a_is_placed.in_order.follow;
-  begins = a_is_placed.in_order.begins;
+  paged = a_is_placed.paged;
+  follow = a_is_placed.follow;
+  begins = a_is_placed.begins;
 }
 others_without Template apart = refl
 others_without WithinSum apart = a_is_placed.within_sum

@@ -7,7 +7,7 @@ use Rattle.std.proofs.Common.{◌≡◌, ℕ, List, [], ◌∷◌, ◌++◌, len
 use Rattle.std.specs.Prelude.{codes, slice_index, slice_range}
 use Rattle.sha2.specs.Sha256.{sha256, compress, rounds, schedule, first_words, hash_after, digest_bytes}
 use Rattle.macho_bytes.specs.Numbers.{le_at, le_bytes, be_at, be_bytes, row_bytes}
-use Rattle.macho_bytes.specs.Layouts.{reading, spelling}
+use Rattle.macho_bytes.specs.Layouts.{reading}
 use Rattle.macho_records.specs.declared.header.SegmentCommand.{SegmentCommand}
 use Rattle.macho_model.specs.Commands.{header_of, commands_from, commands_of, commands_end}
 use Rattle.macho_model.specs.Links.{Link}
@@ -17,6 +17,7 @@ use Rattle.macho_model.specs.Signature.{page_digest, page_digests, signature_tex
 use Rattle.macho_model_checks.proofs.Examples.{words8, words, name16, changed}
 use Rattle.macho_model_checks.proofs.ExampleLinks.{executable_of}
 use Rattle.macho_model_checks.proofs.ExampleCall.{big_words}
+use Rattle.macho_bytes.specs.Spellings.{spelling}
 
 abbrev pub signing : Link
 signing = executable_of []

@@ -10,9 +10,9 @@ use Rattle.macho_model.specs.Objects.{num_sections, section_place, section_at, s
 use Rattle.macho_model.specs.Objects.{symbol_place, symbol_at, strings_of, symbol_name, relocation_place, relocation_at}
 use Rattle.macho_model.specs.ExportLists.{plain_entries, all_entries, entries_of}
 use Rattle.macho_model.specs.Links.{Link, Object, sections_of, carried_of, template_exponent, placed_exponent}
-use Rattle.macho_model.specs.Resolution.{symbols_of, strong_of, weak_of, commons_of, greatest_of, libraries_with, definition_of}
+use Rattle.macho_model.specs.Resolution.{symbols_of, strong_of, commons_of, greatest_of, libraries_with, definition_of}
 use Rattle.macho_model.specs.Resolution.{chosen_commons}
-use Rattle.macho_model.specs.Needs.{initializer_sections, unwind_sections, uses_of, imports_of, libraries_needed}
+use Rattle.macho_model.specs.Needs.{initializer_sections, unwind_sections, imports_of, libraries_needed, carried_relocations, initializer_relocations, personality_relocations}
 use Rattle.macho_model.specs.Targets.{target_of, target_of_relocation, slots_of, stubs_of}
 use Rattle.macho_model.specs.Fields.{fields_of}
 use Rattle.macho_model.specs.Rows.{is_supported}
@@ -20,7 +20,7 @@ use Rattle.macho_model.specs.Signature.{uuid_written}
 use Rattle.macho_model.specs.Segments.{TEXT, DATA_CONST, LINKEDIT, PAGEZERO, other_segments, segment_rank, segment_names_of, segments_for}
 use Rattle.macho_model.specs.Segments.{output_keys_of, output_count}
 use Rattle.macho_model.specs.WrittenSum.{FIXUP_RECORDS}
-use Rattle.macho_model.specs.OutputSections.{output_sections_of, key_of_output}
+use Rattle.macho_model.specs.OutputSections.{output_sections_of}
 use Rattle.macho_model.specs.Consumed.{entries_of_link}
 use Rattle.macho_model.specs.Fixups.{import_entries_of, own_entries, entries_have_addends}
 use Rattle.macho_model.specs.Made.{initializers_of}
@@ -47,8 +47,8 @@ pub sizes_of_a : counts_with link_a 22 ≡ record {
 }
 unfolding header_of commands_from commands_of commands_end num_sections section_place section_at section_bytes symtab_of
     num_symbols symbol_place symbol_at strings_of symbol_name relocation_place relocation_at sections_of carried_of template_exponent
-    placed_exponent symbols_of strong_of weak_of commons_of greatest_of libraries_with definition_of chosen_commons
-    initializer_sections unwind_sections uses_of imports_of libraries_needed target_of target_of_relocation slots_of stubs_of
+    placed_exponent symbols_of strong_of commons_of greatest_of libraries_with definition_of chosen_commons
+    initializer_sections unwind_sections carried_relocations initializer_relocations personality_relocations imports_of libraries_needed target_of target_of_relocation slots_of stubs_of
     fields_of is_supported plain_entries all_entries entries_of other_segments segment_rank segment_names_of output_keys_of
     output_count le_at le_bytes row_bytes reading words8 words halves name16 entry text_object object_a object_b
     counts_with commands_size uuid_written initializers_of import_entries_of own_entries entries_have_addends table_symbols
@@ -61,8 +61,8 @@ pub segments_of_a : segments_for link_a ≡
     ∷ record { name = LINKEDIT; protection = 1; flags = 0 } ∷ []
 unfolding header_of commands_from commands_of commands_end num_sections section_place section_at section_bytes symtab_of
     num_symbols symbol_place symbol_at strings_of symbol_name relocation_place relocation_at sections_of carried_of template_exponent
-    placed_exponent symbols_of strong_of weak_of commons_of greatest_of libraries_with definition_of chosen_commons
-    initializer_sections unwind_sections uses_of imports_of libraries_needed target_of target_of_relocation slots_of stubs_of
+    placed_exponent symbols_of strong_of commons_of greatest_of libraries_with definition_of chosen_commons
+    initializer_sections unwind_sections carried_relocations initializer_relocations personality_relocations imports_of libraries_needed target_of target_of_relocation slots_of stubs_of
     fields_of is_supported plain_entries all_entries entries_of other_segments segment_rank segment_names_of output_keys_of
     output_count le_at le_bytes row_bytes reading words8 words halves name16 entry text_object object_a object_b
     counts_with commands_size uuid_written initializers_of import_entries_of own_entries entries_have_addends table_symbols
@@ -89,8 +89,8 @@ pub sizes_of_a_call : counts_with calls_exit 22 ≡ record {
 }
 unfolding header_of commands_from commands_of commands_end num_sections section_place section_at section_bytes symtab_of
     num_symbols symbol_place symbol_at strings_of symbol_name relocation_place relocation_at sections_of carried_of template_exponent
-    placed_exponent symbols_of strong_of weak_of commons_of greatest_of libraries_with definition_of chosen_commons
-    initializer_sections unwind_sections uses_of imports_of libraries_needed target_of target_of_relocation slots_of stubs_of
+    placed_exponent symbols_of strong_of commons_of greatest_of libraries_with definition_of chosen_commons
+    initializer_sections unwind_sections carried_relocations initializer_relocations personality_relocations imports_of libraries_needed target_of target_of_relocation slots_of stubs_of
     fields_of is_supported plain_entries all_entries entries_of other_segments segment_rank segment_names_of output_keys_of
     output_count le_at le_bytes row_bytes reading words8 words halves name16 entry text_object object_a object_b
     counts_with commands_size uuid_written initializers_of import_entries_of own_entries entries_have_addends table_symbols
@@ -102,20 +102,20 @@ pub segments_of_a_call : segments_for calls_exit ≡
     ∷ record { name = DATA_CONST; protection = 3; flags = 0x10 } ∷ record { name = LINKEDIT; protection = 1; flags = 0 } ∷ []
 unfolding header_of commands_from commands_of commands_end num_sections section_place section_at section_bytes symtab_of
     num_symbols symbol_place symbol_at strings_of symbol_name relocation_place relocation_at sections_of carried_of template_exponent
-    placed_exponent symbols_of strong_of weak_of commons_of greatest_of libraries_with definition_of chosen_commons
-    initializer_sections unwind_sections uses_of imports_of libraries_needed target_of target_of_relocation slots_of stubs_of
+    placed_exponent symbols_of strong_of commons_of greatest_of libraries_with definition_of chosen_commons
+    initializer_sections unwind_sections carried_relocations initializer_relocations personality_relocations imports_of libraries_needed target_of target_of_relocation slots_of stubs_of
     fields_of is_supported plain_entries all_entries entries_of other_segments segment_rank segment_names_of output_keys_of
     output_count le_at le_bytes row_bytes reading words8 words halves name16 entry text_object object_a object_b
     counts_with commands_size uuid_written initializers_of import_entries_of own_entries entries_have_addends table_symbols
     entries_of_link output_sections_of segments_for
 segments_of_a_call = refl
 
-pub sections_of_a_call : map (λ o. (key_of_output o).name) (output_sections_of calls_exit (counts_with calls_exit 22))
+pub sections_of_a_call : map (λ o. o.key.name) (output_sections_of calls_exit (counts_with calls_exit 22))
     ≡ codes "__text" ∷ codes "__stubs" ∷ codes "__got" ∷ []
 unfolding header_of commands_from commands_of commands_end num_sections section_place section_at section_bytes symtab_of
     num_symbols symbol_place symbol_at strings_of symbol_name relocation_place relocation_at sections_of carried_of template_exponent
-    placed_exponent symbols_of strong_of weak_of commons_of greatest_of libraries_with definition_of chosen_commons
-    initializer_sections unwind_sections uses_of imports_of libraries_needed target_of target_of_relocation slots_of stubs_of
+    placed_exponent symbols_of strong_of commons_of greatest_of libraries_with definition_of chosen_commons
+    initializer_sections unwind_sections carried_relocations initializer_relocations personality_relocations imports_of libraries_needed target_of target_of_relocation slots_of stubs_of
     fields_of is_supported plain_entries all_entries entries_of other_segments segment_rank segment_names_of output_keys_of
     output_count le_at le_bytes row_bytes reading words8 words halves name16 entry text_object object_a object_b
     counts_with commands_size uuid_written initializers_of import_entries_of own_entries entries_have_addends table_symbols
@@ -137,8 +137,8 @@ pub sizes_of_a_library : (commands_size (library_of []) ≡ 128) × ((counts_wit
     × ((counts_with (record (library_of (codes "@loader_path" ∷ [])) { headerpad = true }) 0).padding ≡ 2048)
 unfolding header_of commands_from commands_of commands_end num_sections section_place section_at section_bytes symtab_of
     num_symbols symbol_place symbol_at strings_of symbol_name relocation_place relocation_at sections_of carried_of template_exponent
-    placed_exponent symbols_of strong_of weak_of commons_of greatest_of libraries_with definition_of chosen_commons
-    initializer_sections unwind_sections uses_of imports_of libraries_needed target_of target_of_relocation slots_of stubs_of
+    placed_exponent symbols_of strong_of commons_of greatest_of libraries_with definition_of chosen_commons
+    initializer_sections unwind_sections carried_relocations initializer_relocations personality_relocations imports_of libraries_needed target_of target_of_relocation slots_of stubs_of
     fields_of is_supported plain_entries all_entries entries_of other_segments segment_rank segment_names_of output_keys_of
     output_count le_at le_bytes row_bytes reading words8 words halves name16 entry text_object object_a object_b
     counts_with commands_size uuid_written initializers_of import_entries_of own_entries entries_have_addends table_symbols
@@ -146,12 +146,12 @@ unfolding header_of commands_from commands_of commands_end num_sections section_
 sizes_of_a_library = (refl, refl, refl, refl, refl)
 
 -- Output sections by segment and kind: code, stubs, the slots, data, the template, and then zeros with the commons first.
-pub sections_of_b : map (λ o. (key_of_output o).name) (output_sections_of linked_b (counts_with linked_b 22))
+pub sections_of_b : map (λ o. o.key.name) (output_sections_of linked_b (counts_with linked_b 22))
     ≡ codes "__text" ∷ codes "__stubs" ∷ codes "__got" ∷ codes "__data" ∷ codes "__thread_data" ∷ codes "__common" ∷ codes "__bss" ∷ []
 unfolding header_of commands_from commands_of commands_end num_sections section_place section_at section_bytes symtab_of
     num_symbols symbol_place symbol_at strings_of symbol_name relocation_place relocation_at sections_of carried_of template_exponent
-    placed_exponent symbols_of strong_of weak_of commons_of greatest_of libraries_with definition_of chosen_commons
-    initializer_sections unwind_sections uses_of imports_of libraries_needed target_of target_of_relocation slots_of stubs_of
+    placed_exponent symbols_of strong_of commons_of greatest_of libraries_with definition_of chosen_commons
+    initializer_sections unwind_sections carried_relocations initializer_relocations personality_relocations imports_of libraries_needed target_of target_of_relocation slots_of stubs_of
     fields_of is_supported plain_entries all_entries entries_of other_segments segment_rank segment_names_of output_keys_of
     output_count le_at le_bytes row_bytes reading words8 words halves name16 entry text_object object_a object_b
     counts_with commands_size uuid_written initializers_of import_entries_of own_entries entries_have_addends table_symbols
@@ -162,8 +162,8 @@ sections_of_b = refl
 pub table_of_b : table_symbols linked_b ≡ symbol 0 0 ∷ symbol 0 1 ∷ symbol 0 2 ∷ []
 unfolding header_of commands_from commands_of commands_end num_sections section_place section_at section_bytes symtab_of
     num_symbols symbol_place symbol_at strings_of symbol_name relocation_place relocation_at sections_of carried_of template_exponent
-    placed_exponent symbols_of strong_of weak_of commons_of greatest_of libraries_with definition_of chosen_commons
-    initializer_sections unwind_sections uses_of imports_of libraries_needed target_of target_of_relocation slots_of stubs_of
+    placed_exponent symbols_of strong_of commons_of greatest_of libraries_with definition_of chosen_commons
+    initializer_sections unwind_sections carried_relocations initializer_relocations personality_relocations imports_of libraries_needed target_of target_of_relocation slots_of stubs_of
     fields_of is_supported plain_entries all_entries entries_of other_segments segment_rank segment_names_of output_keys_of
     output_count le_at le_bytes row_bytes reading words8 words halves name16 entry text_object object_a object_b
     counts_with commands_size uuid_written initializers_of import_entries_of own_entries entries_have_addends table_symbols

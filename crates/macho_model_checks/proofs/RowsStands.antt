@@ -19,19 +19,20 @@ use Rattle.macho_model.specs.Objects.{num_sections, section_place, section_at, s
 use Rattle.macho_model.specs.Objects.{symbol_place, symbol_at, strings_of, symbol_name, relocation_place, relocation_at}
 use Rattle.macho_model.specs.Links.{Link, Object, object_of, header_at, sections_of, carried_of, template_exponent, placed_exponent}
 use Rattle.macho_model.specs.Targets.{target_of, target_of_relocation, slots_of, stubs_of}
-use Rattle.macho_model.specs.Resolution.{entry_at, symbols_of, strong_of, weak_of, commons_of, greatest_of, libraries_with, definition_of}
+use Rattle.macho_model.specs.Resolution.{entry_at, symbols_of, strong_of, commons_of, greatest_of, libraries_with, definition_of}
 use Rattle.macho_model.specs.Resolution.{chosen_commons}
 use Rattle.macho_model.specs.Fields.{fields_of}
 use Rattle.macho_model.specs.Images.{segments_of, mapped_segments, tables_of, base_of, libraries_of, tries_of, signatures_of}
 use Rattle.macho_model.specs.Images.{symbol_tables_of, string_tables_of, entries_of_file}
 use Rattle.macho_model.specs.Memory.{Choice, Holds, HoldsText}
-use Rattle.macho_model.specs.Placement.{Placed, Span, id_of, common_of}
-use Rattle.macho_model.specs.Zeros.{contents_of, IsOutsideSpan, IsZeroElsewhere}
+use Rattle.macho_model.specs.Placement.{Placed, id_of, common_of}
+use Rattle.macho_model.specs.Zeros.{Span}
+use Rattle.macho_model.specs.Zeros.{contents_of, IsZeroElsewhere}
 use Rattle.macho_model.proofs.EachBelow.{all_pass}
 use Rattle.std.specs.List.{list_all}
-use Rattle.macho_model.specs.Stands.{IsOutsideField, Denotes, SectionStands, CommonStands, SlotStands, StubStands}
+use Rattle.macho_model.specs.Stands.{Denotes, SectionStands, SlotStands, StubStands}
 use Rattle.macho_model.specs.Stands.{ImageStands, IsLoadable}
-use Rattle.macho_model.specs.Needs.{initializer_sections, unwind_sections, uses_of, imports_of, libraries_needed}
+use Rattle.macho_model.specs.Needs.{initializer_sections, unwind_sections, imports_of, libraries_needed, carried_relocations, initializer_relocations, personality_relocations}
 use Rattle.macho_model.specs.ExportLists.{plain_entries, all_entries, entries_of}
 use Rattle.macho_model.specs.Segments.{other_segments, segment_names_of, output_keys_of}
 use Rattle.macho_model.specs.Fixups.{own_entries, import_entries_of, entries_have_addends}
@@ -46,6 +47,8 @@ use Rattle.macho_model.proofs.Unchained.{uncovered}
 use Rattle.macho_model.proofs.Memory.{all_free, text_is_held}
 use Rattle.macho_model_checks.proofs.RowsLoader.{no_tables, smallest_is_accepted}
 use Rattle.macho_model_checks.proofs.RowsPlacement.{a_is_placed}
+use Rattle.macho_model.specs.steps.Stands.{CommonStands}
+use Rattle.macho_model.specs.Spans.{IsOutsideField, IsOutsideSpan}
 
 -- `__TEXT` of the smallest image
 text_segment : SegmentCommand
@@ -232,7 +235,7 @@ facts_c : (common_size_of (entry_at link_c (common_of link_c 0)) ≡ 4) × ((hea
     × (fields_of link_c (section 0 0) ≡ [])
     × (section_bytes (object_of link_c 0) 0 ≡ code)
 unfolding header_of commands_from commands_of commands_end num_sections section_place section_at section_bytes symtab_of
-    num_symbols symbol_place symbol_at strings_of symbol_name sections_of carried_of symbols_of strong_of weak_of commons_of greatest_of
+    num_symbols symbol_place symbol_at strings_of symbol_name sections_of carried_of symbols_of strong_of commons_of greatest_of
     libraries_with definition_of chosen_commons target_of target_of_relocation fields_of relocation_place relocation_at le_at le_bytes
     row_bytes reading words8 words halves name16 entry text_object object_c
 facts_c = (refl, refl, refl, refl)
@@ -321,10 +324,10 @@ is_outside part = nat_le 513 part.start || nat_le (part.start + part.size) 512
 outside_parts : list_all is_outside (contents_of link_c with_one (placed_c 0x100000200) 0) ≡ true
 unfolding contents_of tables_of with_one commands_end text_segment mapped_segments segments_of commands_of commands_from header_of reading
     le_at row_bytes le_bytes words8 words name16 smallest changed num_sections section_place section_at section_bytes symtab_of
-    num_symbols symbol_place symbol_at strings_of symbol_name sections_of carried_of symbols_of strong_of weak_of commons_of
+    num_symbols symbol_place symbol_at strings_of symbol_name sections_of carried_of symbols_of strong_of commons_of
     greatest_of libraries_with definition_of chosen_commons target_of target_of_relocation fields_of relocation_place
     relocation_at halves entry text_object object_c template_exponent placed_exponent initializer_sections unwind_sections
-    uses_of imports_of libraries_needed slots_of stubs_of plain_entries all_entries entries_of other_segments
+    carried_relocations initializer_relocations personality_relocations imports_of libraries_needed slots_of stubs_of plain_entries all_entries entries_of other_segments
     segment_names_of output_keys_of own_entries import_entries_of entries_have_addends fixup_count names_text base_of
     libraries_of tries_of signatures_of symbol_tables_of string_tables_of entries_of_file offset_in_file
 outside_parts = refl

@@ -10,16 +10,17 @@ use Rattle.macho_model.specs.Objects.{num_sections, section_place, section_at, s
 use Rattle.macho_model.specs.Objects.{symbol_place, symbol_at, strings_of, symbol_name, relocation_place, relocation_at}
 use Rattle.macho_model.specs.ExportLists.{plain_entries, all_entries, entries_of}
 use Rattle.macho_model.specs.Links.{Link, Object, sections_of, carried_of, template_exponent, placed_exponent}
-use Rattle.macho_model.specs.Resolution.{Symbol, symbols_of, strong_of, weak_of, commons_of, greatest_of, libraries_with, definition_of}
+use Rattle.macho_model.specs.Resolution.{Symbol, symbols_of, strong_of, commons_of, greatest_of, libraries_with, definition_of}
 use Rattle.macho_model.specs.Resolution.{chosen_commons, entry_at}
-use Rattle.macho_model.specs.Needs.{initializer_sections, unwind_sections, uses_of, imports_of, libraries_needed}
+use Rattle.macho_model.specs.Needs.{initializer_sections, unwind_sections, imports_of, libraries_needed, carried_relocations, initializer_relocations, personality_relocations}
 use Rattle.macho_model.specs.Targets.{target_of, target_of_name, target_of_relocation, slots_of, stubs_of}
-use Rattle.macho_model.specs.Exports.{is_listed, weak_flag, section_flag}
+use Rattle.macho_model.specs.Exports.{is_listed, section_flag}
 use Rattle.macho_trie.specs.Exports.{as_value}
 use Rattle.macho_promise.specs.TrieSays.{ExportedAs, from_object}
 use Rattle.macho_model_checks.proofs.Examples.{words8, words, halves, name16, object_a, object_b, changed, header_b}
 use Rattle.macho_model_checks.proofs.ExampleLinks.{executable_of, section, symbol}
 use Rattle.macho_model_checks.proofs.ExamplePlacement.{link_a, placed_a, section_a}
+use Rattle.macho_model.specs.steps.Exports.{weak_flag}
 
 -- the second example, and again with thread-local data aligned to 2 ^ 3 in place of 2 ^ 2
 abbrev pub two_templates : Link
@@ -30,8 +31,8 @@ pub template_is_aligned : (template_exponent two_templates ≡ 3)
     × (map (placed_exponent two_templates) (section 0 0 ∷ section 0 1 ∷ section 0 3 ∷ section 1 3 ∷ []) ≡ 2 ∷ 3 ∷ 3 ∷ 3 ∷ [])
 unfolding header_of commands_from commands_of commands_end num_sections section_place section_at section_bytes symtab_of
     num_symbols symbol_place symbol_at strings_of symbol_name relocation_place relocation_at sections_of carried_of template_exponent
-    placed_exponent symbols_of strong_of weak_of commons_of greatest_of libraries_with definition_of chosen_commons
-    initializer_sections unwind_sections uses_of imports_of libraries_needed target_of target_of_relocation slots_of stubs_of
+    placed_exponent symbols_of strong_of commons_of greatest_of libraries_with definition_of chosen_commons
+    initializer_sections unwind_sections carried_relocations initializer_relocations personality_relocations imports_of libraries_needed target_of target_of_relocation slots_of stubs_of
     plain_entries all_entries entries_of le_at le_bytes row_bytes reading words8 words halves name16 object_b changed
 template_is_aligned = (refl, refl)
 
@@ -43,8 +44,8 @@ pub descriptors_are_aligned : (placed_exponent (with_descriptors 0x13) (section 
     × (placed_exponent (with_descriptors 0) (section 0 1) ≡ 0)
 unfolding header_of commands_from commands_of commands_end num_sections section_place section_at section_bytes symtab_of
     num_symbols symbol_place symbol_at strings_of symbol_name relocation_place relocation_at sections_of carried_of template_exponent
-    placed_exponent symbols_of strong_of weak_of commons_of greatest_of libraries_with definition_of chosen_commons
-    initializer_sections unwind_sections uses_of imports_of libraries_needed target_of target_of_relocation slots_of stubs_of
+    placed_exponent symbols_of strong_of commons_of greatest_of libraries_with definition_of chosen_commons
+    initializer_sections unwind_sections carried_relocations initializer_relocations personality_relocations imports_of libraries_needed target_of target_of_relocation slots_of stubs_of
     plain_entries all_entries entries_of le_at le_bytes row_bytes reading words8 words halves name16 object_b changed
 descriptors_are_aligned = (refl, refl)
 
@@ -54,8 +55,8 @@ what_main_is : (definition_of link_a (codes "_main") ≡ Some (Symbol (symbol 0 
     × (section_flag link_a 0 0 + weak_flag link_a (symbol 0 0) ≡ 0)
 unfolding header_of commands_from commands_of commands_end num_sections section_place section_at section_bytes symtab_of
     num_symbols symbol_place symbol_at strings_of symbol_name relocation_place relocation_at sections_of carried_of template_exponent
-    placed_exponent symbols_of strong_of weak_of commons_of greatest_of libraries_with definition_of chosen_commons
-    initializer_sections unwind_sections uses_of imports_of libraries_needed target_of target_of_relocation slots_of stubs_of
+    placed_exponent symbols_of strong_of commons_of greatest_of libraries_with definition_of chosen_commons
+    initializer_sections unwind_sections carried_relocations initializer_relocations personality_relocations imports_of libraries_needed target_of target_of_relocation slots_of stubs_of
     plain_entries all_entries entries_of le_at le_bytes row_bytes reading words8 words halves name16 object_b changed object_a
 what_main_is = (refl, refl, refl, refl, refl)
 

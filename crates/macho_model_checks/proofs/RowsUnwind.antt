@@ -10,16 +10,16 @@ use Rattle.std.proofs.lemmas.List.Elements.{All-nil, All-cons}
 use Rattle.std.proofs.lemmas.List.Sorted.{IsPermutation-refl}
 use Rattle.std.proofs.lemmas.List.{get_or-take}
 use Rattle.macho_bytes.specs.Numbers.{le_at, le_bytes, row_bytes}
-use Rattle.macho_bytes.specs.Layouts.{reading, spelling}
+use Rattle.macho_bytes.specs.Layouts.{reading}
 use Rattle.macho_bytes.specs.Texts.{Stands}
 use Rattle.macho_model.specs.Commands.{header_of, commands_from, commands_of, commands_end}
 use Rattle.macho_model.specs.Objects.{num_sections, section_place, section_at, section_bytes, symtab_of, num_symbols}
 use Rattle.macho_model.specs.Objects.{symbol_place, symbol_at, strings_of, symbol_name, relocation_place, relocation_at}
 use Rattle.macho_model.specs.ExportLists.{plain_entries, all_entries, entries_of}
 use Rattle.macho_model.specs.Links.{Link, sections_of, carried_of, template_exponent, placed_exponent}
-use Rattle.macho_model.specs.Resolution.{symbols_of, strong_of, weak_of, commons_of, greatest_of, libraries_with, definition_of}
+use Rattle.macho_model.specs.Resolution.{symbols_of, strong_of, commons_of, greatest_of, libraries_with, definition_of}
 use Rattle.macho_model.specs.Resolution.{chosen_commons}
-use Rattle.macho_model.specs.Needs.{initializer_sections, unwind_sections, uses_of, imports_of, libraries_needed}
+use Rattle.macho_model.specs.Needs.{initializer_sections, unwind_sections, imports_of, libraries_needed, carried_relocations, initializer_relocations, personality_relocations}
 use Rattle.macho_model.specs.Targets.{target_of, target_of_relocation, slots_of, stubs_of}
 use Rattle.macho_model.specs.Fields.{fields_of}
 use Rattle.macho_model.specs.Consumed.{entries_of_link}
@@ -29,18 +29,20 @@ use Rattle.macho_unwind_pages.specs.declared.entries.ResolvedUnwindInfo.{Resolve
 use Rattle.macho_unwind_pages.specs.declared.paging.Row.{Row}
 use Rattle.macho_unwind_pages.specs.Entries.{AreEntries, IsLast, inputs_of, ids_of, named_ids}
 use Rattle.macho_unwind_pages.specs.Orders.{in_order, put_in_order}
-use Rattle.macho_unwind_pages.specs.Plans.{PageList, PlanList, IsPage, IsPlan, FitOnPage, IsPlanOf, HasSlot, own_codes}
+use Rattle.macho_unwind_pages.specs.Plans.{PageList, PlanList, IsPage, IsPlan, FitOnPage, IsPlanOf, own_codes}
 use Rattle.macho_unwind_pages.proofs.OnePlan.{plans_are_one}
 use Rattle.macho_unwind.specs.Texts.{section_text, page_text}
 use Rattle.macho_unwind.specs.declared.lookup.Found.{Found}
 use Rattle.macho_unwind.specs.Lookup.{UnwindFinds}
 use Rattle.macho_unwind.specs.Entries.{IsSectionOf, IsFoundFor, BeginsWith}
-use Rattle.macho_unwind.proofs.EntryLookup.{IsWritten, written, finds-entries, finds-only-entries}
+use Rattle.macho_unwind.proofs.EntryLookup.{sections_are_read}
 use Rattle.macho_promise.specs.UnwindSays.{resolved_entries, unwind_bytes, IsUnwindText, UnwindSays}
 use Rattle.macho_model_checks.proofs.Examples.{words8, words, halves, name16, changed}
 use Rattle.macho_model_checks.proofs.ExampleLinks.{entry}
 use Rattle.macho_model_checks.proofs.ExamplePlacement.{placed_a}
 use Rattle.macho_model_checks.proofs.RowsValid.{data_object, unwind_object, unwind_entry, link_of_object}
+use Rattle.macho_bytes.specs.Spellings.{spelling}
+use Rattle.macho_unwind_pages.specs.steps.Plans.{HasSlot}
 
 abbrev pub unwinding : Link
 unwinding = link_of_object (unwind_object (unwind_entry 8 0x02000000) (0 ∷ 0x06000001 ∷ []))
@@ -68,8 +70,8 @@ functions = function_there ∷ []
 resolved_are : resolved_entries unwinding placed_unwind ≡ functions
 unfolding commands_end commands_of commands_from header_of reading le_at row_bytes le_bytes words8 words halves name16 entry
     num_sections section_place section_at section_bytes symtab_of num_symbols symbol_place symbol_at strings_of symbol_name
-    relocation_place relocation_at sections_of carried_of template_exponent placed_exponent symbols_of strong_of weak_of commons_of
-    greatest_of libraries_with definition_of chosen_commons initializer_sections unwind_sections uses_of imports_of
+    relocation_place relocation_at sections_of carried_of template_exponent placed_exponent symbols_of strong_of commons_of
+    greatest_of libraries_with definition_of chosen_commons initializer_sections unwind_sections carried_relocations initializer_relocations personality_relocations imports_of
     libraries_needed target_of target_of_relocation slots_of stubs_of fields_of plain_entries all_entries entries_of
     entries_of_link section_address resolved_entries data_object unwind_object unwind_entry
 resolved_are = refl
@@ -167,12 +169,10 @@ section_is_theirs : IsSectionOf 0x100000000 functions unwind_section
 section_is_theirs = record {
   plan = plan_there;
   of_entries = plan_is_theirs;
+  formed = plan_fits;
+  places = record { some = omega arith; fits = omega arith };
   is = sym text_there;
 }
-
-it_is_written : IsWritten 0x100000000 functions unwind_section
-it_is_written = subst (IsWritten 0x100000000 functions) text_there
-    (written 0x100000000 functions plan_there they_are_entries plan_is_theirs plan_fits (record { some = omega arith; fits = omega arith }))
 
 long_section : length unwind_section ≡ 72
 unfolding words halves le_bytes row_bytes unwind_section
@@ -185,23 +185,23 @@ whole_section = refl
 begins_there : BeginsWith (unwind_bytes unwind_file placed_unwind) unwind_section
 begins_there = rw range_there (record { within = omega (arith, long_section); same = whole_section })
 
-finds_there : (offset : ℕ) (x : Found)
+-- look-up of an offset finds the entry, and nothing else
+pub entry_is_found : (offset : ℕ) (x : Found)
     → UnwindFinds (unwind_bytes unwind_file placed_unwind) offset x ↔ IsFoundFor 0x100000000 functions offset x
-finds_there offset x = (
-  finds-only-entries 0x100000000 functions unwind_section they_are_entries it_is_written
-      (unwind_bytes unwind_file placed_unwind) begins_there offset x,
-  λ is. subst (λ (y : Found). UnwindFinds (unwind_bytes unwind_file placed_unwind) offset y) (sym is.is)
-      (finds-entries 0x100000000 functions unwind_section they_are_entries it_is_written (unwind_bytes unwind_file placed_unwind)
-      begins_there offset is.entry is.of_offset),
-)
+entry_is_found offset x =
+    let read = sections_are_read 0x100000000 functions unwind_section they_are_entries section_is_theirs in (
+      read.1 (unwind_bytes unwind_file placed_unwind) begins_there offset x,
+      λ is. subst (λ (y : Found). UnwindFinds (unwind_bytes unwind_file placed_unwind) offset y) (sym is.is)
+          (read.0 (unwind_bytes unwind_file placed_unwind) begins_there offset is.entry is.of_offset),
+    )
 
--- THE unwind information of a link with an entry: it is found, and nothing else
+-- THE unwind information of a link with an entry
 pub entry_is_said : UnwindSays unwinding unwind_file placed_unwind
 entry_is_said = record {
   content = unwind_section;
   exact = rw resolved_are (inr (omega arith, section_is_theirs));
   begins = begins_there;
-  finds = rw resolved_are finds_there;
+  finds = rw resolved_are entry_is_found;
 }
 
 -- entries have one plan, so they have one text

@@ -12,9 +12,9 @@ use Rattle.macho_model.specs.Objects.{num_sections, section_place, section_at, s
 use Rattle.macho_model.specs.Objects.{symbol_place, symbol_at, strings_of, symbol_name, relocation_place, relocation_at}
 use Rattle.macho_model.specs.ExportLists.{plain_entries, all_entries, entries_of}
 use Rattle.macho_model.specs.Links.{Link, Object, sections_of, carried_of, template_exponent, placed_exponent}
-use Rattle.macho_model.specs.Resolution.{symbols_of, strong_of, weak_of, commons_of, greatest_of, libraries_with, definition_of}
+use Rattle.macho_model.specs.Resolution.{symbols_of, strong_of, commons_of, greatest_of, libraries_with, definition_of}
 use Rattle.macho_model.specs.Resolution.{chosen_commons}
-use Rattle.macho_model.specs.Needs.{initializer_sections, unwind_sections, uses_of, imports_of, libraries_needed}
+use Rattle.macho_model.specs.Needs.{initializer_sections, unwind_sections, imports_of, libraries_needed, carried_relocations, initializer_relocations, personality_relocations}
 use Rattle.macho_model.specs.Targets.{target_of, target_of_relocation, slots_of, stubs_of}
 use Rattle.macho_model.specs.Fields.{fields_of}
 use Rattle.macho_model.specs.Rows.{is_supported}
@@ -93,8 +93,8 @@ valid_links =
 valid_link_verdicts : AllByRecursion (λ l. valid_verdict l counts_a ≡ verdict_but (λ q. false)) valid_links
 unfolding valid_verdict header_of commands_from commands_of commands_end num_sections section_place section_at section_bytes
     symtab_of num_symbols symbol_place symbol_at strings_of symbol_name relocation_place relocation_at sections_of carried_of
-    template_exponent placed_exponent symbols_of strong_of weak_of commons_of greatest_of libraries_with definition_of chosen_commons
-    initializer_sections unwind_sections uses_of imports_of libraries_needed target_of target_of_relocation slots_of stubs_of
+    template_exponent placed_exponent symbols_of strong_of commons_of greatest_of libraries_with definition_of chosen_commons
+    initializer_sections unwind_sections carried_relocations initializer_relocations personality_relocations imports_of libraries_needed target_of target_of_relocation slots_of stubs_of
     fields_of is_supported plain_entries all_entries entries_of other_segments segment_rank segment_names_of output_keys_of
     output_count content_sum command_sum unsigned_sum written_sum_of personality_targets entries_of_link le_at le_bytes
     row_bytes reading words8 words halves name16 object_a entry text_object data_object calls_nothing calls_main
@@ -161,8 +161,8 @@ valid_changes =
 valid_verdicts : AllByRecursion (λ c. valid_verdict c.link c.counts ≡ verdict_but (is_part c.part)) valid_changes
 unfolding valid_verdict header_of commands_from commands_of commands_end num_sections section_place section_at section_bytes
     symtab_of num_symbols symbol_place symbol_at strings_of symbol_name relocation_place relocation_at sections_of carried_of
-    template_exponent placed_exponent symbols_of strong_of weak_of commons_of greatest_of libraries_with definition_of chosen_commons
-    initializer_sections unwind_sections uses_of imports_of libraries_needed target_of target_of_relocation slots_of stubs_of
+    template_exponent placed_exponent symbols_of strong_of commons_of greatest_of libraries_with definition_of chosen_commons
+    initializer_sections unwind_sections carried_relocations initializer_relocations personality_relocations imports_of libraries_needed target_of target_of_relocation slots_of stubs_of
     fields_of is_supported plain_entries all_entries entries_of other_segments segment_rank segment_names_of output_keys_of
     output_count content_sum command_sum unsigned_sum written_sum_of personality_targets entries_of_link le_at le_bytes
     row_bytes reading words8 words halves name16 object_a entry text_object data_object calls_nothing calls_main
@@ -184,8 +184,8 @@ undefined = executable_of (Object calls_nothing ∷ [])
 undefined_verdict : valid_verdict undefined counts_a ≡ verdict_but (λ q. is_part Used q || is_part Supported q)
 unfolding valid_verdict header_of commands_from commands_of commands_end num_sections section_place section_at section_bytes
     symtab_of num_symbols symbol_place symbol_at strings_of symbol_name relocation_place relocation_at sections_of carried_of
-    template_exponent placed_exponent symbols_of strong_of weak_of commons_of greatest_of libraries_with definition_of chosen_commons
-    initializer_sections unwind_sections uses_of imports_of libraries_needed target_of target_of_relocation slots_of stubs_of
+    template_exponent placed_exponent symbols_of strong_of commons_of greatest_of libraries_with definition_of chosen_commons
+    initializer_sections unwind_sections carried_relocations initializer_relocations personality_relocations imports_of libraries_needed target_of target_of_relocation slots_of stubs_of
     fields_of is_supported plain_entries all_entries entries_of other_segments segment_rank segment_names_of output_keys_of
     output_count content_sum command_sum unsigned_sum written_sum_of personality_targets entries_of_link le_at le_bytes
     row_bytes reading words8 words halves name16 object_a entry text_object data_object calls_nothing calls_main

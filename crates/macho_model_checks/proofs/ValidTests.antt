@@ -5,14 +5,13 @@
 -- test that is true exactly where the part holds. Of names there are more, but one with two definitions is that of a symbol.
 -- So the tests, computed, show of a small link that it is valid, or which part it breaks, and that it keeps the others.
 use Rattle.std.proofs.Common.{◌≡◌, ◌≢◌, ℕ, ◌/◌, ◌%◌, ◌<◌, ◌≤◌, ◌==◌, ◌⊎◌, inl, inr, nat_le, Bool, true, false, not, ◌&&◌, ◌||◌}
-use Rattle.std.proofs.Common.{List, [], ◌∷◌, length, get_or, map, refl, sym, ap, ◌∙◌, arith, Some, None, All}
+use Rattle.std.proofs.Common.{List, [], ◌∷◌, length, get_or, map, refl, sym, ap, ◌∙◌, arith, Some, None}
 use Rattle.std.specs.Prelude.{Option, Contains, IsNone, is_some, filter}
 use Rattle.std.specs.List.{list_all}
 use Rattle.std.proofs.lemmas.Bool.{leb-true, le-leb, cases_lt}
 use Rattle.std.proofs.lemmas.List.{get_or_default}
 use Rattle.std.proofs.lemmas.List.Elements.{All-contains, All-filter, Contains-get_or, filter_passes}
 use Rattle.std.proofs.lemmas.Slice.Eq.{bytes_eq-Decides}
-use Rattle.macho_records.specs.Symbols.{is_global}
 use Rattle.macho_model.specs.declared.rules.UnwindRule.{UnwindRule}
 use Rattle.macho_model.specs.declared.rules.UnwindRule.TheVariants.{U1, U2, U3, U4, U5, U6, U7, U8}
 use Rattle.macho_model.specs.declared.targets.Limit.{Limit}
@@ -23,8 +22,9 @@ use Rattle.macho_model.specs.Links.{Link, SectionId, section_id, header_at, carr
 use Rattle.macho_model.specs.Lists.{IsNumber}
 use Rattle.macho_model.specs.Placement.{Placed}
 use Rattle.macho_model.specs.Values.{fits_signed}
-use Rattle.macho_model.specs.Resolution.{SymbolId, symbols_of, entry_at, name_at, has_name, is_strong, strong_of, definition_of}
-use Rattle.macho_model.specs.Needs.{Use, uses_of, symbol_used, initializer_sections, unwind_sections, relocation_in, POINTER_SIZE}
+use Rattle.macho_model.specs.Resolution.{SymbolId, symbols_of, name_at, has_name, strong_of, definition_of}
+use Rattle.macho_model.specs.steps.Resolved.{is_strong}
+use Rattle.macho_model.specs.Needs.{initializer_sections, unwind_sections, relocation_in, POINTER_SIZE}
 use Rattle.macho_model.specs.Fields.{fields_of}
 use Rattle.macho_model.specs.WrittenSum.{written_sum_of}
 use Rattle.macho_model.specs.Stands.{kind_of}
@@ -33,10 +33,10 @@ use Rattle.macho_model.specs.Consumed.{initializer_section_fits, initializer_slo
 use Rattle.macho_model.specs.Limits.{limited}
 use Rattle.macho_model.specs.Faults.{LinkFault, DuplicateSymbol, UndefinedSymbol, EntryNotDefined, ExportListMissing, BadInitializer}
 use Rattle.macho_model.specs.Faults.{BadUnwind, UnsupportedRelocation, OverlappingFields, BindAddend, FixupPlace, TooMany, ImageTooLarge}
-use Rattle.macho_model.specs.Faults.{RebaseTarget, RelocationRange, BadName, names_symbol, entry_is_defined, IsBadEntry, IsBadInitializer}
+use Rattle.macho_model.specs.Faults.{RebaseTarget, RelocationRange, BadName, entry_is_defined, IsBadEntry, IsBadInitializer}
 use Rattle.macho_model.specs.Faults.{FaultStands, kept_placement}
 use Rattle.macho_model.specs.Valid.{field_fits, IsValid}
-use Rattle.macho_model_checks.specs.ValidParts.{VALID_SUM, ValidPart, ValidKeeps}
+use Rattle.macho_model_checks.specs.ValidParts.{VALID_SUM, ValidPart, ValidKeeps, symbols_read}
 use Rattle.macho_model_checks.specs.ValidParts.{Single, Used, Listed, Begun, Supported, NonOverlapping, Fitting, Initializers, Slots, AtSlots}
 use Rattle.macho_model_checks.specs.ValidParts.{Whole, Unwind, Limits, Sum}
 use Rattle.macho_model.proofs.EachBelow.{each_below, not_false, true_or_false, and_right, or_second, same_number, other_number, all_pass, pass_all}
@@ -80,9 +80,10 @@ unrefused_keeping : (l : Link) (counts : Counts) (f : LinkFault) → ((part : Va
     → kept_placement f ≡ None → FaultStands l counts f → f ≡ BadName
 unrefused_keeping l counts (DuplicateSymbol name first second) h alone (i, j, s, t, before, at_i, at_j, one, two) =
     absurd (omega (arith, h Single name, before, at_j.0))
-unrefused_keeping l counts (UndefinedSymbol name file) h alone (u, s, one, named, used, global, is, of, none) =
+unrefused_keeping l counts (UndefinedSymbol name file) h alone (s, one, is, of, none) =
     absurd (none_some (definition_of l name) none
-    (ap (λ (n : List ℕ). is_some (definition_of l n)) (sym is) ∙ h Used u s one named used global))
+    (ap (λ (n : List ℕ). is_some (definition_of l n)) (sym is)
+    ∙ All-contains (λ t. is_some (definition_of l (name_at l t)) ≡ true) (symbols_read l) s (h Used) one))
 unrefused_keeping l counts (EntryNotDefined name) h alone (is, broken) = absurd (true_or_false _ (h Begun) broken)
 unrefused_keeping l counts (ExportListMissing name) h alone (one, none) =
     absurd (none_some (definition_of l name) none
@@ -145,8 +146,9 @@ keeping_valid l counts v Single = λ name. elim (cases_lt 1 (length (strong_of l
       ))
   | inr few ↦ few
 ]
-keeping_valid l counts v Used = λ u s one named used global. not_false (is_some (definition_of l (name_at l s)))
-    (λ none. never l counts (UndefinedSymbol (name_at l s) s.file) v refl refl (u, s, one, named, used, global, refl, refl, none))
+keeping_valid l counts v Used = λ k d lt. not_false _
+    (λ none. never l counts (UndefinedSymbol (name_at l (get_or (symbols_read l) k d)) (get_or (symbols_read l) k d).file) v refl refl
+    (get_or (symbols_read l) k d, Contains-get_or (symbols_read l) k d lt, refl, refl, none))
 keeping_valid l counts v Listed = λ k d lt. not_false _
     (λ none. never l counts (ExportListMissing (get_or (plain_entries l.export_lists) k d)) v refl refl
     (Contains-get_or (plain_entries l.export_lists) k d lt, none))
@@ -164,14 +166,6 @@ keeping_valid l counts v Whole = λ k d lt. valid_whole l counts (get_or (unwind
 keeping_valid l counts v Unwind = λ s e rule one within. valid_entry l counts s e rule v one within
 keeping_valid l counts v Limits = λ what. valid_limit l counts what v
 keeping_valid l counts v Sum = v.sum
-
--- a symbol that is used is local, or its name is defined
-abbrev pub is_found : Link → Option SymbolId → Bool
-is_found l None = true
-is_found l (Some s) = not (is_global (entry_at l s)) || is_some (definition_of l (name_at l s))
-
-abbrev pub use_is_found : Link → Use → Bool
-use_is_found l u = not (names_symbol l u) || is_found l (symbol_used l u)
 
 -- two relocations share no byte, or are a pair
 abbrev pub part_in_peace : Link → SectionId → ℕ → ℕ → Bool
@@ -191,7 +185,7 @@ is_in_limit l counts what = nat_le (limited l counts what).0 (limited l counts w
 -- a part's test
 abbrev pub valid_test : Link → Counts → ValidPart → Bool
 valid_test l counts Single = list_all (λ s. nat_le (length (strong_of l (name_at l s))) 1) (symbols_of l)
-valid_test l counts Used = list_all (use_is_found l) (uses_of l)
+valid_test l counts Used = list_all (λ s. is_some (definition_of l (name_at l s))) (symbols_read l)
 valid_test l counts Listed = list_all (λ name. is_some (definition_of l name)) (plain_entries l.export_lists)
 valid_test l counts Begun = entry_is_defined l
 valid_test l counts Supported = list_all (λ s. each_below (header_at l s).nreloc (is_supported l s)) (carried_of l)
@@ -237,26 +231,6 @@ single_shows l h name =
       | inr few ↦ few
     ]
 
-left_true : (a b : Bool) → a ≡ true → (not a || b) ≡ true → b ≡ true
-left_true true b is h = h
-left_true false b is h = absurd (true_or_false false is refl)
-
-true_left : (a b : Bool) → (a ≡ true → b ≡ true) → (not a || b) ≡ true
-true_left true b h = h refl
-true_left false b h = refl
-
-used_shows : (l : Link) (u : Use) (s : SymbolId) → use_is_found l u ≡ true → names_symbol l u ≡ true → symbol_used l u ≡ Some s
-    → is_global (entry_at l s) ≡ true → is_some (definition_of l (name_at l s)) ≡ true
-used_shows l u s h named used global =
-    left_true (is_global (entry_at l s)) (is_some (definition_of l (name_at l s))) global
-    (ap (is_found l) (sym used) ∙ left_true (names_symbol l u) (is_found l (symbol_used l u)) named h)
-
-shows_found : (l : Link) (u : Use) (found : Option SymbolId) → symbol_used l u ≡ found
-    → ((s : SymbolId) → symbol_used l u ≡ Some s → is_global (entry_at l s) ≡ true → is_some (definition_of l (name_at l s)) ≡ true)
-    → is_found l found ≡ true
-shows_found l u None is h = refl
-shows_found l u (Some s) is h = true_left (is_global (entry_at l s)) (is_some (definition_of l (name_at l s))) (h s is)
-
 -- the other way of a pair's test
 peace_shows : (a b : Bool) → (not a || b) ≡ true → (a ≡ false) ⊎ (b ≡ true)
 peace_shows true b h = inr h
@@ -290,8 +264,7 @@ limit_shows l counts limit.Pages h = all_pass (is_in_limit l counts) all_limits 
 -- A part's test that is true shows the part.
 pub valid_test_shows : (l : Link) (counts : Counts) (part : ValidPart) → valid_test l counts part ≡ true → ValidKeeps l counts part
 valid_test_shows l counts Single h = single_shows l h
-valid_test_shows l counts Used h =
-    λ u s one named used global. used_shows l u s (one_passes (use_is_found l) (uses_of l) u h one) named used global
+valid_test_shows l counts Used h = all_pass (λ s. is_some (definition_of l (name_at l s))) (symbols_read l) h
 valid_test_shows l counts Listed h = all_pass (λ name. is_some (definition_of l name)) (plain_entries l.export_lists) h
 valid_test_shows l counts Begun h = h
 valid_test_shows l counts Supported h =
@@ -328,10 +301,7 @@ pub shows_valid_test : (l : Link) (counts : Counts) (part : ValidPart) → Valid
 shows_valid_test l counts Single h =
     passes_each (λ s. nat_le (length (strong_of l (name_at l s))) 1) (symbols_of l)
     (λ s one. le-leb (length (strong_of l (name_at l s))) 1 (h (name_at l s)))
-shows_valid_test l counts Used h =
-    passes_each (use_is_found l) (uses_of l)
-    (λ u one. true_left (names_symbol l u) (is_found l (symbol_used l u))
-    (λ named. shows_found l u (symbol_used l u) refl (λ s used global. h u s one named used global)))
+shows_valid_test l counts Used h = pass_all (λ s. is_some (definition_of l (name_at l s))) (symbols_read l) h
 shows_valid_test l counts Listed h = pass_all (λ name. is_some (definition_of l name)) (plain_entries l.export_lists) h
 shows_valid_test l counts Begun h = h
 shows_valid_test l counts Supported h =

@@ -1,21 +1,20 @@
 -- The parts of validity: what a link keeps where no refusal stands, each field fits and the sum is small. Each is said of the link alone,
 -- beside the refusals, so that a refusal which stands too often, or not often enough, is seen.
-use Rattle.std.specs.Prelude.{◌≡◌, ℕ, ◌+◌, ◌*◌, ◌%◌, ◌<◌, ◌≤◌, ◌==◌, ◌⊎◌, true, false, List, length, Some, All, Contains, is_some, ◌^◌}
-use Rattle.macho_records.specs.Symbols.{is_global}
+use Rattle.std.specs.Prelude.{◌≡◌, ℕ, ◌+◌, ◌*◌, ◌%◌, ◌<◌, ◌≤◌, ◌==◌, ◌⊎◌, true, false, List, ◌++◌, filter, length, All, Contains, is_some, ◌^◌}
 use Rattle.macho_model.specs.declared.rules.UnwindRule.{UnwindRule}
 use Rattle.macho_model.specs.declared.targets.Limit.{Limit}
 use Rattle.macho_model.specs.declared.placed.Counts.{Counts}
 use Rattle.macho_model.specs.ExportLists.{plain_entries}
 use Rattle.macho_model.specs.Links.{Link, SectionId, header_at, carried_of}
-use Rattle.macho_model.specs.Resolution.{SymbolId, entry_at, name_at, strong_of, definition_of}
-use Rattle.macho_model.specs.Needs.{Use, uses_of, symbol_used, initializer_sections, unwind_sections, relocation_in, POINTER_SIZE}
+use Rattle.macho_model.specs.Resolution.{SymbolId, name_at, strong_of, definition_of}
+use Rattle.macho_model.specs.Needs.{initializer_sections, unwind_sections, relocation_in, POINTER_SIZE, carried_relocations, initializer_relocations, personality_relocations, globals_used}
 use Rattle.macho_model.specs.Fields.{fields_of}
 use Rattle.macho_model.specs.WrittenSum.{written_sum_of}
 use Rattle.macho_model.specs.Stands.{kind_of}
 use Rattle.macho_model.specs.Rows.{is_supported, share_byte, are_pair}
-use Rattle.macho_model.specs.Consumed.{initializer_section_fits, initializer_slot_fits, entry_count, whole_entries, keeps}
+use Rattle.macho_model.specs.Consumed.{is_plain_pointer, initializer_section_fits, initializer_slot_fits, entry_count, whole_entries, keeps}
 use Rattle.macho_model.specs.Limits.{limited}
-use Rattle.macho_model.specs.Faults.{names_symbol, entry_is_defined}
+use Rattle.macho_model.specs.Faults.{entry_is_defined}
 use Rattle.macho_model.specs.Valid.{field_fits}
 
 -- the greatest written sum of a valid link
@@ -39,10 +38,15 @@ pub data ValidPart : Type 0 where
   Limits : ValidPart
   Sum : ValidPart
 
+-- the global symbols that relocations name: all of carried sections, and those of consumed sections that have the form that is read
+abbrev pub symbols_read : Link → List SymbolId
+symbols_read l =
+    globals_used l (carried_relocations l
+    ++ filter (λ u. is_plain_pointer (relocation_in l u.0 u.1)) (initializer_relocations l ++ personality_relocations l))
+
 abbrev pub ValidKeeps : Link → Counts → ValidPart → Type 0
 ValidKeeps l counts Single = (name : List ℕ) → length (strong_of l name) ≤ 1
-ValidKeeps l counts Used = (u : Use) (s : SymbolId) → Contains (uses_of l) u → names_symbol l u ≡ true → symbol_used l u ≡ Some s
-    → is_global (entry_at l s) ≡ true → is_some (definition_of l (name_at l s)) ≡ true
+ValidKeeps l counts Used = All (λ s. is_some (definition_of l (name_at l s)) ≡ true) (symbols_read l)
 ValidKeeps l counts Listed = All (λ name. is_some (definition_of l name) ≡ true) (plain_entries l.export_lists)
 ValidKeeps l counts Begun = entry_is_defined l ≡ true
 ValidKeeps l counts Supported = (s : SectionId) (r : ℕ) → Contains (carried_of l) s → r < (header_at l s).nreloc → is_supported l s r ≡ true

@@ -14,7 +14,7 @@ use Rattle.macho_model.specs.Commands.{Command, commands_of, command_fits}
 use Rattle.macho_model.specs.Grammar.{EachCommand, CommandFails}
 use Rattle.macho_model.specs.Segments.{TEXT}
 use Rattle.macho_model.specs.Images.{segments_named, table_of_command, tables_of}
-use Rattle.macho_model.specs.LoadRules.{needed_in_image, protections_fit, file_part_inside, segment_is_paged, segment_ends, begins_behind, text_holds_commands, table_fits}
+use Rattle.macho_model.specs.LoadRules.{needed_in_image, table_fits, protections_fit}
 use Rattle.macho_model.specs.Loader.{segment_in, text_commands, fixup_commands, NeighbourFails, TextIsNotOne, SecondTable, IsAccepted, ImageBreaks}
 use Rattle.macho_memory_walks.specs.Readings.{listed}
 use Rattle.macho_model_walks.specs.Tests.{test_of}
@@ -22,6 +22,7 @@ use Rattle.macho_model.proofs.EachBelow.{true_or_false}
 use Rattle.macho_model.proofs.SegmentTests.{of_commands, each_command, next_commands}
 use Rattle.macho_model.specs.Lists.{EachNext}
 use Rattle.macho_memory_walks.proofs.ListedLaws.{all_listed, texts_listed, texts_are}
+use Rattle.macho_model.specs.SegmentRules.{segment_ends, begins_behind, file_part_inside, segment_is_paged, text_holds_commands}
 
 -- one that fails is not among those that pass
 pub fails_not_each : (cs : List Command) (place : ℕ) (test : Command → Bool) → CommandFails cs place test → EachCommand cs test → ⊥

@@ -14,8 +14,8 @@ use Rattle.macho_memory_walks.specs.declared.walk.Listed.TheVariants as list
 use Rattle.macho_records.specs.declared.constants.TheConstants.{LC_SEGMENT_64}
 use Rattle.macho_model.specs.Commands.{Command, command_at, header_of, numbered}
 use Rattle.macho_model.specs.Grammar.{EachCommand}
-use Rattle.macho_model.specs.LoadRules.{begins_behind, import_fits}
-use Rattle.macho_model.specs.Loader.{segment_in, text_commands, fixup_commands, NeighbourFails, TextIsNotOne, SecondTable, ImportFails, import_count}
+use Rattle.macho_model.specs.LoadRules.{import_fits}
+use Rattle.macho_model.specs.Loader.{segment_in, text_commands, fixup_commands, NeighbourFails, TextIsNotOne, SecondTable, ImportFails}
 use Rattle.macho_memory_walks.specs.Readings.{listed, IsNth, table_there}
 use Rattle.macho_model_walks.specs.Tests.{list_of, test_of}
 use Rattle.macho_memory_walks.specs.steps.Walks.{chain_segment_at}
@@ -27,6 +27,8 @@ use Rattle.macho_memory_walks.proofs.ListedLaws.{texts_listed, tables_are, nth_i
 use Rattle.macho_memory_walks.proofs.NumberedWalk.{few_listed_of, nth_exists, nth_one, chain_at, count_of_chain}
 use Rattle.macho_model.proofs.EachBelow.{pass_all}
 use Rattle.macho_model.specs.Lists.{EachNext}
+use Rattle.macho_model.specs.steps.Loader.{import_count}
+use Rattle.macho_model.specs.SegmentRules.{begins_behind}
 
 -- a command by its number, whatever stands behind the last
 at_number : (which : Listed) (b : List ℕ) (number place : ℕ) (d : Command) → IsNth which b number place

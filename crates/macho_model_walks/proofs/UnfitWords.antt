@@ -10,7 +10,6 @@ use Rattle.macho_memory_walks.specs.declared.walk.Listed.TheVariants as list
 use Rattle.macho_model.specs.Commands.{command_at, header_of}
 use Rattle.macho_model.specs.Images.{segments_of, NO_START}
 use Rattle.macho_model.specs.Segments.{SEGMENT_PAGE}
-use Rattle.macho_model.specs.LoadRules.{file_part_inside}
 use Rattle.macho_records.specs.declared.header.SegmentCommand.{SegmentCommand}
 use Rattle.macho_model.specs.Chain.{next_of, STRIDE, OnPageChain, chain_segment, chain_segments}
 use Rattle.macho_model.specs.Loader.{segment_in, WordFits, WordFails}
@@ -25,6 +24,7 @@ use Rattle.macho_model_walks.proofs.WordFitting.{word_fits, fits_word}
 use Rattle.macho_memory_walks.proofs.NumberedWalk.{nth_number}
 use Rattle.macho_memory_walks.proofs.WordWalk.{step_leads, step_of_word, page_chain_found, page_chain_none, from_start}
 use Rattle.macho_memory_walks.proofs.NumberedWalk.{number_place, few_listed_of, nth_one}
+use Rattle.macho_model.specs.SegmentRules.{file_part_inside}
 
 -- a word that passes ends in its page
 pub in_page : (b : List ℕ) (place page offset : ℕ) → word_fits_test b (segment_there b place) page (address_in b place offset) ≡ true

@@ -13,7 +13,7 @@ use Rattle.macho_model.specs.Images.{segments_of, tables_of}
 use Rattle.macho_model.specs.Segments.{SEGMENT_PAGE}
 use Rattle.macho_model.specs.Chain.{ChainSegment, chain_segment, chain_segments}
 use Rattle.macho_model.specs.Needs.{POINTER_SIZE}
-use Rattle.macho_model.specs.Loader.{is_bind, ordinal_of, is_writable, import_count, WordFits}
+use Rattle.macho_model.specs.Loader.{is_bind, ordinal_of, WordFits}
 use Rattle.macho_model_walks.specs.Tests.{page_holds}
 use Rattle.macho_model_walks.specs.steps.WordTests.{import_exists, word_fits_test, EachWordFits}
 use Rattle.macho_memory_walks.specs.steps.Walks.{word_in, stands_in}
@@ -21,6 +21,8 @@ use Rattle.macho_model.proofs.EachBelow.{each_below, below_pass, and_left, and_r
 use Rattle.macho_model.proofs.EachBelow.{pass_all}
 use Rattle.macho_model.proofs.PageChains.{with_number}
 use Rattle.macho_memory_walks.proofs.ChainSets.{among_passes, is_page_closed, page_within, page_has_start}
+use Rattle.macho_model.specs.steps.Loader.{import_count}
+use Rattle.macho_model.specs.SegmentRules.{is_writable}
 
 -- the page of a segment holds a word, in parts
 holds_parts : (w f e t : Bool) → (w && f && e && t) ≡ true → (w ≡ true) × (f ≡ true) × (e ≡ true) × (t ≡ true)

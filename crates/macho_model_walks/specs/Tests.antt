@@ -7,13 +7,14 @@ use Rattle.macho_records.specs.declared.header.SegmentCommand.{SegmentCommand}
 use Rattle.macho_model.specs.Commands.{Command, command_fits}
 use Rattle.macho_model.specs.Images.{table_of_command, Table, segments_of, base_of, fixups_header, starts_count, segment_starts, import_entry_size, POINTER_FORMAT, IMPORT_FORMAT, IMPORT_ADDEND_FORMAT}
 use Rattle.macho_model.specs.Segments.{SEGMENT_PAGE}
-use Rattle.macho_model.specs.LoadRules.{needed_in_image, protections_fit, file_part_inside, segment_is_paged, segment_ends, text_holds_commands, segment_address, starts_fit, table_fits}
+use Rattle.macho_model.specs.LoadRules.{needed_in_image, segment_address, starts_fit, table_fits, protections_fit}
 use Rattle.macho_model.specs.Needs.{POINTER_SIZE}
-use Rattle.macho_model.specs.Loader.{segment_in, is_writable}
+use Rattle.macho_model.specs.Loader.{segment_in}
 use Rattle.macho_model_walks.specs.declared.loader_rules.Asked.{Asked}
 use Rattle.macho_model_walks.specs.declared.loader_rules.Asked.TheVariants as asked
 use Rattle.macho_memory_walks.specs.declared.walk.Listed.{Listed}
 use Rattle.macho_memory_walks.specs.declared.walk.Listed.TheVariants as list
+use Rattle.macho_model.specs.SegmentRules.{segment_ends, file_part_inside, segment_is_paged, text_holds_commands, is_writable}
 
 -- a segment's page holds a word: the segment may be written to, and the word stands in the page and in the file part
 abbrev pub page_holds : SegmentCommand → ℕ → ℕ → Bool

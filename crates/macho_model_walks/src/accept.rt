@@ -1,9 +1,9 @@
 //! The first rule of the loader that an image breaks, by asking each rule in turn: plain and slow.
 ghost use Rattle.std.specs.Prelude.{◌≡◌, true, All, OnOk, OnErr, IfErr};
 ghost use Rattle.macho_model.specs.Images.{segments_of};
-ghost use Rattle.macho_model.specs.LoadRules.{file_part_inside};
 ghost use Rattle.macho_model.specs.Loader.{IsAccepted, ImageBreaks};
 ghost use Rattle.macho_model_walks.specs.steps.Asked.{LoadKeeps};
+ghost use Rattle.macho_model.specs.SegmentRules.{file_part_inside};
 
 use crate::loader_rules::{
     Asked, first_bad_import, first_failing, first_overlapping, other_text, second_table,

@@ -4,13 +4,13 @@
 ghost use Rattle.std.specs.Prelude.{◌≡◌, ◌≤◌, ◌<◌, ℕ, length, Some, None, true};
 ghost use Rattle.macho_records.specs.declared.constants.TheConstants.{LC_SEGMENT_64};
 ghost use Rattle.macho_model.specs.Grammar.{EachCommand};
-ghost use Rattle.macho_model.specs.LoadRules.{begins_behind};
 ghost use Rattle.macho_model.specs.Loader.{segment_in, text_commands, fixup_commands, TextIsNotOne, SecondTable, ImportFails};
 ghost use Rattle.macho_model.specs.Lists.{EachNext};
 ghost use Rattle.macho_model.specs.Commands.{command_at, numbered};
 ghost use Rattle.macho_memory_walks.specs.Readings.{listed, table_there};
 ghost use Rattle.macho_model_walks.specs.Tests.{test_of, list_of};
 ghost use Rattle.macho_model_walks.specs.steps.Asked.{AskedFails, BeginsBefore, NumberPasses, NeighbourPasses, BadImport, ImportsFit, TableImportsFit, EachImportFits};
+ghost use Rattle.macho_model.specs.SegmentRules.{begins_behind};
 
 use crate::segment_rules::{
     ends_below, file_bytes_are_inside, follows, holds_commands, is_paged, is_whole,

@@ -6,8 +6,9 @@ ghost use Rattle.macho_records.specs.Layouts.{segment_command};
 ghost use Rattle.macho_model.specs.Commands.{command_at, command_fits, commands_end};
 ghost use Rattle.macho_model.specs.ObjectRules.{commands_inside};
 ghost use Rattle.macho_model.specs.Segments.{loaded_protection_of};
-ghost use Rattle.macho_model.specs.LoadRules.{image_head_fits, needed_in_image, protections_fit, file_part_inside, segment_is_paged, segment_ends, begins_behind, text_holds_commands};
+ghost use Rattle.macho_model.specs.LoadRules.{image_head_fits, needed_in_image, protections_fit};
 ghost use Rattle.macho_model.specs.Loader.{segment_in};
+ghost use Rattle.macho_model.specs.SegmentRules.{segment_ends, begins_behind, file_part_inside, segment_is_paged, text_holds_commands};
 
 use macho_memory_walks::{is_segment_named, segment_at, u32_from};
 use macho_model::SEGMENT_PAGE;

@@ -1,16 +1,17 @@
 //! Whether the words of the chains fit: the loader's last rule, asked of each word that a page's start leads to.
 ghost use Rattle.std.specs.Prelude.{◌≡◌, ◌≤◌, ◌<◌, ◌+◌, ◌*◌, ℕ, true, false, length, All, Some, None};
 ghost use Rattle.std.specs.List.{list_all};
-ghost use Rattle.macho_model.specs.LoadRules.{file_part_inside};
 ghost use Rattle.macho_model.specs.Images.{segments_of, tables_of};
 ghost use Rattle.macho_model.specs.Chain.{chain_segments};
-ghost use Rattle.macho_model.specs.Loader.{segment_in, import_count, WordFails};
+ghost use Rattle.macho_model.specs.Loader.{segment_in, WordFails};
 ghost use Rattle.macho_model.specs.Commands.{command_at};
 ghost use Rattle.macho_memory_walks.specs.Readings.{IsNth, segment_there, starts_of};
 ghost use Rattle.macho_model_walks.specs.Tests.{page_holds};
 ghost use Rattle.macho_memory_walks.specs.steps.Walks.{chain_segment_at};
 ghost use Rattle.macho_model_walks.specs.steps.WordTests.{import_exists, word_fits_test, NthImportExists, UnfitFrom, FitFrom, UnfitOnPage, FitOnPage, FitOnNth, EachWordFits};
 ghost use Rattle.macho_memory_walks.specs.declared.walk.Listed.TheVariants as list;
+ghost use Rattle.macho_model.specs.steps.Loader.{import_count};
+ghost use Rattle.macho_model.specs.SegmentRules.{file_part_inside};
 
 use macho_memory_walks::{
     Listed, SEGMENT_PAGE, binds, count_of, nth, ordinal, pages_of, segment_at, start_of, step_in,

@@ -9,8 +9,10 @@ use Rattle.macho_records.specs.Symbols.{is_global}
 use Rattle.indexmap.specs.IndexSet.{insert_key}
 use Rattle.macho_model.specs.Links.{Link}
 use Rattle.macho_model.specs.Resolution.{SymbolId, entry_at, name_at}
-use Rattle.macho_model.specs.Needs.{Use, name_used, global_name, is_imported, distinct}
-use Rattle.macho_model.specs.Targets.{same_target, slot_of_use, stub_of_use}
+use Rattle.macho_model.specs.Needs.{is_imported, distinct}
+use Rattle.macho_model.specs.Uses.{Use, name_used, global_name}
+use Rattle.macho_model.specs.Targets.{same_target}
+use Rattle.macho_model.specs.Uses.{slot_of_use, stub_of_use}
 use Rattle.macho_model.specs.Fixups.{same_entry}
 use Rattle.macho_layout.proofs.Distinct.{distinct_push}
 use Rattle.macho_symbols.specs.Told.{noting}

@@ -5,3 +5,5 @@ pub mod Staying
 pub mod Using
 pub mod Pointers
 pub mod Whole
+pub mod Members
+pub mod Undefined

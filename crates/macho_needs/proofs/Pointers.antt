@@ -7,8 +7,10 @@ use Rattle.macho_structs.specs.declared.relocations.RelocationInfo.{RelocationIn
 use Rattle.macho_records.specs.declared.constants.TheConstants.{ARM64_RELOC_ADDEND, ARM64_RELOC_UNSIGNED}
 use Rattle.macho_model.specs.Links.{Input, Link, SectionId}
 use Rattle.macho_model.specs.Resolution.{SymbolId}
-use Rattle.macho_model.specs.Needs.{Use, relocation_in, section_named, symbol_of_relocation, symbol_used, name_used, global_name}
-use Rattle.macho_model.specs.Targets.{same_target, slot_of_use, stub_of_use, target_of_relocation, target_with}
+use Rattle.macho_model.specs.Needs.{relocation_in, section_named, symbol_of_relocation}
+use Rattle.macho_model.specs.Uses.{Use, symbol_used, name_used, global_name}
+use Rattle.macho_model.specs.Targets.{same_target, target_of_relocation}
+use Rattle.macho_model.specs.Uses.{slot_of_use, stub_of_use, target_with}
 use Rattle.macho_model.specs.Fixups.{same_entry}
 use Rattle.macho_model.specs.Consumed.{is_plain_pointer}
 use Rattle.macho_model.proofs.Words.{target_of_symbol, target_of_section}

@@ -12,12 +12,16 @@ use Rattle.indexmap.specs.IndexSet.{insert_key}
 use Rattle.macho_model.specs.declared.targets.Target.TheVariants as target
 use Rattle.macho_model.specs.Links.{Link}
 use Rattle.macho_model.specs.Resolution.{SymbolId, Definition, Symbol, Library, ImageBase, entry_at, name_at, definition_of}
-use Rattle.macho_model.specs.Needs.{Use, uses_of, name_used, global_name, is_imported, is_library, imports_of, distinct}
-use Rattle.macho_model.specs.Targets.{target_with, target_of, definition_target}
+use Rattle.macho_model.specs.Needs.{is_imported, imports_of, distinct}
+use Rattle.macho_model.specs.steps.Resolved.{is_library}
+use Rattle.macho_model.specs.Uses.{Use, uses_of, name_used, global_name}
+use Rattle.macho_model.specs.Targets.{target_of, definition_target}
+use Rattle.macho_model.specs.Uses.{target_with}
 use Rattle.macho_layout.proofs.Distinct.{distinct_push, place_put, place_new, longer_put}
 use Rattle.macho_parts.specs.Noted.{imports_in}
 use Rattle.macho_needs.specs.Noted.{IsNext}
 use Rattle.macho_needs.proofs.Growing.{with_name, imports_more}
+use Rattle.macho_model.proofs.Uses.{imports_are}
 
 -- an element that passes a test is inside
 one_inside : (b rest : Bool) (n long : ℕ) → (b || rest) ≡ true → (rest ≡ true → n < long) → cond (not b) (1 + n) 0 < suc long
@@ -57,7 +61,7 @@ stays {X} same d p xs (y ∷ ys) inside =
 -- the number of an imported name, before its use and in the end
 pub number_stays : (l : Link) (us : List Use) (u : Use) (name : List ℕ) → IsNext l us u → name_used l u ≡ Some name → is_imported l name ≡ true
     → position_or_len (bytes_eq name) (imports_in l us) ≡ position_or_len (bytes_eq name) (imports_of l)
-unfolding imports_in imports_of with_name
+unfolding imports_in with_name
 number_stays l us u name next used imported =
     let names : List Use → List (List ℕ) = λ vs. filter (is_imported l) (filter_map (name_used l) vs) in
     let after : imports_in l (us ++ u ∷ []) ≡ insert_key bytes_eq (imports_in l us) name
@@ -71,6 +75,7 @@ number_stays l us u name next used imported =
     = ap names next.is ∙ ap (filter (is_imported l)) (filter_map-append (name_used l) (us ++ u ∷ []) next.rest)
     ∙ filter-append (is_imported l) (filter_map (name_used l) (us ++ u ∷ [])) (filter_map (name_used l) next.rest) in
     sym before ∙ sym (ap (λ ns. position_or_len (bytes_eq name) (distinct bytes_eq ns)) split ∙ stays bytes_eq bytes_eq-Decides (bytes_eq name) (names (us ++ u ∷ [])) (names next.rest) inside)
+    ∙ ap (position_or_len (bytes_eq name)) (sym (imports_are l))
 
 -- so a symbol leads to the same before its use and in the end
 pub target_stays : (l : Link) (us : List Use) (u : Use) (s : SymbolId) → IsNext l us u → name_used l u ≡ global_name l (Some s)

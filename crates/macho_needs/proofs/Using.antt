@@ -12,12 +12,14 @@ use Rattle.macho_model.specs.Grammar.{IsObject}
 use Rattle.macho_model.proofs.ObjectLaws.{object_keeps}
 use Rattle.macho_model.specs.Links.{Input, Link, SectionId, object_of}
 use Rattle.macho_model.specs.Resolution.{SymbolId, definition_of}
-use Rattle.macho_model.specs.Needs.{Use, ByRelocation, uses_of, relocation_in, section_named, symbol_of_relocation, symbol_used, global_name}
-use Rattle.macho_model.specs.Targets.{slot_of_use, stub_of_use, same_target, slot_of_relocation, stub_of_relocation, target_of, target_of_relocation, target_with}
+use Rattle.macho_model.specs.Needs.{relocation_in, section_named, symbol_of_relocation}
+use Rattle.macho_model.specs.Uses.{Use, ByRelocation, uses_of, symbol_used, global_name}
+use Rattle.macho_model.specs.Targets.{same_target, target_of, target_of_relocation}
+use Rattle.macho_model.specs.Uses.{slot_of_use, stub_of_use, slot_of_relocation, stub_of_relocation, target_with}
 use Rattle.macho_model.specs.Fields.{field_of, width_of, addend_of}
 use Rattle.macho_model.specs.Fixups.{same_entry, own_entry}
 use Rattle.macho_model.specs.Values.{is_pointer}
-use Rattle.macho_model.specs.Faults as model
+use Rattle.macho_model.specs.Uses as model
 use Rattle.macho_model.proofs.Words.{target_of_symbol, target_of_section, subtrahend_of}
 use Rattle.macho_object.specs.Views.{FileBytes}
 use Rattle.macho_names.specs.declared.fault.SymbolFault.{SymbolFault}
@@ -35,6 +37,7 @@ use Rattle.macho_needs.specs.Noted.{IsNoted, IsNext, IsFound, IsRelocationOf, ow
 use Rattle.macho_needs.specs.steps.Leads.{carried_start, noting_by, lead_by, FoundIf, IsFoundBy, IsLostBy}
 use Rattle.macho_needs.proofs.Growing.{with_name, imports_more, slots_more, stubs_more, own_more, noting_is, nothing_is}
 use Rattle.macho_needs.proofs.Staying.{target_stays}
+use Rattle.macho_needs.proofs.Undefined.{use_is_undefined}
 
 -- the symbol that a relocation names
 symbol_by : Bool → SectionId → RelocationInfo → Option SymbolId
@@ -181,7 +184,8 @@ lost_stands l counts u file rel e there named used lost = subst (Stands l counts
 
     by : (fault : SymbolFault) → IsUndefined l (symbol_id file rel.r_symbolnum) fault → Stands l counts (error_of fault)
     by (UndefinedSymbol name f) told = record {
-      stands = (u, symbol_id file rel.r_symbolnum, there, named, used lost.extern, told.0, sym told.2, sym told.3, none_is (definition_of l name.items) (ap (λ n. is_none (definition_of l n)) told.2 ∙ told.1));
+      stands = use_is_undefined l name.items f u (symbol_id file rel.r_symbolnum) there named (used lost.extern) told.0 (sym told.2) (sym told.3)
+          (none_is (definition_of l name.items) (ap (λ n. is_none (definition_of l n)) told.2 ∙ told.1));
       kept = tt;
     }
     by (DuplicateSymbol name first second) told = absurd told

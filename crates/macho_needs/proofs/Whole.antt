@@ -10,8 +10,10 @@ use Rattle.macho_model.specs.declared.targets.Target.{Target}
 use Rattle.macho_model.specs.Links.{Link, SectionId, header_at, carried_of}
 use Rattle.macho_model.specs.Resolution.{definition_of, name_at}
 use Rattle.macho_model.specs.ExportLists.{plain_entries}
-use Rattle.macho_model.specs.Needs.{Use, ByRelocation, ByInitializer, ByPersonality, ByName, uses_of, carried_uses, initializer_uses, initializer_sections, personality_uses, unwind_sections, is_imported, imports_of, relocation_in, relocations_of, relocations_at, distinct, POINTER_SIZE, UNWIND_ENTRY_SIZE, PERSONALITY_PLACE}
-use Rattle.macho_model.specs.Targets.{same_target, slot_of_use, stub_of_use, slots_of, stubs_of, target_of_relocation}
+use Rattle.macho_model.specs.Needs.{initializer_sections, unwind_sections, is_imported, relocation_in, relocations_of, relocations_at, distinct, POINTER_SIZE, UNWIND_ENTRY_SIZE, PERSONALITY_PLACE}
+use Rattle.macho_model.specs.Uses.{Use, ByRelocation, ByInitializer, ByPersonality, ByName, uses_of, carried_uses, initializer_uses, personality_uses}
+use Rattle.macho_model.specs.Targets.{same_target, target_of_relocation}
+use Rattle.macho_model.specs.Uses.{slot_of_use, stub_of_use}
 use Rattle.macho_model.specs.Fields.{Field, field_of, fields_of, is_prefix_type, addend_of, width_of}
 use Rattle.macho_model.specs.Fixups.{same_entry, own_entry, own_entries}
 use Rattle.macho_model.specs.Values.{is_pointer}
@@ -23,6 +25,8 @@ use Rattle.macho_needs.specs.Tables.{Numbered}
 use Rattle.macho_needs.specs.Noted.{IsNoted, IsFound, own_of_use, own_in}
 use Rattle.macho_needs.specs.Laws.{NeedsAreWhole, NamesAreFoundThen, NamesAreNoted, NameIsNoted}
 use Rattle.macho_needs.proofs.Growing.{imports_more, with_name}
+use Rattle.macho_model.proofs.Uses.{imports_are, slots_are, stubs_are}
+use Rattle.macho_needs.proofs.Undefined.{undefined_has_use}
 
 -- what is asked for in lists that are made of others
 asked_flat : {X Y Z : Type 0} (h : Y → Option Z) (f : X → List Y) (xs : List X) → filter_map h (flat_map f xs) ≡ flat_map (λ x. filter_map h (f x)) xs
@@ -124,12 +128,18 @@ all_entries l =
     ap (distinct same_entry) (split ∙ asked_flat (own_of_use l) (carried_uses l) (carried_of l) ∙ flat_same _ _ (carried_of l) (section_entries l))
 
 pub needs_are : NeedsAreWhole
-unfolding imports_in slots_in stubs_in imports_of slots_of stubs_of
-needs_are l n is = record { imports = is.imports.notes; slots = is.slots; stubs = is.stubs; own = is.own ∙ all_entries l }
+unfolding imports_in slots_in stubs_in
+needs_are l n is = record {
+  imports = is.imports.notes ∙ sym (imports_are l);
+  slots = is.slots ∙ sym (slots_are l);
+  stubs = is.stubs ∙ sym (stubs_are l);
+  own = is.own ∙ all_entries l;
+}
 
 pub names_are_found : NamesAreFoundThen
 names_are_found l n is = record {
-  none = λ name file undefined.
+  none = λ name file without.
+      let undefined = undefined_has_use l name file without in
       let u = undefined.0 in
       let s = undefined.1 in
       let found = subst (IsFound l) undefined.2.2 (is.found undefined.2.0 u undefined.2.1) s undefined.4 undefined.5 in

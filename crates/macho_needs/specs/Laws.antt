@@ -3,7 +3,8 @@ use Rattle.std.specs.Prelude.{◌≡◌, ℕ, ◌&&◌, not, if◌then◌else◌
 use Rattle.std.specs.List.{list_any}
 use Rattle.std.specs.Str.{bytes_eq}
 use Rattle.macho_model.specs.Links.{Link}
-use Rattle.macho_model.specs.Needs.{Use, ByName, uses_of, is_imported}
+use Rattle.macho_model.specs.Needs.{is_imported}
+use Rattle.macho_model.specs.Uses.{Use, ByName, uses_of}
 use Rattle.macho_symbols.specs.Kept.{IsResolved}
 use Rattle.macho_parts.specs.Noted.{AreNeeds, imports_in}
 use Rattle.macho_parts.specs.Sound.{NamesAreFound}

@@ -9,7 +9,8 @@ use Rattle.macho_model.specs.declared.targets.Target.TheVariants as target
 use Rattle.macho_model.specs.Objects.{num_sections}
 use Rattle.macho_model.specs.Links.{Link, SectionId, object_of, header_at}
 use Rattle.macho_model.specs.Resolution.{SymbolId}
-use Rattle.macho_model.specs.Needs.{Use, ByRelocation, ByInitializer, ByPersonality, ByName, relocation_in, symbol_used, distinct}
+use Rattle.macho_model.specs.Needs.{relocation_in, distinct}
+use Rattle.macho_model.specs.Uses.{Use, ByRelocation, ByInitializer, ByPersonality, ByName, symbol_used}
 use Rattle.macho_model.specs.Targets.{target_of_relocation}
 use Rattle.macho_model.specs.Fields.{field_of}
 use Rattle.macho_model.specs.Fixups.{EntryOfImport, same_entry, own_entry}

@@ -4,8 +4,10 @@ ghost use Rattle.macho_records.specs.declared.constants.TheConstants.{ARM64_RELO
 ghost use Rattle.macho_model.specs.declared.placed.Counts.{Counts};
 ghost use Rattle.macho_model.specs.Objects.{num_sections, section_at};
 ghost use Rattle.macho_model.specs.Links.{Input, Link, SectionId};
-ghost use Rattle.macho_model.specs.Needs.{Use, ByRelocation, ByInitializer, ByPersonality, uses_of, relocation_in};
-ghost use Rattle.macho_model.specs.Targets.{target_with, target_of_relocation};
+ghost use Rattle.macho_model.specs.Needs.{relocation_in};
+ghost use Rattle.macho_model.specs.Uses.{Use, ByRelocation, ByInitializer, ByPersonality, uses_of};
+ghost use Rattle.macho_model.specs.Targets.{target_of_relocation};
+ghost use Rattle.macho_model.specs.Uses.{target_with};
 ghost use Rattle.macho_names.specs.Kept.{Keeps};
 ghost use Rattle.macho_symbols.specs.Kept.{IsResolved, HasSymbol, symbol_id};
 ghost use Rattle.macho_symbols.specs.Told.{IsDefined, noting};

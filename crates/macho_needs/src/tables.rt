@@ -1,7 +1,8 @@
 //! The tables of slots, stubs and entries. Each element stands once, at its number, and is found by a hash.
 ghost use Rattle.std.specs.Prelude.{◌≡◌, ◌||◌, ◌==◌, true, length, slice_get, option_map, Some, OnOk};
 ghost use Rattle.macho_model.specs.declared.targets.Target.TheVariants as target;
-ghost use Rattle.macho_model.specs.Targets.{same_target, slot_of_relocation, stub_of_relocation, is_import, goes_by_slot};
+ghost use Rattle.macho_model.specs.Targets.{same_target, is_import};
+ghost use Rattle.macho_model.specs.Uses.{slot_of_relocation, stub_of_relocation, goes_by_slot};
 ghost use Rattle.macho_model.specs.Fixups.{same_entry, own_entry};
 ghost use Rattle.macho_needs.specs.Tables.{no_tables, with_some, number_of, own_of_pointer};
 ghost use Rattle.macho_symbols.specs.Entries.{entry_of};

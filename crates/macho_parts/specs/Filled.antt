@@ -1,6 +1,6 @@
 -- When the bytes of a carried section are filled: its input's bytes, with each relocated field set for its target and addend.
 -- Fields that the loader writes are left to it.
-use Rattle.std.specs.Prelude.{◌≡◌, ℕ, ◌+◌, ◌<◌, ◌≤◌, false, List, length, slice_index, slice_range, All, is_some}
+use Rattle.std.specs.Prelude.{◌≡◌, ℕ, ◌+◌, ◌<◌, false, List, length, slice_index, slice_range, All, is_some}
 use Rattle.std.specs.FinMap.{empty}
 use Rattle.macho_bytes.specs.Numbers.{le_at}
 use Rattle.macho_model.specs.declared.placed.PlacedSection.{PlacedSection}
@@ -14,7 +14,8 @@ use Rattle.macho_model.specs.Values.{needs_fixup}
 use Rattle.macho_model.specs.WrittenSum.{STUB_SIZE}
 use Rattle.macho_model.specs.Placement.{Placed, id_of}
 use Rattle.macho_model.specs.Addresses.{offset_in_file}
-use Rattle.macho_model.specs.Stands.{Says, kind_of, IsOutsideField, SlotAt}
+use Rattle.macho_model.specs.Stands.{Says, kind_of, SlotAt}
+use Rattle.macho_model.specs.Spans.{IsOutsideField}
 
 -- a field in a section's bytes says its target and addend, before any slide; one that the loader writes says nothing yet
 abbrev pub FieldIsSet : Link → Placed → PlacedSection → List ℕ → Field → Type 0

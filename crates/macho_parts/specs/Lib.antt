@@ -8,3 +8,4 @@ pub use Rattle.macho_promise.specs.FixupsSay
 pub use Rattle.macho_promise.specs.Promise
 pub use Rattle.macho_promise.specs.Sizes
 pub use Rattle.macho_promise.specs.TrieSays
+pub mod steps

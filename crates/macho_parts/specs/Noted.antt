@@ -5,8 +5,10 @@ use Rattle.std.specs.List.{flat_map, filter_map}
 use Rattle.std.specs.Str.{bytes_eq}
 use Rattle.macho_model.specs.declared.targets.Target.{Target}
 use Rattle.macho_model.specs.Links.{Link, carried_of}
-use Rattle.macho_model.specs.Needs.{Use, uses_of, name_used, is_imported, distinct, carried_uses, initializer_uses, initializer_sections, personality_uses, unwind_sections, imports_of}
-use Rattle.macho_model.specs.Targets.{slot_of_use, stub_of_use, same_target, slots_of, stubs_of}
+use Rattle.macho_model.specs.Needs.{is_imported, distinct, initializer_sections, unwind_sections, imports_of}
+use Rattle.macho_model.specs.Uses.{Use, uses_of, name_used, carried_uses, initializer_uses, personality_uses}
+use Rattle.macho_model.specs.Targets.{same_target, slots_of, stubs_of}
+use Rattle.macho_model.specs.Uses.{slot_of_use, stub_of_use}
 use Rattle.macho_model.specs.Fixups.{EntryOfImport, own_entries}
 
 -- the walk begins with these uses

@@ -10,8 +10,11 @@ use Rattle.macho_model.specs.declared.placed.Counts.{Counts}
 use Rattle.macho_model.specs.declared.placed.Linkedit.{Linkedit}
 use Rattle.macho_model.specs.declared.placed.Range64.{Range64}
 use Rattle.macho_model.specs.Links.{Link}
-use Rattle.macho_model.specs.Placement.{Placed, Span, AreApart, section_span, common_span, slot_span, stub_span, range_span, head_span}
-use Rattle.macho_model.specs.Placement.{linkedit_span, linkedit_ranges, spans_with}
+use Rattle.macho_model.specs.Placement.{Placed}
+use Rattle.macho_model.specs.Zeros.{Span}
+use Rattle.macho_model.specs.Spans.{AreApart, section_span, common_span, slot_span, stub_span, range_span, head_span}
+use Rattle.macho_model.specs.Placement.{linkedit_ranges}
+use Rattle.macho_model.specs.Spans.{linkedit_span, spans_with}
 use Rattle.macho_layout.specs.Plans.{Planning, IsPlanOf}
 use Rattle.macho_layout.specs.Places.{row_pages}
 use Rattle.macho_layout.specs.Sums.{FitsLimits, base_of, head_size}

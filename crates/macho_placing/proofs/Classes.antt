@@ -3,35 +3,16 @@
 -- Ranks that are told one by one are told together. A key of `__DATA` is data or zeros, and by its type and name of the template or of
 -- the commons; of
 -- these tests each class is one.
-use Rattle.std.proofs.Common.{◌≡◌, ℕ, zero, suc, ◌+◌, ◌*◌, ◌<◌, ◌≤◌, ◌==◌, ◌&&◌, nat_lt, not, if◌then◌else◌, Bool, true, false, cond}
-use Rattle.std.proofs.Common.{List, [], ◌∷◌, ◌++◌, map, filter, length, get_or, refl, sym, ap, ◌∙◌, subst, arith, inl, inr}
-use Rattle.std.specs.Str.{bytes_eq}
-use Rattle.std.proofs.lemmas.Bool.{false≢true, cases_lt, cases_eq, eqb-true, eq-eqb, ne_eqb, lt-ltb, le-ltb}
-use Rattle.std.proofs.lemmas.Bool.Decides.{same_from_decides}
-use Rattle.std.proofs.lemmas.Slice.Eq.{bytes_eq-Decides}
-use Rattle.std.proofs.lemmas.List.{append-nil, map-append, get_or_default}
-use Rattle.macho_bytes.specs.Texts.{name_of}
-use Rattle.std.proofs.lemmas.Nat.{mul-lt}
-use Rattle.macho_records.specs.Sections.{is_zerofill_type, has_instructions}
+use Rattle.std.proofs.Common.{◌≡◌, ℕ, ◌+◌, ◌==◌, ◌&&◌, not, if◌then◌else◌, Bool, true, false}
+use Rattle.std.proofs.Common.{List, [], ◌++◌, filter, refl, sym, ap, ◌∙◌}
+use Rattle.std.proofs.lemmas.Bool.{false≢true, eqb-true}
+use Rattle.std.proofs.lemmas.List.{append-nil}
+use Rattle.macho_records.specs.Sections.{is_zerofill_type}
 use Rattle.macho_records.specs.declared.constants.TheConstants.{S_THREAD_LOCAL_REGULAR, S_THREAD_LOCAL_ZEROFILL}
-use Rattle.macho_model.specs.declared.placed.Counts.{Counts}
-use Rattle.macho_model.specs.Links.{Link}
-use Rattle.macho_model.specs.Targets.{slots_of, stubs_of}
-use Rattle.macho_model.specs.Segments.{TEXT, DATA_CONST, DATA, OutputKey, same_key, common_key, output_keys_of, list_if}
-use Rattle.macho_model.specs.Placement.{Placed}
-use Rattle.macho_model.specs.OutputSections.{OutputSection, InitOffsets, UnwindInfo, Stubs, Slots, merged_in, is_zeros, is_code}
-use Rattle.macho_model.specs.OutputSections.{flags_of_key, sections_of_text, sections_of_data, sections_of_other, output_sections_in}
+use Rattle.macho_model.specs.Segments.{OutputKey, same_key, common_key}
 use Rattle.macho_cells.specs.declared.place.Cell.{Cell}
 use Rattle.macho_cells.specs.Ranks.{has_rank, of_ranks}
-use Rattle.macho_layout.specs.Plans.{Planning, IsPlanOf}
-use Rattle.macho_layout.specs.Keys.{padded, same_segment, same_output}
-use Rattle.macho_layout.specs.Names.{mapped_names, COMMON_NAME}
-use Rattle.macho_layout.specs.Cells.{class_of, cell_if, made_cells, cells_of}
-use Rattle.macho_layout.specs.Sums.{FitsLimits}
-use Rattle.macho_layout.specs.Laid.{IsLaidOut}
-use Rattle.macho_layout.proofs.CostLaw.{key-decides, stubs_many}
-use Rattle.macho_layout.proofs.Named.{fields_agree}
-use Rattle.macho_layout.proofs.SumLaw.{and_group}
+use Rattle.macho_layout.proofs.CostLaw.{key-decides}
 use Rattle.macho_placing.proofs.Ordered.{nine_ranks, pair_same}
 
 -- nine ranks that are told one by one

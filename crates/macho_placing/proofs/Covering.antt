@@ -2,48 +2,24 @@
 --
 -- By cases on the tests that tell a class. One cell more makes the range end where that cell does; since the cells rise, each ends there
 -- or before.
-use Rattle.std.proofs.Common.{◌≡◌, ℕ, ◌+◌, ◌*◌, ◌/◌, ◌%◌, ◌^◌, ◌<◌, ◌≤◌, ◌⊎◌, ◌==◌, ◌||◌, not, if◌then◌else◌, Bool, true, false, List, []}
-use Rattle.std.proofs.Common.{◌∷◌, ◌++◌, map, filter, length, get_or, fold, All, AllPairs, Contains, Some, None, refl, sym, ap, ◌∙◌}
-use Rattle.std.proofs.Common.{subst, arith, inl, inr}
-use Rattle.std.specs.List.{range_with_len}
-use Rattle.std.proofs.lemmas.Bool.{false≢true, false_from_ne_true, not-true, eqb-true, and_parts, and_from, or_cases, or_left, or_right}
-use Rattle.std.proofs.lemmas.Bool.{cases_lt, cases_eq, cases_order}
-use Rattle.std.proofs.lemmas.Slice.Eq.{bytes_eq-Decides}
-use Rattle.std.proofs.lemmas.List.Elements.{All-nil, All-cons, All-head, All-tail, All-append, All-map, All-weaker, All-filter}
-use Rattle.std.proofs.lemmas.List.Elements.{All-contains, All-contains_itself}
-use Rattle.std.proofs.lemmas.List.FromFn.{length-map-range_with_len, get_or-map-range_with_len}
-use Rattle.std.proofs.lemmas.List.Kept.{AllPairs-filter}
-use Rattle.macho_records.specs.declared.constants.TheConstants.{S_THREAD_LOCAL_REGULAR, S_THREAD_LOCAL_ZEROFILL, S_THREAD_LOCAL_VARIABLES}
+use Rattle.std.proofs.Common.{◌≡◌, ℕ, ◌%◌, ◌^◌, ◌<◌, ◌≤◌, ◌⊎◌, ◌==◌, ◌||◌, not, if◌then◌else◌, Bool, true, false, List, []}
+use Rattle.std.proofs.Common.{◌∷◌, fold, All, AllPairs, Some, refl, ap, ◌∙◌}
+use Rattle.std.proofs.Common.{arith, inl, inr}
+use Rattle.std.proofs.lemmas.Bool.{false≢true, eqb-true, or_cases, or_right}
+use Rattle.std.proofs.lemmas.List.Elements.{All-nil, All-cons, All-head, All-tail, All-weaker}
+use Rattle.macho_records.specs.declared.constants.TheConstants.{S_THREAD_LOCAL_REGULAR, S_THREAD_LOCAL_ZEROFILL}
 use Rattle.macho_records.specs.declared.segments.SegmentName.{SegmentName}
-use Rattle.macho_records.specs.Sections.{is_template_type, is_zerofill_type, has_instructions, type_of}
-use Rattle.macho_model.specs.declared.placed.Counts.{Counts}
-use Rattle.macho_model.specs.declared.placed.PlacedSection.{PlacedSection}
-use Rattle.macho_model.specs.declared.placed.PlacedCommon.{PlacedCommon}
+use Rattle.macho_records.specs.Sections.{is_template_type, is_zerofill_type, has_instructions}
 use Rattle.macho_model.specs.declared.placed.Range64.{Range64}
-use Rattle.macho_model.specs.Links.{Link, SectionId, header_at, carried_of, is_template, is_carried}
 use Rattle.macho_model.specs.Segments.{TEXT, DATA}
-use Rattle.macho_model.specs.Placement.{Placed, Span, AreApart, id_of, section_span, common_span, slot_span, stub_span, range_span}
-use Rattle.macho_model.specs.Placement.{head_span, linkedit_span, linkedit_ranges, spans_with, HoldsSpan, TemplateHolds}
-use Rattle.macho_model.specs.Placement.{template_sections, other_sections}
-use Rattle.macho_cells.specs.declared.members.PlacedMember.{PlacedMember}
-use Rattle.macho_cells.specs.declared.place.Cell.{Cell}
 use Rattle.macho_cells.specs.declared.place.PlacedCell.{PlacedCell}
-use Rattle.macho_cells.specs.Stacks.{extent_at}
-use Rattle.macho_cells.specs.Ranks.{of_ranks}
 use Rattle.macho_layout.specs.declared.spec.OutputName.{OutputName}
-use Rattle.macho_layout.specs.Plans.{Planning, IsPlanOf}
 use Rattle.macho_layout.specs.Keys.{padded, same_segment, same_output}
-use Rattle.macho_layout.specs.Names.{mapped_names, output_at, COMMON_NAME}
-use Rattle.macho_layout.specs.Cells.{segment_number, class_of, is_template_class, cells_of, cell_if, made_cells}
-use Rattle.macho_layout.specs.Places.{behind, number_at, cover, is_template_cell}
-use Rattle.macho_layout.specs.Sums.{FitsLimits, base_of, head_size}
-use Rattle.macho_layout.specs.Laid.{IsLaidOut}
-use Rattle.macho_layout.proofs.Named.{name_in_field}
-use Rattle.macho_layout.proofs.Rooms.{unmapped, ranks_keep}
-use Rattle.macho_layout.proofs.Whole.{sections_are_listed}
-use Rattle.macho_layout.proofs.Tables.{segment-decides}
-use Rattle.macho_placing.proofs.Lists.{zip_all, filter_keeps, filter_has, pairs_head, pairs_tail}
-use Rattle.macho_placing.proofs.RowFacts.{RowsRise, end_of_cell, CellsRise}
+use Rattle.macho_layout.specs.Names.{COMMON_NAME}
+use Rattle.macho_layout.specs.Cells.{class_of, is_template_class}
+use Rattle.macho_layout.specs.Places.{behind, cover}
+use Rattle.macho_placing.proofs.Lists.{pairs_head, pairs_tail}
+use Rattle.macho_placing.proofs.RowFacts.{end_of_cell, CellsRise}
 
 -- a class of the template is one of `__DATA`, and of a type of the template
 pub class_tells : (name : OutputName) (flags : ℕ) → is_template_class (class_of name flags) ≡ true → (is_template_type name.kind ≡ true) ×

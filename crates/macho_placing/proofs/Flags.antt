@@ -15,7 +15,8 @@ use Rattle.macho_model.specs.declared.placed.Counts.{Counts}
 use Rattle.macho_model.specs.Links.{Link, SectionId, header_at}
 use Rattle.macho_model.specs.Segments.{OutputKey, same_key, output_keys_of}
 use Rattle.macho_model.specs.Placement.{Placed, id_of}
-use Rattle.macho_model.specs.OutputSections.{KEPT_FLAGS, members_of as link_members, flags_of_key}
+use Rattle.macho_model.specs.OutputSections.{KEPT_FLAGS, flags_of_key}
+use Rattle.macho_model.specs.steps.Outputs.{members_of as link_members}
 use Rattle.macho_cells.specs.declared.members.Member.{Member}
 use Rattle.macho_cells.specs.declared.members.PlacedMember.{PlacedMember}
 use Rattle.macho_cells.specs.Stacks.{extent_at, is_in_cell, members_in}

@@ -16,8 +16,11 @@ use Rattle.macho_model.specs.declared.placed.PlacedSegment.{PlacedSegment}
 use Rattle.macho_model.specs.Links.{Link}
 use Rattle.macho_model.specs.Segments.{TEXT, DATA_CONST, OutputKey, segment_rank}
 use Rattle.macho_model.specs.Placement.{Placed, is_segment_named, IsPaged}
-use Rattle.macho_model.specs.OutputSections.{OutputSection, Merged, InitOffsets, UnwindInfo, Stubs, Slots, Piece, is_zeros, flags_of_key}
-use Rattle.macho_model.specs.OutputSections.{flags_of_output, stub_size_of, key_of_output, file_offset_of as model_offset, output_header}
+use Rattle.macho_model.specs.OutputSections.{is_zeros, flags_of_key}
+use Rattle.macho_model.specs.steps.Outputs.{OutputSection, Merged, InitOffsets, UnwindInfo, Stubs, Slots}
+use Rattle.macho_model.specs.Placement.{Piece}
+use Rattle.macho_model.specs.steps.Outputs.{file_offset_of as model_offset}
+use Rattle.macho_model.specs.steps.Outputs.{flags_of_output, stub_size_of, key_of_output, output_header}
 use Rattle.macho_model.specs.Lists.{of_first}
 use Rattle.macho_cells.specs.declared.place.Cell.{Cell}
 use Rattle.macho_cells.specs.declared.place.PlacedCell.{PlacedCell}

@@ -16,8 +16,11 @@ use Rattle.macho_model.specs.declared.placed.PlacedSegment.{PlacedSegment}
 use Rattle.macho_model.specs.declared.placed.Range64.{Range64}
 use Rattle.macho_model.specs.Links.{Link, header_at}
 use Rattle.macho_model.specs.Resolution.{entry_at}
-use Rattle.macho_model.specs.Placement.{Placed, Span, AreApart, id_of, common_of, section_span, common_span, slot_span, stub_span}
-use Rattle.macho_model.specs.Placement.{range_span, linkedit_span, linkedit_ranges}
+use Rattle.macho_model.specs.Placement.{Placed, id_of, common_of}
+use Rattle.macho_model.specs.Zeros.{Span}
+use Rattle.macho_model.specs.Spans.{AreApart, section_span, common_span, slot_span, stub_span}
+use Rattle.macho_model.specs.Placement.{linkedit_ranges}
+use Rattle.macho_model.specs.Spans.{range_span, linkedit_span}
 use Rattle.macho_model.specs.Lists.{of_first}
 use Rattle.macho_cells.specs.declared.members.Member.{Member}
 use Rattle.macho_cells.specs.declared.members.PlacedMember.{PlacedMember}

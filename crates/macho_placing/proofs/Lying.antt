@@ -24,9 +24,12 @@ use Rattle.macho_model.specs.Lists.{IsNumber}
 use Rattle.macho_model.specs.Links.{Link, SectionId, header_at, carried_of, sections_of, is_carried, placed_exponent}
 use Rattle.macho_model.specs.Resolution.{entry_at}
 use Rattle.macho_model.specs.Segments.{TEXT, DATA_CONST, DATA, list_if, one_if}
-use Rattle.macho_model.specs.Placement.{Placed, Span, id_of, common_of, section_span, common_span, slot_span, stub_span, range_span}
-use Rattle.macho_model.specs.Placement.{is_segment_named, LiesIn, LiesInNamed, SectionLies, TableLies, RangeLies, linkedit_ranges}
-use Rattle.macho_model.specs.Placement.{IsAligned, IsInSegment}
+use Rattle.macho_model.specs.Placement.{Placed, id_of, common_of}
+use Rattle.macho_model.specs.Zeros.{Span}
+use Rattle.macho_model.specs.Spans.{section_span, common_span, slot_span, stub_span, range_span}
+use Rattle.macho_model.specs.Placement.{is_segment_named, linkedit_ranges}
+use Rattle.macho_model.specs.steps.Parts.{LiesIn, LiesInNamed, SectionLies, TableLies, RangeLies}
+use Rattle.macho_model.specs.steps.Parts.{IsAligned, IsInSegment}
 use Rattle.macho_cells.specs.declared.members.Member.{Member}
 use Rattle.macho_cells.specs.declared.members.PlacedMember.{PlacedMember}
 use Rattle.macho_cells.specs.declared.place.Cell.{Cell}

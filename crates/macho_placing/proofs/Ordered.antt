@@ -18,7 +18,7 @@ use Rattle.macho_model.specs.declared.placed.Counts.{Counts}
 use Rattle.macho_model.specs.Links.{Link}
 use Rattle.macho_model.specs.Segments.{OutputKey, common_key, output_keys_of, list_if}
 use Rattle.macho_model.specs.Placement.{Placed}
-use Rattle.macho_model.specs.OutputSections.{OutputSection, Merged, InitOffsets, UnwindInfo, Stubs, Slots, merged_in}
+use Rattle.macho_model.specs.steps.Outputs.{OutputSection, Merged, InitOffsets, UnwindInfo, Stubs, Slots, merged_in}
 use Rattle.macho_cells.specs.declared.place.Cell.{Cell}
 use Rattle.macho_cells.specs.Ranks.{has_rank, of_ranks}
 use Rattle.macho_cells.specs.Stacks.{extent_at}

@@ -15,8 +15,11 @@ use Rattle.macho_model.specs.Lists.{EachNext}
 use Rattle.macho_model.specs.Links.{Link}
 use Rattle.macho_model.specs.Segments.{PAGEZERO, LINKEDIT, SEGMENT_PAGE, segment_names_of, list_if}
 use Rattle.macho_model.specs.Placement.{Placed}
-use Rattle.macho_model.specs.OutputSections.{OutputSection, Piece, pieces_of, output_sections_in, output_sections_of}
-use Rattle.macho_model.specs.Order.{BeginsLeast, row_of, sections_in, least_size, least_file_size, StandInOrder, AreLeast}
+use Rattle.macho_model.specs.steps.Outputs.{OutputSection, pieces_of, output_sections_in, output_sections_of}
+use Rattle.macho_model.specs.Placement.{Piece}
+use Rattle.macho_model.specs.Order.{BeginsLeast}
+use Rattle.macho_model.specs.steps.Least.{row_of, sections_in, least_size, least_file_size, AreLeast}
+use Rattle.macho_model.specs.Spans.{StandInOrder}
 use Rattle.macho_layout.specs.Plans.{Planning, IsPlanOf}
 use Rattle.macho_layout.specs.Keys.{padded}
 use Rattle.macho_layout.specs.Sums.{FitsLimits}

@@ -12,7 +12,7 @@ use Rattle.macho_model.specs.declared.placed.Counts.{Counts}
 use Rattle.macho_model.specs.Links.{Link}
 use Rattle.macho_model.specs.Segments.{PAGEZERO, LINKEDIT, list_if}
 use Rattle.macho_model.specs.Placement.{Placed}
-use Rattle.macho_model.specs.OutputSections.{OutputSection, output_sections_in, output_sections_of, output_sections_for, output_header}
+use Rattle.macho_model.specs.steps.Outputs.{OutputSection, output_sections_in, output_sections_of, output_sections_for, output_header}
 use Rattle.macho_cells.specs.declared.place.Cell.{Cell}
 use Rattle.macho_cells.specs.declared.place.PlacedCell.{PlacedCell}
 use Rattle.macho_cells.specs.Ranks.{of_ranks}

@@ -19,9 +19,14 @@ use Rattle.macho_model.specs.declared.placed.Stub.{Stub}
 use Rattle.macho_model.specs.Links.{Link, SectionId, placed_exponent, greatest}
 use Rattle.macho_model.specs.Resolution.{entry_at}
 use Rattle.macho_model.specs.Segments.{OutputKey, same_key, common_key, output_keys_of, list_if}
-use Rattle.macho_model.specs.Placement.{Placed, Span, id_of, common_of, section_span, common_span, slot_span, stub_span, range_span}
-use Rattle.macho_model.specs.OutputSections.{OutputSection, Merged, InitOffsets, UnwindInfo, Stubs, Slots, Piece, piece, pieces_of}
-use Rattle.macho_model.specs.OutputSections.{extent_of, around}
+use Rattle.macho_model.specs.Placement.{Placed, id_of, common_of}
+use Rattle.macho_model.specs.Zeros.{Span}
+use Rattle.macho_model.specs.Spans.{section_span, common_span, slot_span, stub_span, range_span}
+use Rattle.macho_model.specs.steps.Outputs.{OutputSection, Merged, InitOffsets, UnwindInfo, Stubs, Slots, pieces_of}
+use Rattle.macho_model.specs.Placement.{Piece}
+use Rattle.macho_model.specs.Spans.{piece}
+use Rattle.macho_model.specs.OutputSections.{around}
+use Rattle.macho_model.specs.steps.Outputs.{extent_of}
 use Rattle.macho_cells.specs.declared.members.Member.{Member}
 use Rattle.macho_cells.specs.declared.members.PlacedMember.{PlacedMember}
 use Rattle.macho_cells.specs.declared.place.Cell.{Cell}

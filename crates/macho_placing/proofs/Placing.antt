@@ -17,7 +17,7 @@ use Rattle.macho_model.specs.declared.targets.Limit.TheVariants as limit
 use Rattle.macho_model.specs.Links.{Link}
 use Rattle.macho_model.specs.Segments.{may_hold_pointers}
 use Rattle.macho_model.specs.Placement.{Placed, IsPlaced, linkedit_ranges}
-use Rattle.macho_model.specs.Order.{pages_of, pointer_pages}
+use Rattle.macho_model.specs.Order.{pages_of}
 use Rattle.macho_model.specs.Limits.{ImagePasses}
 use Rattle.macho_layout.specs.declared.fault.LayoutFault.TheVariants.{TooMany, TooLarge, OutOfMemory}
 use Rattle.macho_layout.specs.Placements.{placed_of}
@@ -37,22 +37,22 @@ use Rattle.macho_placing.proofs.Template.{template_holds}
 use Rattle.macho_placing.proofs.Rooms.{rooms, sum_kept}
 use Rattle.macho_placing.proofs.Ordering.{stand_in_order, are_least}
 use Rattle.macho_placing.proofs.Outputs.{headers_are}
+use Rattle.macho_model.proofs.Parts.{even_pieces, pieces_in, apart_pieces, template_pieces}
+use Rattle.macho_model.proofs.Outputs.{stand_least, headers_same}
+use Rattle.macho_model.specs.Rooms.{pointer_pages}
 
 is_placed : (l : Link) (p : Planning) (counts : Counts) (q : Placed) → IsPlanOf l p → FitsLimits p counts → IsLaidOut p counts q
     → IsPlaced l counts q
 is_placed l p counts q plan fits h = record {
   base = base_is_links l p counts q plan h;
   whole_list = lists_are_whole l p counts q plan h;
-  aligned = is_aligned l p counts q plan fits h;
-  in_segment = in_segment l p counts q plan fits h;
-  apart = all_apart l p counts q plan fits h;
-  in_order = record {
-    paged = all_paged l p counts q plan fits h;
-    follow = all_follow l p counts q plan fits h;
-    begins = text_is_first l p
-        counts q plan h;
-  };
-  template = template_holds l p counts q plan fits h;
+  aligned = even_pieces l counts q (is_aligned l p counts q plan fits h);
+  in_segment = pieces_in l counts q (in_segment l p counts q plan fits h);
+  apart = apart_pieces l counts q q.sections (all_apart l p counts q plan fits h);
+  paged = all_paged l p counts q plan fits h;
+  follow = all_follow l p counts q plan fits h;
+  begins = text_is_first l p counts q plan h;
+  template = template_pieces l counts q q.template (template_holds l p counts q plan fits h);
   within_sum = ends_within_sum l p counts q plan fits h;
 }
 
@@ -60,8 +60,8 @@ pub laid_out_is_placed : LaidOutIsPlaced
 laid_out_is_placed l p counts q plan fits h = record {
   placed = is_placed l p counts q plan fits h;
   order = stand_in_order l p counts q plan fits h;
-  least = are_least l p counts q plan fits h;
-  sections = headers_are l p counts q plan fits h;
+  least = stand_least (are_least l p counts q plan fits h);
+  sections = headers_are l p counts q plan fits h ∙ sym (headers_same l counts q);
 }
 
 pub kept_is_placed : KeptIsPlaced

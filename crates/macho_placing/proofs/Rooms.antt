@@ -18,8 +18,8 @@ use Rattle.macho_model.specs.Lists.{IsNumber, EachNext, of_first}
 use Rattle.macho_model.specs.Links.{Link}
 use Rattle.macho_model.specs.Segments.{DATA, DATA_CONST, SEGMENT_PAGE, may_hold_pointers, list_if}
 use Rattle.macho_model.specs.Placement.{Placed}
-use Rattle.macho_model.specs.OutputSections.{Piece}
-use Rattle.macho_model.specs.Order.{table_pieces, BeginsLeast, pages_of, pointer_pages, fixup_room, signature_room, HaveRoom}
+use Rattle.macho_model.specs.Placement.{Piece}
+use Rattle.macho_model.specs.Order.{table_pieces, BeginsLeast, pages_of, HaveRoom}
 use Rattle.macho_cells.specs.Blocks.{StandLeast}
 use Rattle.macho_cells.proofs.Multiples.{rounded-multiple}
 use Rattle.macho_layout.specs.Plans.{Planning, IsPlanOf}
@@ -35,6 +35,7 @@ use Rattle.macho_placing.proofs.Tables.{tables_stack, pieces_from}
 use Rattle.macho_placing.proofs.Names.{mapped_of}
 use Rattle.macho_placing.proofs.Made.{init_range, unwind_range}
 use Rattle.macho_placing.proofs.Segments.{Chain, segments_are, last_segment, last_alone, keep, all_chain, row_names}
+use Rattle.macho_model.specs.Rooms.{fixup_room, pointer_pages, signature_room}
 
 -- a sum over what a filter keeps
 pub sum_kept : {X : Type 0} (f : X → ℕ) (t : X → Bool) (xs : List X) → sum_by f (filter t xs) ≡ sum_by (λ x. cond (t x) (f x) 0) xs

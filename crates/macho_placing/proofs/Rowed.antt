@@ -12,15 +12,17 @@ use Rattle.std.proofs.lemmas.List.{append-nil, map-append, get_or_default}
 use Rattle.std.specs.Prelude.{codes}
 use Rattle.macho_bytes.specs.Texts.{name_of}
 use Rattle.std.proofs.lemmas.Nat.{mul-lt}
-use Rattle.macho_records.specs.Sections.{is_zerofill_type, has_instructions}
+use Rattle.macho_records.specs.Sections.{has_instructions}
 use Rattle.macho_records.specs.declared.constants.TheConstants.{S_THREAD_LOCAL_REGULAR, S_THREAD_LOCAL_ZEROFILL}
 use Rattle.macho_model.specs.declared.placed.Counts.{Counts}
 use Rattle.macho_model.specs.Links.{Link}
 use Rattle.macho_model.specs.Targets.{slots_of, stubs_of}
 use Rattle.macho_model.specs.Segments.{TEXT, DATA_CONST, DATA, OutputKey, same_key, common_key, output_keys_of, list_if}
 use Rattle.macho_model.specs.Placement.{Placed}
-use Rattle.macho_model.specs.OutputSections.{OutputSection, InitOffsets, UnwindInfo, Stubs, Slots, merged_in, is_zeros, is_code}
-use Rattle.macho_model.specs.OutputSections.{flags_of_key, sections_of_text, sections_of_data, sections_of_other, output_sections_in}
+use Rattle.macho_model.specs.OutputSections.{is_zeros, is_code}
+use Rattle.macho_model.specs.steps.Outputs.{OutputSection, InitOffsets, UnwindInfo, Stubs, Slots, merged_in}
+use Rattle.macho_model.specs.OutputSections.{flags_of_key}
+use Rattle.macho_model.specs.steps.Outputs.{sections_of_text, sections_of_data, sections_of_other, output_sections_in}
 use Rattle.macho_cells.specs.declared.place.Cell.{Cell}
 use Rattle.macho_cells.specs.Ranks.{has_rank, of_ranks}
 use Rattle.macho_layout.specs.Plans.{Planning, IsPlanOf}
@@ -29,7 +31,7 @@ use Rattle.macho_layout.specs.Names.{mapped_names, COMMON_NAME}
 use Rattle.macho_layout.specs.Cells.{class_of, cell_if, made_cells, cells_of}
 use Rattle.macho_layout.specs.Sums.{FitsLimits}
 use Rattle.macho_layout.specs.Laid.{IsLaidOut}
-use Rattle.macho_layout.proofs.CostLaw.{key-decides, stubs_many}
+use Rattle.macho_layout.proofs.CostLaw.{stubs_many}
 use Rattle.macho_layout.proofs.Named.{fields_agree}
 use Rattle.macho_layout.proofs.SumLaw.{and_group}
 use Rattle.macho_placing.proofs.Names.{mapped_of}
@@ -38,10 +40,10 @@ use Rattle.macho_placing.proofs.Counted.{positive}
 use Rattle.macho_placing.proofs.Made.{init_cell, unwind_cell, stub_cell, slot_cell, const_number, const_there}
 use Rattle.macho_placing.proofs.Keys.{key_name, number_of, key_turn}
 use Rattle.macho_placing.proofs.Flags.{instructions_are}
-use Rattle.macho_placing.proofs.Ordered.{nine_ranks, pair_same, key_cell, cell_for, KeyFacts, key_flags, row_merged, row_empty, made_row}
+use Rattle.macho_placing.proofs.Ordered.{key_cell, cell_for, KeyFacts, key_flags, row_merged, row_empty, made_row}
 use Rattle.macho_placing.proofs.Ordered.{only_merged, only_made, flag_cell}
 use Rattle.macho_placing.proofs.Classes.{nine_row, nothing_more, regular_data, zero_data, common_data, data_class, four, five, six, seven}
-use Rattle.macho_placing.proofs.Classes.{eight, no_class, none0, none1, none2, none3}
+use Rattle.macho_placing.proofs.Classes.{eight, none0, none1, none2, none3}
 
 module _ (l : Link) (p : Planning) (counts : Counts) (q : Placed) (plan : IsPlanOf l p) (fits : FitsLimits p counts)
     (h : IsLaidOut p counts q) where

@@ -9,7 +9,8 @@ use Rattle.std.specs.List.{AllByRecursion}
 use Rattle.std.proofs.lemmas.Nat.{pow_pos}
 use Rattle.macho_model.specs.Lists.{EachNext}
 use Rattle.macho_model.specs.Links.{greatest}
-use Rattle.macho_model.specs.OutputSections.{Piece, end_of_piece, around, least}
+use Rattle.macho_model.specs.OutputSections.{around, least}
+use Rattle.macho_model.specs.Placement.{Piece, end_of_piece}
 use Rattle.macho_model.specs.Order.{BeginsLeast}
 use Rattle.macho_cells.specs.Blocks.{Block, StandLeast}
 use Rattle.macho_cells.proofs.Multiples.{rounded-same}

@@ -24,10 +24,13 @@ use Rattle.macho_model.specs.Targets.{slots_of, stubs_of}
 use Rattle.macho_model.specs.Segments.{PAGEZERO, TEXT, DATA_CONST, DATA, LINKEDIT, SEGMENT_PAGE, OutputKey, same_key, common_key}
 use Rattle.macho_model.specs.Segments.{output_keys_of, is_known_segment, other_segments, list_if}
 use Rattle.macho_model.specs.Placement.{Placed, head_size as model_head}
-use Rattle.macho_model.specs.OutputSections.{OutputSection, Merged, InitOffsets, UnwindInfo, Stubs, Slots, Piece, extent_of, merged_in}
-use Rattle.macho_model.specs.OutputSections.{is_zeros, is_code, key_of_output, sections_of_text, sections_of_data, sections_of_other}
-use Rattle.macho_model.specs.OutputSections.{output_sections_in}
-use Rattle.macho_model.specs.Order.{front_of, sections_in, filled_in, row_of, used_by}
+use Rattle.macho_model.specs.steps.Outputs.{OutputSection, Merged, InitOffsets, UnwindInfo, Stubs, Slots, extent_of, merged_in}
+use Rattle.macho_model.specs.Placement.{Piece}
+use Rattle.macho_model.specs.OutputSections.{is_zeros, is_code}
+use Rattle.macho_model.specs.steps.Outputs.{key_of_output, sections_of_text, sections_of_data, sections_of_other}
+use Rattle.macho_model.specs.steps.Outputs.{output_sections_in}
+use Rattle.macho_model.specs.Order.{used_by}
+use Rattle.macho_model.specs.steps.Least.{front_of, sections_in, filled_in, row_of}
 use Rattle.macho_cells.specs.declared.place.Cell.{Cell}
 use Rattle.macho_cells.specs.declared.place.PlacedCell.{PlacedCell}
 use Rattle.macho_cells.specs.Blocks.{Block, StandLeast}

@@ -8,13 +8,15 @@ use Rattle.macho_bytes.specs.Numbers.{rounded_up}
 use Rattle.macho_model.specs.declared.placed.Counts.{Counts}
 use Rattle.macho_model.specs.declared.placed.Linkedit.{Linkedit}
 use Rattle.macho_model.specs.Segments.{SEGMENT_PAGE}
-use Rattle.macho_model.specs.Order.{fixup_room}
-use Rattle.macho_model.specs.Placement.{range_span}
-use Rattle.macho_model.specs.OutputSections.{Piece, POINTER_EXPONENT, piece}
+use Rattle.macho_model.specs.Spans.{range_span}
+use Rattle.macho_model.specs.Placement.{Piece}
+use Rattle.macho_model.specs.steps.Outputs.{POINTER_EXPONENT}
+use Rattle.macho_model.specs.Spans.{piece}
 use Rattle.macho_cells.specs.Blocks.{StandLeast}
 use Rattle.macho_cells.proofs.Multiples.{rounded-same, multiple-weaker}
 use Rattle.macho_rows.specs.Tables.{tables_at, symbols_start, signature_start}
 use Rattle.macho_placing.proofs.Stacks.{piece_block}
+use Rattle.macho_model.specs.Rooms.{fixup_room}
 
 -- the pieces of tables from an offset on
 abbrev pub pieces_from : ℕ → Linkedit → List Piece

@@ -4,29 +4,33 @@
 -- or a
 -- higher one. So cells of the template stand together: the range goes from the start of the first of them to the end of the last, and holds
 -- each; any other cell ends before that range or begins behind it, and so does what has another home.
-use Rattle.std.proofs.Common.{◌≡◌, ℕ, ◌+◌, ◌*◌, ◌/◌, ◌%◌, ◌^◌, ◌<◌, ◌≤◌, ◌⊎◌, ◌==◌, ◌||◌, not, if◌then◌else◌, Bool, true, false, List, []}
-use Rattle.std.proofs.Common.{◌∷◌, ◌++◌, map, filter, length, get_or, fold, All, AllPairs, Contains, Some, None, refl, sym, ap, ◌∙◌}
+use Rattle.std.proofs.Common.{◌≡◌, ℕ, ◌+◌, ◌*◌, ◌/◌, ◌%◌, ◌^◌, ◌<◌, ◌≤◌, ◌⊎◌, ◌==◌, not, Bool, true, false, List, []}
+use Rattle.std.proofs.Common.{◌∷◌, ◌++◌, map, filter, length, get_or, fold, All, AllPairs, Contains, None, refl, sym, ap, ◌∙◌}
 use Rattle.std.proofs.Common.{subst, arith, inl, inr}
 use Rattle.std.specs.List.{range_with_len}
-use Rattle.std.proofs.lemmas.Bool.{false≢true, false_from_ne_true, not-true, eqb-true, and_parts, and_from, or_cases, or_left, or_right}
+use Rattle.std.proofs.lemmas.Bool.{false≢true, false_from_ne_true, not-true, and_parts, and_from, or_left}
 use Rattle.std.proofs.lemmas.Bool.{cases_lt, cases_eq, cases_order}
 use Rattle.std.proofs.lemmas.Slice.Eq.{bytes_eq-Decides}
-use Rattle.std.proofs.lemmas.List.Elements.{All-nil, All-cons, All-head, All-tail, All-append, All-map, All-weaker, All-filter}
+use Rattle.std.proofs.lemmas.List.Elements.{All-cons, All-head, All-tail, All-append, All-map, All-weaker, All-filter}
 use Rattle.std.proofs.lemmas.List.Elements.{All-contains, All-contains_itself}
 use Rattle.std.proofs.lemmas.List.FromFn.{length-map-range_with_len, get_or-map-range_with_len}
 use Rattle.std.proofs.lemmas.List.Kept.{AllPairs-filter}
-use Rattle.macho_records.specs.declared.constants.TheConstants.{S_THREAD_LOCAL_REGULAR, S_THREAD_LOCAL_ZEROFILL, S_THREAD_LOCAL_VARIABLES}
-use Rattle.macho_records.specs.declared.segments.SegmentName.{SegmentName}
-use Rattle.macho_records.specs.Sections.{is_template_type, is_zerofill_type, has_instructions, type_of, segment_name_of}
+use Rattle.macho_records.specs.declared.constants.TheConstants.{S_THREAD_LOCAL_VARIABLES}
+use Rattle.macho_records.specs.Sections.{is_template_type, type_of, segment_name_of}
 use Rattle.macho_model.specs.declared.placed.Counts.{Counts}
 use Rattle.macho_model.specs.declared.placed.PlacedSection.{PlacedSection}
 use Rattle.macho_model.specs.declared.placed.PlacedCommon.{PlacedCommon}
 use Rattle.macho_model.specs.declared.placed.Range64.{Range64}
 use Rattle.macho_model.specs.Links.{Link, SectionId, header_at, carried_of, is_template, is_carried}
-use Rattle.macho_model.specs.Segments.{TEXT, DATA}
-use Rattle.macho_model.specs.Placement.{Placed, Span, AreApart, id_of, section_span, common_span, slot_span, stub_span, range_span}
-use Rattle.macho_model.specs.Placement.{head_span, linkedit_span, linkedit_ranges, spans_with, HoldsSpan, TemplateHolds}
-use Rattle.macho_model.specs.Placement.{template_sections, other_sections}
+use Rattle.macho_model.specs.Segments.{DATA}
+use Rattle.macho_model.specs.Placement.{Placed, id_of}
+use Rattle.macho_model.specs.Zeros.{Span}
+use Rattle.macho_model.specs.Spans.{AreApart, section_span, common_span, slot_span, stub_span, range_span}
+use Rattle.macho_model.specs.Placement.{linkedit_ranges}
+use Rattle.macho_model.specs.Spans.{head_span, linkedit_span, spans_with}
+use Rattle.macho_model.specs.steps.Parts.{HoldsSpan, TemplateHolds}
+use Rattle.macho_model.specs.Placement.{template_sections}
+use Rattle.macho_model.specs.steps.Parts.{other_sections}
 use Rattle.macho_cells.specs.declared.members.PlacedMember.{PlacedMember}
 use Rattle.macho_cells.specs.declared.place.Cell.{Cell}
 use Rattle.macho_cells.specs.declared.place.PlacedCell.{PlacedCell}
@@ -34,8 +38,8 @@ use Rattle.macho_cells.specs.Stacks.{extent_at}
 use Rattle.macho_cells.specs.Ranks.{of_ranks}
 use Rattle.macho_layout.specs.declared.spec.OutputName.{OutputName}
 use Rattle.macho_layout.specs.Plans.{Planning, IsPlanOf}
-use Rattle.macho_layout.specs.Keys.{padded, same_segment, same_output}
-use Rattle.macho_layout.specs.Names.{mapped_names, output_at, COMMON_NAME}
+use Rattle.macho_layout.specs.Keys.{padded}
+use Rattle.macho_layout.specs.Names.{mapped_names, output_at}
 use Rattle.macho_layout.specs.Cells.{segment_number, class_of, is_template_class, cells_of, cell_if, made_cells}
 use Rattle.macho_layout.specs.Places.{behind, number_at, cover, is_template_cell}
 use Rattle.macho_layout.specs.Sums.{FitsLimits, base_of, head_size}
@@ -57,7 +61,7 @@ use Rattle.macho_placing.proofs.Homes.{AtHome, member_home, member_span, section
 use Rattle.macho_placing.proofs.Homes.{unwind_home, AboveAll, tables_above}
 use Rattle.macho_placing.proofs.Lying.{carried_is}
 use Rattle.macho_placing.proofs.Segments.{filter_none}
-use Rattle.macho_placing.proofs.Covering.{class_tells, class_template, two_classes, Covers, covers}
+use Rattle.macho_placing.proofs.Covering.{class_tells, class_template, two_classes, covers}
 
 module _ (l : Link) (p : Planning) (counts : Counts) (q : Placed) (plan : IsPlanOf l p) (fits : FitsLimits p counts)
     (h : IsLaidOut p counts q) where

@@ -12,7 +12,8 @@ use Rattle.macho_model.specs.Links.{Link}
 use Rattle.macho_model.specs.Segments.{may_hold_pointers}
 use Rattle.macho_model.specs.Placement.{Placed, IsPlaced, linkedit_ranges}
 use Rattle.macho_model.specs.OutputSections.{output_sections_for}
-use Rattle.macho_model.specs.Order.{StandInOrder, AreLeast, pages_of, fixup_room}
+use Rattle.macho_model.specs.Order.{AreLeast, pages_of}
+use Rattle.macho_model.specs.Spans.{StandInOrder}
 use Rattle.macho_model.specs.Limits.{PassesLimit, IsTooLarge as ImageIsTooLarge, LIMIT_32}
 use Rattle.macho_layout.specs.declared.fault.LayoutFault.{LayoutFault}
 use Rattle.macho_layout.specs.declared.fault.LayoutFault.TheVariants.{TooMany, TooLarge, OutOfMemory}
@@ -20,6 +21,7 @@ use Rattle.macho_layout.specs.Placements.{placed_of}
 use Rattle.macho_layout.specs.Plans.{Planning, IsPlanOf}
 use Rattle.macho_layout.specs.Sums.{FitsLimits}
 use Rattle.macho_layout.specs.Laid.{IsLaidOut, IsSmall, IsTooLarge, FaultStands}
+use Rattle.macho_model.specs.Rooms.{fixup_room}
 
 -- All that is promised of where things are.
 pub record IsWhollyPlaced (l : Link) (counts : Counts) (q : Placed) : Type 0 where

@@ -1,29 +1,30 @@
 -- The fixups of an image: which words the loader writes and what each is asked to become, and the fixup table and those words,
 -- byte for byte (`mach-o/fixup-chains.h`).
-use Rattle.std.specs.Prelude.{◌≡◌, ℕ, ◌+◌, ◌-◌, ◌%◌, ◌^◌, true, if◌then◌else◌, List, [], ◌∷◌, map, All, Contains}
+use Rattle.std.specs.Prelude.{◌≡◌, ℕ, ◌+◌, ◌-◌, ◌*◌, ◌%◌, ◌^◌, ◌↔◌, true, if◌then◌else◌, List, [], ◌∷◌, length, map, get_or, take, sum_by, Contains}
 use Rattle.std.specs.List.{position_or_len}
+use Rattle.macho_bytes.specs.Numbers.{little, row_bytes}
 use Rattle.macho_bytes.specs.Texts.{Stands}
 use Rattle.macho_model.specs.declared.placed.PlacedSection.{PlacedSection}
-use Rattle.macho_model.specs.declared.placed.PlacedSegment.{PlacedSegment}
 use Rattle.macho_model.specs.declared.placed.Slot.{Slot}
 use Rattle.macho_model.specs.declared.targets.Target.{Target}
 use Rattle.macho_model.specs.declared.targets.Target.TheVariants as target
 use Rattle.macho_model.specs.Links.{Link}
+use Rattle.macho_model.specs.Needs.{imports_of, import_library}
+use Rattle.macho_model.specs.Exports.{library_number}
+use Rattle.macho_model.specs.Segments.{list_if}
 use Rattle.macho_model.specs.Fields.{Field, fields_of}
 use Rattle.macho_model.specs.Values.{needs_fixup}
 use Rattle.macho_model.specs.Placement.{Placed, id_of}
 use Rattle.macho_model.specs.Addresses.{address_of}
 use Rattle.macho_model.specs.Images.{Table, tables_of}
-use Rattle.macho_model.specs.Fixups.{same_entry, has_room, import_entries_of, import_format}
+use Rattle.macho_model.specs.Fixups.{EntryOfImport, same_entry, has_room, import_entries_of, entries_have_addends, import_format}
 use Rattle.macho_model.specs.ImportTable.{names_text}
 use Rattle.macho_fixups.specs.declared.words.FixupKind.{FixupKind}
 use Rattle.macho_fixups.specs.declared.words.FixupKind.TheVariants.{Rebase, Bind}
 use Rattle.macho_fixups.specs.declared.run.Fixup.{Fixup}
 use Rattle.macho_fixups.specs.declared.run.FixupSegment.{FixupSegment}
-use Rattle.macho_fixups.specs.declared.imports.ImportEntry.{ImportEntry}
+use Rattle.macho_fixups.specs.Rows.{table_rows, WordsStand}
 use Rattle.macho_fixups.specs.Runs.{AreFixups}
-use Rattle.macho_fixups.specs.Chains.{AllStand}
-use Rattle.macho_fixups.specs.Tables.{table_text}
 
 -- the number of the entry of an import that has an addend of its own
 abbrev pub own_number : Link → ℕ → ℕ → ℕ
@@ -42,23 +43,29 @@ pub data IsFixupOf (l : Link) (p : Placed) : Fixup → Type 0 where
       → IsFixupOf l p (record { address = q.address + f.offset; kind = kind_for l p f.target f.addend })
 
 -- the segments of a placement, as fixups see them
-abbrev pub fixup_segment : PlacedSegment → FixupSegment
-fixup_segment s = record { address = s.address; size = s.size; file_offset = s.file_offset; file_size = s.file_size }
-
 abbrev pub fixup_segments : Placed → List FixupSegment
-fixup_segments p = map fixup_segment p.segments
+fixup_segments p = map (λ s. record { address = s.address; size = s.size; file_offset = s.file_offset; file_size = s.file_size }) p.segments
+
+-- an entry: a word that has, from its lowest bit, the number of the import's library (8 bits), whether it is weak (1 bit; none is) and the
+-- place of its name (23 bits); and where the format has one, a signed addend
+abbrev pub entry_row : Link → EntryOfImport → List ℕ
+entry_row l e =
+    let library = library_number l (import_library l (get_or (imports_of l) e.import [])) in
+    let place = sum_by (λ name. length name + 1) (take e.import (imports_of l)) in
+    row_bytes little 4 ((library + place * 2 ^ 9) ∷ list_if (entries_have_addends l) (e.addend ∷ []))
 
 -- THE fixup table of the file and the words of its chains.
 pub record FixupsSay (l : Link) (b : List ℕ) (p : Placed) : Type 0 where
-  -- the fixups of the link, by address; all of them and no other
+  -- the fixups of the link, by address, as chains can hold them; all of them and no other
   pub fixups : List Fixup
-  pub run : AreFixups (fixup_segments p) fixups
-  pub each : All (IsFixupOf l p) fixups
-  pub all : (f : Fixup) → IsFixupOf l p f → Contains fixups f
-  -- the file's one table, byte for byte: header, page starts, entries (`ImportTableSays` tells what they say), names
+  pub fits : AreFixups (fixup_segments p) fixups
+  pub are : (f : Fixup) → Contains fixups f ↔ IsFixupOf l p f
+  -- the file's one table, byte for byte: header, page starts, entries and names
   pub table : Table
   pub one : tables_of b ≡ table ∷ []
-  pub entries : List ImportEntry
-  pub text : Stands b (record { at = table.at; text = table_text p.base fixups (fixup_segments p) (import_format l) entries (names_text l) })
+  pub text : Stands b (record {
+    at = table.at;
+    text = table_rows p.base fixups (fixup_segments p) (import_format l) (map (entry_row l) (import_entries_of l)) (names_text l);
+  })
   -- and each word at its place, with the steps to the next one
-  pub words : AllStand (fixup_segments p) fixups b
+  pub words : WordsStand (fixup_segments p) fixups b

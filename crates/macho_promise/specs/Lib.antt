@@ -4,5 +4,7 @@ pub mod Sizes
 pub mod UnwindSays
 pub mod FixupsSay
 pub mod Promise
--- the record of the crate below that its fixups are
+-- the records of the crate below that its fixups and its segments are
 pub use Rattle.macho_fixups.specs.declared.run.Fixup
+pub use Rattle.macho_fixups.specs.declared.run.FixupSegment
+pub mod steps

@@ -1,10 +1,12 @@
 -- THE promise of an image, whole: what is true of the bytes and the placement that a link is answered with.
-use Rattle.std.specs.Prelude.{◌≡◌, ℕ, ◌^◌, ◌↔◌, List, length, min}
+use Rattle.std.specs.Prelude.{◌≡◌, ℕ, ◌^◌, ◌↔◌, List, [], length, map, min, Contains, MatchOption}
 use Rattle.macho_model.specs.declared.placed.Counts.{Counts}
+use Rattle.macho_model.specs.SegmentNames.{text_of, name_field}
 use Rattle.macho_model.specs.Links.{Link}
+use Rattle.macho_model.specs.Segments.{segment_names_of}
 use Rattle.macho_model.specs.Placement.{Placed, IsPlaced}
 use Rattle.macho_model.specs.OutputSections.{output_sections_for}
-use Rattle.macho_model.specs.Order.{StandInOrder, AreLeast}
+use Rattle.macho_model.specs.Order.{AreLeast}
 use Rattle.macho_model.specs.Stands.{IsLoadable}
 use Rattle.macho_model.specs.Chain.{OnChainOf}
 use Rattle.macho_model.specs.Agreement.{CommandsAgree, TablesAgree}
@@ -13,21 +15,22 @@ use Rattle.macho_model.specs.Head.{HeadSays}
 use Rattle.macho_model.specs.SymbolEntries.{SymbolsSay}
 use Rattle.macho_model.specs.Images.{libraries_of}
 use Rattle.macho_model.specs.Needs.{libraries_needed}
-use Rattle.macho_model.specs.ImportTable.{ImportTableSays}
 use Rattle.macho_model.specs.Zeros.{IsZeroElsewhere}
-use Rattle.macho_model.specs.Made.{InitOffsetsSay, TemplateHeaders}
+use Rattle.macho_model.specs.Made.{InitOffsetsSay, template_headers, FillTemplate}
 use Rattle.macho_model.specs.Told.{ToldImport, ToldExport, IsTold, ExportsAreTold}
 use Rattle.macho_model.specs.Faults.{NoneStands}
-use Rattle.macho_fixups.specs.Chains.{IsAddressOf}
+use Rattle.macho_fixups.specs.declared.run.Fixup.{Fixup}
 use Rattle.macho_promise.specs.Sizes.{AreCounts}
 use Rattle.macho_promise.specs.TrieSays.{TrieSays}
 use Rattle.macho_promise.specs.UnwindSays.{UnwindSays}
 use Rattle.macho_promise.specs.FixupsSay.{FixupsSay}
+use Rattle.macho_model.specs.ImportTable.{ImportTableSays}
 
 -- Where things are, beside `IsPlaced`: of the link and the placement alone.
 pub record IsLaidOut (l : Link) (counts : Counts) (p : Placed) : Type 0 where
-  -- what is listed has the stated order
-  pub order : StandInOrder l counts p
+  -- the segments are those of the link, in order, their names filled with zeros
+  pub segments : map (λ s. text_of s.name) p.segments ≡ segment_names_of l
+  pub names : map (λ s. s.name.0) p.segments ≡ map name_field (segment_names_of l)
   -- parts stand in the stated order, each as low as it may, and each segment ends with the page of what it holds
   pub least : AreLeast l counts p
   -- the output sections are those of the link, with all that their headers say
@@ -52,7 +55,7 @@ pub record Tells (l : Link) (b : List ℕ) (p : Placed) : Type 0 where
   pub initializers : InitOffsetsSay l b p
   -- the headers of sections with initial values of thread-local variables fill the template, which the first begins and the last
   -- ends; without a template there are none
-  pub template : TemplateHeaders b p
+  pub template : MatchOption p.template (template_headers b ≡ []) (FillTemplate (template_headers b))
   -- look-up of an offset in the unwind information finds exactly what its entry says
   pub unwind : UnwindSays l b p
 
@@ -60,10 +63,10 @@ pub record Tells (l : Link) (b : List ℕ) (p : Placed) : Type 0 where
 pub record IsWritten (l : Link) (counts : Counts) (uuid : List ℕ) (b : List ℕ) (p : Placed) (unwind : ℕ) : Type 0 where
   -- header and load commands, with every field
   pub head : HeadSays l counts uuid b p
-  -- the fixup table, and the words of its chains
+  -- the fixup table with the import table in it, and the words of its chains
   pub fixups : FixupsSay l b p
   -- the loader writes the words of these fixups (the slots, and the pointers that need one), and no other
-  pub chain : (a : ℕ) → OnChainOf b a ↔ IsAddressOf fixups.fixups a
+  pub chain : (a : ℕ) → OnChainOf b a ↔ ((f : Fixup) × Contains fixups.fixups f × (f.address ≡ a))
   -- the entries of the symbol table and the names of the string table, to the last byte
   pub symbols : SymbolsSay l counts b p
   -- the digests are those of the final bytes
@@ -77,7 +80,7 @@ pub record IsLinked (l : Link) (counts : Counts) (uuid : List ℕ) (b : List ℕ
   pub loadable : IsLoadable l counts b p
   -- the sizes are those of the link
   pub counted : AreCounts l counts
-  -- order, least places and section headers
+  -- the names of segments, the order and least places of parts, section headers
   pub laid_out : IsLaidOut l counts p
   -- the load commands say what the placement does
   pub agrees : Agrees l counts b p
@@ -87,8 +90,8 @@ pub record IsLinked (l : Link) (counts : Counts) (uuid : List ℕ) (b : List ℕ
   pub written : IsWritten l counts uuid b p (length tells.unwind.content)
 
 -- THE answer of a link: an image with its placement, and what is told beside its bytes.
-pub record IsAnswer (l : Link) (counts : Counts) (uuid : List ℕ) (b : List ℕ) (p : Placed) (libraries : List (List ℕ)) (imports : List ToldImport)
-    (fixups : ℕ) (exports : List ToldExport) : Type 0 where
+pub record IsAnswer (l : Link) (counts : Counts) (uuid : List ℕ) (b : List ℕ) (p : Placed) (libraries : List (List ℕ))
+    (imports : List ToldImport) (fixups : ℕ) (exports : List ToldExport) : Type 0 where
   -- the image is as promised
   pub linked : IsLinked l counts uuid b p
   -- libraries, imports and the number of fixups are those of the link
@@ -113,5 +116,5 @@ pub record IsKept (l : Link) (p : Placed) : Type 0 where
   pub counted : AreKeptCounts l counts
   -- each part has its place
   pub placed : IsPlaced l counts p
-  -- order, least places and section headers
+  -- the names of segments, the order and least places of parts, section headers
   pub laid_out : IsLaidOut l counts p

@@ -7,7 +7,6 @@ use Rattle.macho_model.specs.Targets.{slot_number, target_of_relocation}
 use Rattle.macho_model.specs.Consumed.{EntryId, entries_of_link, relocations_in_entry, unwind_entry, START_PLACE, LSDA_PLACE}
 use Rattle.macho_model.specs.Placement.{Placed}
 use Rattle.macho_model.specs.Addresses.{section_address, slot_address, offset_in_file}
-use Rattle.macho_unwind.specs.Personality.{Personality}
 use Rattle.macho_unwind.specs.ResolvedUnwindInfo.{ResolvedUnwindInfo}
 use Rattle.macho_unwind.specs.declared.lookup.Found.{Found}
 use Rattle.macho_unwind.specs.Lookup.{UnwindFinds}
@@ -19,15 +18,13 @@ relocation_of l d place = slice_get (relocations_in_entry l d.of_section d.entry
 
 -- where a byte of the input is that a relocation by section number leads to
 abbrev pub moved : Link → Placed → EntryId → ℕ → ℕ → ℕ
-moved l p d address r = section_address p d.of_section.file (section_named l d.of_section r).section + (address - (header_at l (section_named l d.of_section r)).addr)
+moved l p d address r =
+    section_address p d.of_section.file (section_named l d.of_section r).section
+    + (address - (header_at l (section_named l d.of_section r)).addr)
 
 abbrev pub start_of : Link → Placed → EntryId → Option ℕ → ℕ
 start_of l p d (Some r) = moved l p d (unwind_entry l d.of_section d.entry).start r
 start_of l p d None = 0
-
--- a personality function is named by the number of its slot, and found through the slot
-abbrev pub personality_of : Link → Placed → EntryId → ℕ → Personality
-personality_of l p d r = record { id = slot_number l (target_of_relocation l d.of_section r); slot = slot_address p (target_of_relocation l d.of_section r) }
 
 -- an entry of the inputs at its final address
 abbrev pub resolved : Link → Placed → EntryId → ResolvedUnwindInfo
@@ -35,7 +32,11 @@ resolved l p d = record {
   start = start_of l p d (relocation_of l d START_PLACE);
   length = (unwind_entry l d.of_section d.entry).length;
   encoding = (unwind_entry l d.of_section d.entry).encoding;
-  personality = option_map (personality_of l p d) (relocation_of l d PERSONALITY_PLACE);
+  -- a personality function is named by the number of its slot, and found through the slot
+  personality = option_map (λ r. record {
+    id = slot_number l (target_of_relocation l d.of_section r);
+    slot = slot_address p (target_of_relocation l d.of_section r);
+  }) (relocation_of l d PERSONALITY_PLACE);
   lsda = option_map (moved l p d (unwind_entry l d.of_section d.entry).lsda) (relocation_of l d LSDA_PLACE);
 }
 

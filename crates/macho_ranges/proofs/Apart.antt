@@ -20,16 +20,22 @@ use Rattle.macho_model.specs.declared.placed.PlacedSegment.{PlacedSegment}
 use Rattle.macho_model.specs.declared.placed.Range64.{Range64}
 use Rattle.macho_model.specs.Links.{Link, header_at}
 use Rattle.macho_model.specs.Segments.{TEXT, DATA_CONST, LINKEDIT}
-use Rattle.macho_model.specs.Placement.{Placed, Span, AreApart, IsPlaced, id_of, section_span, common_span, slot_span, stub_span}
-use Rattle.macho_model.specs.Placement.{range_span, head_span, head_size, linkedit_ranges, linkedit_span, spans_with, LiesIn, LiesInNamed}
-use Rattle.macho_model.specs.Placement.{SectionLies, RangeLies, TableLies, is_segment_named}
-use Rattle.macho_model.specs.Zeros.{in_file, filled_sections}
+use Rattle.macho_model.specs.Placement.{Placed, IsPlaced, id_of}
+use Rattle.macho_model.specs.Zeros.{Span}
+use Rattle.macho_model.specs.Spans.{AreApart, section_span, common_span, slot_span, stub_span, filled_sections}
+use Rattle.macho_model.specs.Placement.{head_size, linkedit_ranges}
+use Rattle.macho_model.specs.Spans.{range_span, head_span, linkedit_span, spans_with}
+use Rattle.macho_model.specs.steps.Parts.{LiesIn, LiesInNamed}
+use Rattle.macho_model.specs.Placement.{is_segment_named}
+use Rattle.macho_model.specs.steps.Parts.{SectionLies, RangeLies, TableLies}
+use Rattle.macho_model.specs.Spans.{in_file}
 use Rattle.macho_model.specs.Lists.{of_first}
 use Rattle.macho_agreement.specs.Promise.{IsLaidOut}
 use Rattle.macho_agreement.proofs.Room.{text_begins, text_holds_head, file_parts_end}
 use Rattle.macho_agreement.proofs.Entry.{one_named}
 use Rattle.macho_ranges.specs.Ranges.{head_range, file_ranges, RangesAreApart, EndsInFile, RangesEnd}
 use Rattle.macho_ranges.proofs.Backed.{IsBacked, backed_in, AreBacked, backed_append, backed_map, all_apart}
+use Rattle.macho_model.proofs.Parts.{apart_of, in_order_of, in_segment_of}
 
 -- the parts by their addresses, in the order of the ranges
 abbrev memory_spans : Link → Counts → Placed → List Span
@@ -71,14 +77,14 @@ memory_apart l counts p pairs =
 -- a range that lies in the file part of a segment of a name is backed
 named_backed : (l : Link) (counts : Counts) (p : Placed) (name : List ℕ) (span : Span) → IsPlaced l counts p → LiesInNamed p name true span
     → IsBacked p span (in_file p span)
-named_backed l counts p name span placed lies = backed_in l p lies.0 span placed.in_order lies.1 lies.3.from lies.3.to
+named_backed l counts p name span placed lies = backed_in l p lies.0 span (in_order_of placed) lies.1 lies.3.from lies.3.to
 
 -- a section with bytes
 section_backed : (l : Link) (counts : Counts) (p : Placed) (q : PlacedSection) → IsPlaced l counts p → Contains (filled_sections l p) q
     → IsBacked p (section_span l q) (in_file p (section_span l q))
 section_backed l counts p q placed has =
     let of = filter_contains (λ (r : PlacedSection). not (is_zerofill (header_at l (id_of r)))) p.sections q has in
-    let lies : SectionLies l p q = all_contains (SectionLies l p) p.sections q placed.in_segment.sections of.0 in
+    let lies : SectionLies l p q = all_contains (SectionLies l p) p.sections q (in_segment_of placed).sections of.0 in
     by ((header_at l (id_of q)).size == 0) refl of.1 lies
   where
     by : (x : Bool) → ((header_at l (id_of q)).size == 0) ≡ x → not (is_zerofill (header_at l (id_of q))) ≡ true → SectionLies l p q
@@ -87,7 +93,7 @@ section_backed l counts p q placed has =
     by false e filled lies =
         let test : (not (is_zerofill (header_at l (id_of q))) && not ((header_at l (id_of q)).size == 0)) ≡ true = rw (filled, e) refl in
         let inside : LiesIn true (section_span l q) lies.0 = subst (λ (b : Bool). LiesIn b (section_span l q) lies.0) test lies.3 in
-        backed_in l p lies.0 (section_span l q) placed.in_order (q.segment, lies.1.0, lies.1.1) inside.from inside.to
+        backed_in l p lies.0 (section_span l q) (in_order_of placed) (q.segment, lies.1.0, lies.1.1) inside.from inside.to
 
 -- what the linker makes in `__TEXT`
 range_backed : (l : Link) (counts : Counts) (p : Placed) (r : Range64) → IsPlaced l counts p → RangeLies p r
@@ -110,7 +116,7 @@ table_backed l counts p r placed (inr (s, has, named, from, up, to)) =
     contains_filter (is_segment_named LINKEDIT) p.segments s has named in
     let x = start_is p r (filter (is_segment_named LINKEDIT) p.segments) s here in
     let of = filter_contains (is_segment_named LINKEDIT) p.segments x.0 x.1 in
-    let same : x.0 ≡ s = one_named l p.segments LINKEDIT x.0 s placed.in_order.follow of.0 has of.1 named in
+    let same : x.0 ≡ s = one_named l p.segments LINKEDIT x.0 s placed.follow of.0 has of.1 named in
     let start : (linkedit_span p r).start ≡ s.address + r.start - s.file_offset =
     x.2 ∙ ap (λ (u : PlacedSegment). u.address + r.start - u.file_offset) same in
     inr (
@@ -129,13 +135,13 @@ table_backed l counts p r placed (inr (s, has, named, from, up, to)) =
 head_backed : (l : Link) (counts : Counts) (p : Placed) → IsPlaced l counts p → IsLaidOut l counts p
     → IsBacked p (head_span counts p) (head_range counts p)
 head_backed l counts p placed laid =
-    let s : PlacedSegment = placed.in_order.begins.0 in
-    let has : Contains p.segments s = placed.in_order.begins.1 in
-    let named : is_segment_named TEXT s ≡ true = placed.in_order.begins.2 in
-    let at : s.address ≡ p.base = placed.in_order.begins.3 ∙ sym placed.base in
+    let s : PlacedSegment = placed.begins.0 in
+    let has : Contains p.segments s = placed.begins.1 in
+    let named : is_segment_named TEXT s ≡ true = placed.begins.2 in
+    let at : s.address ≡ p.base = placed.begins.3 ∙ sym placed.base in
     let front : s.file_offset ≡ 0 =
     all_contains (λ (u : PlacedSegment). is_segment_named TEXT u ≡ true → u.file_offset ≡ 0) p.segments s
-    (text_begins l counts p placed.in_order.follow laid) has named in
+    (text_begins l counts p placed.follow laid) has named in
     let holds : head_size counts p ≤ s.file_size =
     all_contains (λ (u : PlacedSegment). is_segment_named TEXT u ≡ true → head_size counts p ≤ u.file_size) p.segments s
     (text_holds_head l counts p laid) has named in
@@ -152,17 +158,17 @@ all_backed l counts p placed laid =
     (λ q has. section_backed l counts p q placed has)) in
     let slots : AreBacked p (map slot_span p.slots) (map (λ s. in_file p (slot_span s)) p.slots) =
     backed_map p slot_span (λ s. in_file p (slot_span s)) p.slots
-    (λ k d lt. named_backed l counts p DATA_CONST (slot_span (get_or p.slots k d)) placed (placed.in_segment.slots k d lt)) in
+    (λ k d lt. named_backed l counts p DATA_CONST (slot_span (get_or p.slots k d)) placed ((in_segment_of placed).slots k d lt)) in
     let stubs : AreBacked p (map stub_span p.stubs) (map (λ s. in_file p (stub_span s)) p.stubs) =
     backed_map p stub_span (λ s. in_file p (stub_span s)) p.stubs
-    (λ k d lt. named_backed l counts p TEXT (stub_span (get_or p.stubs k d)) placed (placed.in_segment.stubs k d lt)) in
+    (λ k d lt. named_backed l counts p TEXT (stub_span (get_or p.stubs k d)) placed ((in_segment_of placed).stubs k d lt)) in
     let tables : AreBacked p (map (linkedit_span p) (linkedit_ranges p)) (map range_span (linkedit_ranges p)) =
     backed_map p (linkedit_span p) range_span (linkedit_ranges p)
-    (λ k d lt. table_backed l counts p (get_or (linkedit_ranges p) k d) placed (placed.in_segment.linkedit k d lt)) in
+    (λ k d lt. table_backed l counts p (get_or (linkedit_ranges p) k d) placed ((in_segment_of placed).linkedit k d lt)) in
     let made : AreBacked p (range_span p.init_offsets ∷ range_span p.unwind ∷ map (linkedit_span p) (linkedit_ranges p))
     (in_file p (range_span p.init_offsets) ∷ in_file p (range_span p.unwind) ∷ map range_span (linkedit_ranges p)) = (
-      range_backed l counts p p.init_offsets placed placed.in_segment.init_offsets,
-      (range_backed l counts p p.unwind placed placed.in_segment.unwind, tables),
+      range_backed l counts p p.init_offsets placed (in_segment_of placed).init_offsets,
+      (range_backed l counts p p.unwind placed (in_segment_of placed).unwind, tables),
     ) in
     let head : AreBacked p (head_span counts p ∷ []) (head_range counts p ∷ []) = (head_backed l counts p placed laid, tt) in
     backed_append p _ _ _ _ (backed_append p _ _ _ _ (backed_append p _ _ _ _ (backed_append p _ _ _ _ sections slots) stubs) made) head
@@ -171,15 +177,15 @@ all_backed l counts p placed laid =
 pub ranges_apart : RangesAreApart
 ranges_apart l counts p placed laid =
     later_all AreApart (file_ranges l counts p)
-    (all_apart l p (memory_spans l counts p) (file_ranges l counts p) placed.in_order.follow (all_backed l counts p placed laid)
-    (memory_apart l counts p placed.apart))
+    (all_apart l p (memory_spans l counts p) (file_ranges l counts p) placed.follow (all_backed l counts p placed laid)
+    (memory_apart l counts p (apart_of placed)))
 
 -- each one ends in a file part, and these end in the file
 ends : (l : Link) (counts : Counts) (p : Placed) (m f : Span) → IsPlaced l counts p → IsLaidOut l counts p → IsBacked p m f → EndsInFile p f
 ends l counts p m f placed laid (inl e) = inl e
 ends l counts p m f placed laid (inr (s, b)) =
     let end = all_contains (λ (u : PlacedSegment). u.file_offset + u.file_size ≤ p.linkedit.signature.end) p.segments s
-    (file_parts_end l counts p placed.in_order.follow laid) b.one in
+    (file_parts_end l counts p placed.follow laid) b.one in
     inr (omega (arith, b.start, b.size, b.from, b.to, end))
 
 all_end : (l : Link) (counts : Counts) (p : Placed) (memories files : List Span) → IsPlaced l counts p → IsLaidOut l counts p

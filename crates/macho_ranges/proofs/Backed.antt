@@ -17,9 +17,11 @@ use Rattle.macho_lists.proofs.Orders.{EachLater}
 use Rattle.std.proofs.lemmas.List.Elements.{All-nil, All-cons}
 use Rattle.macho_model.specs.declared.placed.PlacedSegment.{PlacedSegment}
 use Rattle.macho_model.specs.Links.{Link}
-use Rattle.macho_model.specs.Placement.{Placed, Span, AreApart, IsInOrder, Follows}
+use Rattle.macho_model.specs.Placement.{Placed, Follows}
+use Rattle.macho_model.specs.Zeros.{Span}
+use Rattle.macho_model.specs.Spans.{AreApart, IsInOrder}
 use Rattle.macho_model.specs.Addresses.{offset_in_file}
-use Rattle.macho_model.specs.Zeros.{in_file}
+use Rattle.macho_model.specs.Spans.{in_file}
 use Rattle.macho_model.specs.Lists.{EachNext}
 use Rattle.macho_targets.proofs.Above.{next_follows}
 use Rattle.macho_targets.proofs.Places.{first_passes}

@@ -17,7 +17,8 @@ use Rattle.macho_bytes.specs.Texts.{put, Part, end_of, Stands, Apart, IsOutside}
 use Rattle.macho_bytes.specs.Images.{zeros}
 use Rattle.macho_bytes.proofs.Puts.{length-put, get_or-put_below, get_or-put_above, put_stands, put_nothing, is_put, stands_by_bytes}
 use Rattle.macho_bytes.proofs.Puts.{stands_beside}
-use Rattle.macho_model.specs.Placement.{Span, AreApart}
+use Rattle.macho_model.specs.Zeros.{Span}
+use Rattle.macho_model.specs.Spans.{AreApart}
 use Rattle.macho_lists.proofs.Members.{all_contains, contains_first}
 use Rattle.macho_lists.proofs.Orders.{EachLater}
 use Rattle.macho_ranges.specs.Parts.{written, LiesInRange, LieInRanges, IsMadeOf, part_now}

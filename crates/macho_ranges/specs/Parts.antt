@@ -1,7 +1,7 @@
 -- Parts that are written one after the other, each into a range of its own.
 use Rattle.std.specs.Prelude.{◌≡◌, ℕ, ◌+◌, ◌≤◌, ◌⊎◌, List, [], ◌∷◌, length, slice_index, slice_range, All}
 use Rattle.macho_bytes.specs.Texts.{put, Part, end_of, Stands, IsOutside}
-use Rattle.macho_model.specs.Placement.{Span}
+use Rattle.macho_model.specs.Zeros.{Span}
 
 -- what stands after these parts were written, in order
 abbrev pub written : List Part → List ℕ → List ℕ

@@ -2,8 +2,10 @@
 use Rattle.std.specs.Prelude.{◌≡◌, ◌+◌, ◌≤◌, ◌⊎◌, List, [], ◌∷◌, ◌++◌, map, All, AllPairs}
 use Rattle.macho_model.specs.declared.placed.Counts.{Counts}
 use Rattle.macho_model.specs.Links.{Link}
-use Rattle.macho_model.specs.Placement.{Placed, Span, AreApart, IsPlaced, section_span, slot_span, stub_span, range_span, head_size, linkedit_ranges}
-use Rattle.macho_model.specs.Zeros.{in_file, filled_sections}
+use Rattle.macho_model.specs.Placement.{Placed, IsPlaced, head_size, linkedit_ranges}
+use Rattle.macho_model.specs.Zeros.{Span}
+use Rattle.macho_model.specs.Spans.{AreApart, section_span, slot_span, stub_span, range_span, filled_sections}
+use Rattle.macho_model.specs.Spans.{in_file}
 use Rattle.macho_agreement.specs.Promise.{IsLaidOut}
 
 -- header, load commands and padding

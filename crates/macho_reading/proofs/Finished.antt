@@ -4,7 +4,8 @@ use Rattle.std.proofs.lemmas.List.Elements.{All-weaker}
 use Rattle.macho_object.specs.Views.{FileBytes}
 use Rattle.macho_model.specs.ExportLists.{plain_entries}
 use Rattle.macho_model.specs.Links.{Link}
-use Rattle.macho_model.specs.Needs.{uses_of, imports_of}
+use Rattle.macho_model.specs.Needs.{imports_of}
+use Rattle.macho_model.specs.Uses.{uses_of}
 use Rattle.macho_exports.specs.Entries.{ListEntries}
 use Rattle.macho_symbols.specs.Exported.{AreExports}
 use Rattle.macho_names.specs.Kept.{FileRows}
@@ -25,11 +26,12 @@ use Rattle.macho_reading.specs.Read.{IsLinkOf, IsReadOf, AreKnown}
 use Rattle.macho_reading.specs.steps.Rows.{IsUsable, IsUsableIf, IsUsableEntry, AreUsable, AreRows, KeepRules, AreOfSome}
 use Rattle.macho_reading.specs.steps.Steps.{IsSurveyed, IsHalfRead, IsNotedWith}
 use Rattle.macho_reading.proofs.Following.{symbol_stays}
+use Rattle.macho_model.proofs.Uses.{imports_are}
 
 -- the imports that are noted are all
 pub all_imports : (l : Link) (n : Needs) → IsNoted l (uses_of l) n → IsResolved l (imports_of l) n.resolved
-unfolding imports_in imports_of
-all_imports l n noted = noted.imports
+unfolding imports_in
+all_imports l n noted = subst (λ (ns : List (List ℕ)). IsResolved l ns n.resolved) (sym (imports_are l)) noted.imports
 
 -- THE link that is read
 pub is_read : (l : Link) (r : ReadLink) (rows : Rows) → rows ≡ record { initializers = r.initializers; entries = r.entries } → IsNotedWith l r.needs rows

@@ -9,7 +9,7 @@ use Rattle.std.proofs.lemmas.List.{take_more, take-append-drop, take_all}
 use Rattle.std.proofs.lemmas.List.Elements.{Contains-append_left, Contains-append_right}
 use Rattle.std.proofs.lemmas.Grind.{flat_map-append}
 use Rattle.macho_model.specs.Links.{Input, Link}
-use Rattle.macho_model.specs.Needs.{Use, uses_of}
+use Rattle.macho_model.specs.Uses.{Use, uses_of}
 use Rattle.macho_names.specs.Kept.{FileRows, Keeps}
 use Rattle.macho_symbols.specs.Kept.{ResolvedRows, HasSymbol}
 use Rattle.macho_parts.specs.Noted.{BeginsWith}

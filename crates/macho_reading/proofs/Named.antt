@@ -11,7 +11,8 @@ use Rattle.macho_model.specs.ExportLists.{all_entries, plain_entries}
 use Rattle.macho_model.specs.Exports.{has_lists}
 use Rattle.macho_model.specs.Links.{Input, Link}
 use Rattle.macho_model.specs.Resolution.{Definition, Symbol, Library, ImageBase, definition_of}
-use Rattle.macho_model.specs.Needs.{Use, ByName, uses_of, is_imported, imports_of}
+use Rattle.macho_model.specs.Needs.{is_imported, imports_of}
+use Rattle.macho_model.specs.Uses.{Use, ByName, uses_of}
 use Rattle.macho_model.specs.Targets.{definition_target}
 use Rattle.macho_model.specs.Consumed.{is_section_target}
 use Rattle.macho_model.specs.Faults.{entry_is_defined}

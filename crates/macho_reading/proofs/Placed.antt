@@ -19,7 +19,8 @@ use Rattle.macho_model.specs.Grammar.{IsObject}
 use Rattle.macho_model.proofs.ObjectLaws.{object_keeps}
 use Rattle.macho_model.specs.ExportLists.{plain_entries}
 use Rattle.macho_model.specs.Links.{Input, Link, SectionId, section_id, object_of, header_at, is_initializers, is_unwind_entries, sections_of, carried_of}
-use Rattle.macho_model.specs.Needs.{ByInitializer, ByPersonality, ByName, uses_of, carried_uses, initializer_uses, personality_uses, initializer_sections, unwind_sections, is_imported, relocation_in, relocations_of, relocations_at}
+use Rattle.macho_model.specs.Needs.{initializer_sections, unwind_sections, is_imported, relocation_in, relocations_of, relocations_at}
+use Rattle.macho_model.specs.Uses.{ByInitializer, ByPersonality, ByName, uses_of, carried_uses, initializer_uses, personality_uses}
 use Rattle.macho_model.specs.Consumed.{is_plain_pointer}
 use Rattle.macho_names.specs.Kept.{FileRows, Keeps}
 use Rattle.macho_symbols.specs.Kept.{ResolvedRows, IsResolved}

@@ -9,7 +9,8 @@ use Rattle.std.proofs.lemmas.List.Concat.{flat_map_single}
 use Rattle.std.proofs.lemmas.List.Elements.{All-map}
 use Rattle.macho_model.specs.ExportLists.{plain_entries}
 use Rattle.macho_model.specs.Links.{Link, header_at}
-use Rattle.macho_model.specs.Needs.{Use, ByName, uses_of, is_imported, relocations_at, initializer_sections, PERSONALITY_PLACE}
+use Rattle.macho_model.specs.Needs.{is_imported, relocations_at, initializer_sections, PERSONALITY_PLACE}
+use Rattle.macho_model.specs.Uses.{Use, ByName, uses_of}
 use Rattle.macho_model.specs.Consumed.{EntryId, entries_of_link}
 use Rattle.macho_promise.specs.UnwindSays.{relocation_of}
 use Rattle.macho_parts.specs.Noted.{BeginsWith, uses_of_carried, uses_of_initializers, uses_of_personalities}

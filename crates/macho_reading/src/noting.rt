@@ -3,7 +3,7 @@ ghost use Rattle.std.specs.Prelude.{◌≡◌, ℕ, ◌++◌, List, [], All, IfE
 ghost use Rattle.std.specs.List.{flat_map};
 ghost use Rattle.macho_model.specs.declared.placed.Counts.{Counts};
 ghost use Rattle.macho_model.specs.Links.{Input, Link};
-ghost use Rattle.macho_model.specs.Needs.{Use};
+ghost use Rattle.macho_model.specs.Uses.{Use};
 ghost use Rattle.macho_names.specs.Kept.{Keeps};
 ghost use Rattle.macho_symbols.specs.Kept.{IsResolved};
 ghost use Rattle.macho_faults.specs.Standing.{Stands};

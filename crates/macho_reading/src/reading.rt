@@ -3,7 +3,7 @@ ghost use Rattle.std.specs.Prelude.{◌≡◌, ◌^◌, ◌<◌, ◌⊎◌, true
 ghost use Rattle.std.specs.Option.{option_copied};
 ghost use Rattle.macho_model.specs.declared.placed.Counts.{Counts};
 ghost use Rattle.macho_model.specs.Links.{Input, Link};
-ghost use Rattle.macho_model.specs.Needs.{uses_of};
+ghost use Rattle.macho_model.specs.Uses.{uses_of};
 ghost use Rattle.macho_model.specs.Faults.{entry_is_defined};
 ghost use Rattle.macho_object.specs.Views.{FileBytes};
 ghost use Rattle.macho_names.specs.Kept.{Keeps};

@@ -7,7 +7,8 @@ ghost use Rattle.std.specs.Prelude.{◌≡◌, ℕ, ◌^◌, ◌<◌, false, Lis
 ghost use Rattle.macho_model.specs.declared.placed.Counts.{Counts};
 ghost use Rattle.macho_model.specs.Objects.{num_sections};
 ghost use Rattle.macho_model.specs.Links.{Input, Link, SectionId};
-ghost use Rattle.macho_model.specs.Needs.{uses_of, relocation_in};
+ghost use Rattle.macho_model.specs.Needs.{relocation_in};
+ghost use Rattle.macho_model.specs.Uses.{uses_of};
 ghost use Rattle.macho_names.specs.Kept.{Keeps};
 ghost use Rattle.macho_faults.specs.Standing.{Stands};
 ghost use Rattle.macho_parts.specs.Views.{views_of};

@@ -3,18 +3,19 @@
 -- Every field has another value, and the bytes were laid out apart from this project, by the C structures of
 -- mach-o/loader.h and nlist.h. The checker computes both
 -- directions: the record is spelled by these bytes, and behind three others they are read as this record.
-use Rattle.std.proofs.Common.{◌≡◌, ℕ, true, false, List, [], ◌∷◌, ◌++◌, replicate, codes, refl}
+use Rattle.std.proofs.Common.{◌≡◌, ℕ, List, [], ◌∷◌, ◌++◌, replicate, codes, refl}
 use Rattle.macho_bytes.specs.Numbers.{le_at, be_at, le_bytes, be_bytes, row_bytes}
-use Rattle.macho_bytes.specs.Layouts.{Layout, spelling, reading}
-use Rattle.macho_records.specs.Layouts.{mach_header, load_command, segment_command, section_header, symtab_command, symtab_entry}
+use Rattle.macho_bytes.specs.Layouts.{reading}
+use Rattle.macho_records.specs.Spellings.{mach_header_rows, load_command_rows, segment_command_rows, section_header_rows, symtab_command_rows, symtab_entry_rows}
+use Rattle.macho_bytes.specs.Spellings.{Spelled, spelling}
 
 -- the record is spelled by the bytes, and they are read as the record
-abbrev IsRow : {R : Type 0} → Layout R → R → List ℕ → Type 0
-IsRow l r bytes = (spelling l r ≡ bytes) × (reading l (7 ∷ 8 ∷ 9 ∷ bytes) 3 ≡ r)
+abbrev IsRow : {R : Type 0} → Spelled R → R → List ℕ → Type 0
+IsRow s r bytes = (spelling s r ≡ bytes) × (reading s.layout (7 ∷ 8 ∷ 9 ∷ bytes) 3 ≡ r)
 
 -- `struct mach_header_64`
 mach_header-row :
-    IsRow mach_header
+    IsRow mach_header_rows
     (record {
       magic = 0xfeedfacf;
       cputype = 0x100000c;
@@ -32,7 +33,7 @@ mach_header-row = (refl, refl)
 
 -- `struct load_command`
 load_command-row :
-    IsRow load_command
+    IsRow load_command_rows
     (record { cmd = 25; cmdsize = 152 })
     (0x19 ∷ 0x00 ∷ 0x00 ∷ 0x00 ∷ 0x98 ∷ 0x00 ∷ 0x00 ∷ 0x00 ∷ [])
 unfolding reading spelling le_at be_at le_bytes be_bytes row_bytes
@@ -40,7 +41,7 @@ load_command-row = (refl, refl)
 
 -- `struct segment_command_64`
 segment_command-row :
-    IsRow segment_command
+    IsRow segment_command_rows
     (record {
       cmd = 25;
       cmdsize = 232;
@@ -63,7 +64,7 @@ segment_command-row = (refl, refl)
 
 -- `struct section_64`
 section_header-row :
-    IsRow section_header
+    IsRow section_header_rows
     (record {
       sectname = codes "__text" ++ replicate 10 0;
       segname = codes "__TEXT" ++ replicate 10 0;
@@ -88,7 +89,7 @@ section_header-row = (refl, refl)
 
 -- `struct symtab_command`
 symtab_command-row :
-    IsRow symtab_command
+    IsRow symtab_command_rows
     (record { cmd = 2; cmdsize = 24; symoff = 0x40d8; nsyms = 3; stroff = 0x40e8; strsize = 7 })
     (0x02 ∷ 0x00 ∷ 0x00 ∷ 0x00 ∷ 0x18 ∷ 0x00 ∷ 0x00 ∷ 0x00 ∷ 0xd8 ∷ 0x40 ∷ 0x00 ∷ 0x00 ∷ 0x03 ∷ 0x00 ∷ 0x00 ∷ 0x00 ∷ 0xe8 ∷ 0x40 ∷
     0x00 ∷ 0x00 ∷ 0x07 ∷ 0x00 ∷ 0x00 ∷ 0x00 ∷ [])
@@ -97,7 +98,7 @@ symtab_command-row = (refl, refl)
 
 -- `struct nlist_64`
 symtab_entry-row :
-    IsRow symtab_entry
+    IsRow symtab_entry_rows
     (record { n_strx = 1; n_type = 15; n_sect = 2; n_desc = 0x380; n_value = 0x1000001e0 })
     (0x01 ∷ 0x00 ∷ 0x00 ∷ 0x00 ∷ 0x0f ∷ 0x02 ∷ 0x80 ∷ 0x03 ∷ 0xe0 ∷ 0x01 ∷ 0x00 ∷ 0x00 ∷ 0x01 ∷ 0x00 ∷ 0x00 ∷ 0x00 ∷ [])
 unfolding reading spelling le_at be_at le_bytes be_bytes row_bytes

@@ -1,56 +1,67 @@
--- The layouts of header, segments, sections and symbols: for each record its fields in order, in rows of one width in bytes.
-use Rattle.std.specs.Prelude.{[], ◌∷◌}
-use Rattle.macho_bytes.specs.Layouts.{Layout, little_record, numbers, text}
+-- The layouts of header, segments, sections and symbols. `n w o` is the number of w bytes at offset o, `t o` the text of 16 bytes there.
+use Rattle.macho_bytes.specs.Layouts.{Layout, little_record}
 use Rattle.macho_records.specs.declared.header.MachHeader.{MachHeader}
 use Rattle.macho_records.specs.declared.header.LoadCommand.{LoadCommand}
 use Rattle.macho_records.specs.declared.header.SegmentCommand.{SegmentCommand}
 use Rattle.macho_records.specs.declared.header.SectionHeader.{SectionHeader}
 use Rattle.macho_records.specs.declared.symbols.SymtabCommand.{SymtabCommand}
 use Rattle.macho_records.specs.declared.symbols.SymtabEntry.{SymtabEntry}
-use Rattle.macho_structs.specs.Layouts.{no_text}
 
 -- `struct mach_header_64`, mach-o/loader.h
 abbrev pub mach_header : Layout MachHeader
-mach_header = little_record (record { magic = 0; cputype = 0; cpusubtype = 0; filetype = 0; ncmds = 0; sizeofcmds = 0; flags = 0; reserved = 0 })
-    (numbers 4 (λ r. r.magic ∷ r.cputype ∷ r.cpusubtype ∷ r.filetype ∷ r.ncmds ∷ r.sizeofcmds ∷ r.flags ∷ r.reserved ∷ [])
-    (λ n r. record r { magic = n 0; cputype = n 1; cpusubtype = n 2; filetype = n 3; ncmds = n 4; sizeofcmds = n 5; flags = n 6; reserved = n 7 })
-    ∷ [])
+mach_header = little_record 32 (λ n t. record {
+  magic = n 4 0;
+  cputype = n 4 4;
+  cpusubtype = n 4 8;
+  filetype = n 4 12;
+  ncmds = n 4 16;
+  sizeofcmds = n 4 20;
+  flags = n 4 24;
+  reserved = n 4 28;
+})
 
 -- `struct load_command`, mach-o/loader.h
 abbrev pub load_command : Layout LoadCommand
-load_command = little_record (record { cmd = 0; cmdsize = 0 })
-    (numbers 4 (λ r. r.cmd ∷ r.cmdsize ∷ []) (λ n r. record r { cmd = n 0; cmdsize = n 1 }) ∷ [])
+load_command = little_record 8 (λ n t. record { cmd = n 4 0; cmdsize = n 4 4 })
 
 -- `struct segment_command_64`, mach-o/loader.h
 abbrev pub segment_command : Layout SegmentCommand
-segment_command = little_record (record { cmd = 0; cmdsize = 0; segname = no_text; vmaddr = 0; vmsize = 0; fileoff = 0; filesize = 0; maxprot = 0; initprot = 0; nsects = 0; flags = 0 })
-    (numbers 4 (λ r. r.cmd ∷ r.cmdsize ∷ []) (λ n r. record r { cmd = n 0; cmdsize = n 1 })
-    ∷ text (λ r. r.segname) (λ t r. record r { segname = t })
-    ∷ numbers 8 (λ r. r.vmaddr ∷ r.vmsize ∷ r.fileoff ∷ r.filesize ∷ [])
-    (λ n r. record r { vmaddr = n 0; vmsize = n 1; fileoff = n 2; filesize = n 3 })
-    ∷ numbers 4 (λ r. r.maxprot ∷ r.initprot ∷ r.nsects ∷ r.flags ∷ [])
-    (λ n r. record r { maxprot = n 0; initprot = n 1; nsects = n 2; flags = n 3 }) ∷ [])
+segment_command = little_record 72 (λ n t. record {
+  cmd = n 4 0;
+  cmdsize = n 4 4;
+  segname = t 8;
+  vmaddr = n 8 24;
+  vmsize = n 8 32;
+  fileoff = n 8 40;
+  filesize = n 8 48;
+  maxprot = n 4 56;
+  initprot = n 4 60;
+  nsects = n 4 64;
+  flags = n 4 68;
+})
 
 -- `struct section_64`, mach-o/loader.h
 abbrev pub section_header : Layout SectionHeader
-section_header = little_record (record { sectname = no_text; segname = no_text; addr = 0; size = 0; offset = 0; align = 0; reloff = 0; nreloc = 0; flags = 0; reserved1 = 0; reserved2 = 0; reserved3 = 0 })
-    (text (λ r. r.sectname) (λ t r. record r { sectname = t })
-    ∷ text (λ r. r.segname) (λ t r. record r { segname = t })
-    ∷ numbers 8 (λ r. r.addr ∷ r.size ∷ []) (λ n r. record r { addr = n 0; size = n 1 })
-    ∷ numbers 4 (λ r. r.offset ∷ r.align ∷ r.reloff ∷ r.nreloc ∷ r.flags ∷ r.reserved1 ∷ r.reserved2 ∷ r.reserved3 ∷ [])
-    (λ n r. record r { offset = n 0; align = n 1; reloff = n 2; nreloc = n 3; flags = n 4; reserved1 = n 5; reserved2 = n 6; reserved3 = n 7 })
-    ∷ [])
+section_header = little_record 80 (λ n t. record {
+  sectname = t 0;
+  segname = t 16;
+  addr = n 8 32;
+  size = n 8 40;
+  offset = n 4 48;
+  align = n 4 52;
+  reloff = n 4 56;
+  nreloc = n 4 60;
+  flags = n 4 64;
+  reserved1 = n 4 68;
+  reserved2 = n 4 72;
+  reserved3 = n 4 76;
+})
 
 -- `struct symtab_command`, mach-o/loader.h
 abbrev pub symtab_command : Layout SymtabCommand
-symtab_command = little_record (record { cmd = 0; cmdsize = 0; symoff = 0; nsyms = 0; stroff = 0; strsize = 0 })
-    (numbers 4 (λ r. r.cmd ∷ r.cmdsize ∷ r.symoff ∷ r.nsyms ∷ r.stroff ∷ r.strsize ∷ [])
-    (λ n r. record r { cmd = n 0; cmdsize = n 1; symoff = n 2; nsyms = n 3; stroff = n 4; strsize = n 5 }) ∷ [])
+symtab_command =
+    little_record 24 (λ n t. record { cmd = n 4 0; cmdsize = n 4 4; symoff = n 4 8; nsyms = n 4 12; stroff = n 4 16; strsize = n 4 20 })
 
 -- `struct nlist_64`, mach-o/nlist.h
 abbrev pub symtab_entry : Layout SymtabEntry
-symtab_entry = little_record (record { n_strx = 0; n_type = 0; n_sect = 0; n_desc = 0; n_value = 0 })
-    (numbers 4 (λ r. r.n_strx ∷ []) (λ n r. record r { n_strx = n 0 })
-    ∷ numbers 1 (λ r. r.n_type ∷ r.n_sect ∷ []) (λ n r. record r { n_type = n 0; n_sect = n 1 })
-    ∷ numbers 2 (λ r. r.n_desc ∷ []) (λ n r. record r { n_desc = n 0 })
-    ∷ numbers 8 (λ r. r.n_value ∷ []) (λ n r. record r { n_value = n 0 }) ∷ [])
+symtab_entry = little_record 16 (λ n t. record { n_strx = n 4 0; n_type = n 1 4; n_sect = n 1 5; n_desc = n 2 6; n_value = n 8 8 })

@@ -1,4 +1,5 @@
 pub mod Layouts
+pub mod Spellings
 pub mod Flags
 pub mod Texts
 pub mod Segments
@@ -6,6 +7,7 @@ pub mod Sections
 pub mod Symbols
 -- layouts and records of the crate below, which clauses of this one and above cite
 pub use Rattle.macho_structs.specs.Layouts as CommandLayouts
+pub use Rattle.macho_structs.specs.Spellings as CommandSpellings
 pub use Rattle.macho_structs.specs.Relocations
 pub use Rattle.macho_structs.specs.declared.commands.BuildToolVersion
 pub use Rattle.macho_structs.specs.declared.commands.BuildVersionCommand
@@ -21,5 +23,6 @@ pub use Rattle.macho_structs.specs.declared.relocations.RelocationInfo
 pub use Rattle.macho_structs.specs.declared.signature.CodeDirectory
 pub use Rattle.macho_structs.specs.declared.unwind.UnwindInfoEntry
 pub use Rattle.macho_bytes.specs.Layouts as ByteLayouts
+pub use Rattle.macho_bytes.specs.Spellings as ByteSpellings
 pub use Rattle.macho_bytes.specs.Texts as ByteTexts
 pub use Rattle.macho_bytes.specs.Numbers

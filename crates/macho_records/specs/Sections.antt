@@ -49,8 +49,8 @@ abbrev pub should_exclude_of : SectionHeader → Bool
 should_exclude_of s =
     (has_any S_ATTR_DEBUG s.flags && not (bytes_eq (section_name_of s) (codes "__compact_unwind")))
     || list_any (bytes_eq (segment_name_of s)) (codes "__PAGEZERO" ∷ codes "__LINKEDIT" ∷ codes "__LLVM" ∷ [])
-    || list_any (λ t. type_of s == t)
-    (S_NON_LAZY_SYMBOL_POINTERS ∷ S_LAZY_SYMBOL_POINTERS ∷ S_SYMBOL_STUBS ∷ S_LAZY_DYLIB_SYMBOL_POINTERS ∷ S_THREAD_LOCAL_VARIABLE_POINTERS ∷ [])
+    || list_any (λ t. type_of s == t) (S_NON_LAZY_SYMBOL_POINTERS ∷ S_LAZY_SYMBOL_POINTERS ∷ S_SYMBOL_STUBS
+    ∷ S_LAZY_DYLIB_SYMBOL_POINTERS ∷ S_THREAD_LOCAL_VARIABLE_POINTERS ∷ [])
 
 -- a section in no segment isn't writable
 abbrev pub is_writable_in : Option SegmentName → Bool

@@ -7,8 +7,10 @@
 //!     104 SectionHeader    5f 5f 74 65 78 74 00 ..        80 bytes, `__text` of `__TEXT`
 ghost use Rattle.std.specs.Prelude.{◌≡◌, ◌+◌, ◌≤◌, length};
 ghost use Rattle.macho_bytes.specs.Texts.{put};
-ghost use Rattle.macho_bytes.specs.Layouts.{read_of, size_of, spelling, ReadsBack};
+ghost use Rattle.macho_bytes.specs.Layouts.{read_of, size_of};
 ghost use Rattle.macho_records.specs.Layouts.{mach_header, load_command, segment_command, section_header};
+ghost use Rattle.macho_bytes.specs.Spellings.{spelling, ReadsBack};
+ghost use Rattle.macho_records.specs.Spellings.{mach_header_rows, load_command_rows, segment_command_rows, section_header_rows};
 
 use macho_structs::{little_at, put_littles, put_text, text_at};
 
@@ -61,8 +63,8 @@ impl MachHeader {
     #[tactic(auto, using(macho_bytes::proofs::Layouts::little_record))]
     pub fn write(&self, out: &mut [u8], at: usize)
         requires { at + size_of mach_header ≤ length out.old }
-        ensures written { out.new ≡ put at (spelling mach_header self.now) out.old }
-        ensures back { ReadsBack mach_header self.now }
+        ensures written { out.new ≡ put at (spelling mach_header_rows self.now) out.old }
+        ensures back { ReadsBack mach_header_rows self.now }
     {
         let r = *self;
         put_littles(
@@ -113,8 +115,8 @@ impl LoadCommand {
     #[tactic(auto, using(macho_bytes::proofs::Layouts::little_record))]
     pub fn write(&self, out: &mut [u8], at: usize)
         requires { at + size_of load_command ≤ length out.old }
-        ensures written { out.new ≡ put at (spelling load_command self.now) out.old }
-        ensures back { ReadsBack load_command self.now }
+        ensures written { out.new ≡ put at (spelling load_command_rows self.now) out.old }
+        ensures back { ReadsBack load_command_rows self.now }
     {
         let r = *self;
         put_littles(out, at, &[r.cmd, r.cmdsize]);
@@ -179,8 +181,8 @@ impl SegmentCommand {
     #[tactic(auto, using(macho_bytes::proofs::Layouts::little_record))]
     pub fn write(&self, out: &mut [u8], at: usize)
         requires { at + size_of segment_command ≤ length out.old }
-        ensures written { out.new ≡ put at (spelling segment_command self.now) out.old }
-        ensures back { ReadsBack segment_command self.now }
+        ensures written { out.new ≡ put at (spelling segment_command_rows self.now) out.old }
+        ensures back { ReadsBack segment_command_rows self.now }
     {
         let r = *self;
         put_littles(out, at, &[r.cmd, r.cmdsize]);
@@ -251,8 +253,8 @@ impl SectionHeader {
     #[tactic(auto, using(macho_bytes::proofs::Layouts::little_record))]
     pub fn write(&self, out: &mut [u8], at: usize)
         requires { at + size_of section_header ≤ length out.old }
-        ensures written { out.new ≡ put at (spelling section_header self.now) out.old }
-        ensures back { ReadsBack section_header self.now }
+        ensures written { out.new ≡ put at (spelling section_header_rows self.now) out.old }
+        ensures back { ReadsBack section_header_rows self.now }
     {
         let r = *self;
         put_text(out, at, &r.sectname);

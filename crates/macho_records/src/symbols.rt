@@ -11,11 +11,13 @@ ghost use Rattle.std.specs.Prelude.{◌≡◌, ◌+◌, ◌^◌, ◌<◌, ◌≤
 ghost use Rattle.std.specs.List.{starts_with};
 ghost use Rattle.macho_bytes.specs.Numbers.{rounded_up};
 ghost use Rattle.macho_bytes.specs.Texts.{put};
-ghost use Rattle.macho_bytes.specs.Layouts.{read_of, size_of, spelling, ReadsBack};
+ghost use Rattle.macho_bytes.specs.Layouts.{read_of, size_of};
 ghost use Rattle.macho_records.specs.Layouts.{symtab_command, symtab_entry};
 ghost use Rattle.macho_records.specs.Flags.{has_any};
 ghost use Rattle.macho_records.specs.Symbols.{has_type, is_hidden_of, is_weak_of, visibility_of, is_common_of, common_exponent_of, common_size_of, common_of, with_hidden_of};
 ghost use Rattle.macho_records.specs.declared.constants.TheConstants.{N_UNDF};
+ghost use Rattle.macho_bytes.specs.Spellings.{spelling, ReadsBack};
+ghost use Rattle.macho_records.specs.Spellings.{symtab_command_rows, symtab_entry_rows};
 
 use crate::constants::{N_ABS, N_EXT, N_PEXT, N_STAB, N_TYPE, N_UNDF, N_WEAK_DEF};
 use macho_structs::{little_at, put_littles};
@@ -63,8 +65,8 @@ impl SymtabCommand {
     #[tactic(auto, using(macho_bytes::proofs::Layouts::little_record))]
     pub fn write(&self, out: &mut [u8], at: usize)
         requires { at + size_of symtab_command ≤ length out.old }
-        ensures written { out.new ≡ put at (spelling symtab_command self.now) out.old }
-        ensures back { ReadsBack symtab_command self.now }
+        ensures written { out.new ≡ put at (spelling symtab_command_rows self.now) out.old }
+        ensures back { ReadsBack symtab_command_rows self.now }
     {
         let r = *self;
         put_littles(
@@ -115,8 +117,8 @@ impl SymtabEntry {
     #[tactic(auto, using(macho_bytes::proofs::Layouts::little_record))]
     pub fn write(&self, out: &mut [u8], at: usize)
         requires { at + size_of symtab_entry ≤ length out.old }
-        ensures written { out.new ≡ put at (spelling symtab_entry self.now) out.old }
-        ensures back { ReadsBack symtab_entry self.now }
+        ensures written { out.new ≡ put at (spelling symtab_entry_rows self.now) out.old }
+        ensures back { ReadsBack symtab_entry_rows self.now }
     {
         let r = *self;
         put_littles(out, at, &[r.n_strx]);

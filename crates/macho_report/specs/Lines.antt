@@ -122,11 +122,14 @@ link_text paths (refusal.BadInitializer number section offset) =
     file_name paths number ∷ codes ": bad initializer at " ∷ decimal offset ∷ codes " in section " ∷ decimal section ∷ []
 link_text paths (refusal.BadUnwind number section entry rule) =
     file_name paths number ∷ codes ": unwind entry " ∷ decimal entry ∷ codes " breaks rule " ∷ unwind_rule rule ∷ []
-link_text paths (refusal.UnsupportedRelocation number section relocation) = relocation_text paths number section relocation (codes "unsupported")
+link_text paths (refusal.UnsupportedRelocation number section relocation) =
+    relocation_text paths number section relocation (codes "unsupported")
 link_text paths (refusal.OverlappingFields number section first second) =
-    file_name paths number ∷ codes ": section " ∷ decimal section ∷ codes ", relocations " ∷ decimal first ∷ codes " and " ∷ decimal second ∷ codes " overlap" ∷ []
+    file_name paths number ∷ codes ": section " ∷ decimal section ∷ codes ", relocations " ∷ decimal first ∷ codes " and " ∷ decimal second
+    ∷ codes " overlap" ∷ []
 link_text paths (refusal.BindAddend number section relocation addend) = relocation_text paths number section relocation (codes "bad addend")
-link_text paths (refusal.FixupPlace number section relocation placement) = relocation_text paths number section relocation (codes "bad place")
+link_text paths (refusal.FixupPlace number section relocation placement) =
+    relocation_text paths number section relocation (codes "bad place")
 link_text paths (refusal.TooMany what number placement) = codes "too many " ∷ limit_name what ∷ codes ": " ∷ decimal number ∷ []
 link_text paths (refusal.ImageTooLarge placement) = codes "image too large" ∷ []
 link_text paths (refusal.RebaseTarget at placement) = site_text paths at (codes "bad target")
@@ -147,7 +150,8 @@ abbrev pub fault_text : List Input → List (ℕ × List ℕ) → List (List ℕ
 fault_text inputs lists paths (Words fault) = codes "bad word " ∷ decimal (broken_word fault).0 ∷ codes ": " ∷ (broken_word fault).1 ∷ []
 fault_text inputs lists paths (MissingFile word) = codes "cannot find " ∷ word_name inputs lists word ∷ []
 fault_text inputs lists paths (Read word) = codes "cannot read " ∷ word_name inputs lists word ∷ []
-fault_text inputs lists paths (UnknownKind word kind) = word_name inputs lists word ∷ codes ": not an arm64 object, dynamic library or stub" ∷ []
+fault_text inputs lists paths (UnknownKind word kind) =
+    word_name inputs lists word ∷ codes ": not an arm64 object, dynamic library or stub" ∷ []
 fault_text inputs lists paths (InputRefused word refused) = error_text paths refused
 fault_text inputs lists paths (LinkRefused refused) = error_text paths refused
 fault_text inputs lists paths Write = codes "cannot write the output" ∷ []
@@ -174,8 +178,8 @@ map_line l paths q =
 abbrev pub totals : Option ℕ → LinkedImage → List ℕ
 totals None image = []
 totals (Some count) image =
-    flat_map (λ piece. piece) (codes "objects " ∷ decimal count ∷ codes "\nfixups " ∷ decimal image.fixups
-    ∷ codes "\nlength " ∷ decimal (length image.bytes.items) ∷ codes "\nsha256 " ∷ encode_lower (sha256 image.bytes.items) ∷ codes "\n" ∷ [])
+    flat_map (λ piece. piece) (codes "objects " ∷ decimal count ∷ codes "\nfixups " ∷ decimal image.fixups ∷ codes "\nlength "
+    ∷ decimal (length image.bytes.items) ∷ codes "\nsha256 " ∷ encode_lower (sha256 image.bytes.items) ∷ codes "\n" ∷ [])
 
 -- THE text of a run: the lines of `-map`, where it was given, one for each placed section, and then those of `-generate`
 abbrev pub run_lines : Settings → Link → List (List ℕ) → LinkedImage → List ℕ

@@ -5,7 +5,7 @@ use Rattle.macho_model.specs.declared.placed.Counts.{Counts}
 use Rattle.macho_model.specs.declared.placed.Linkedit.{Linkedit}
 use Rattle.macho_model.specs.declared.placed.Range64.{Range64}
 use Rattle.macho_model.specs.WrittenSum.{FIXUP_RECORDS}
-use Rattle.macho_model.specs.Order.{fixup_room, signature_room}
+use Rattle.macho_model.specs.Rooms.{fixup_room, signature_room}
 
 abbrev pub range_from : ℕ → ℕ → Range64
 range_from start size = record { start = start; end = start + size }

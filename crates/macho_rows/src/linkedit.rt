@@ -1,7 +1,7 @@
 //! The tables of `__LINKEDIT`, one behind the other in the file.
 ghost use Rattle.std.specs.Prelude.{◌≡◌, ◌+◌, ◌*◌, ◌<◌, ◌≤◌, ◌^◌};
 ghost use Rattle.macho_rows.specs.Tables.{tables_at, tables_cost};
-ghost use Rattle.macho_model.specs.Order.{fixup_room};
+ghost use Rattle.macho_model.specs.Rooms.{fixup_room};
 
 use macho_model::{Counts, FIXUP_RECORDS, Linkedit, Range64, SIGNATURE_FIXED, SIGNED_PAGE};
 

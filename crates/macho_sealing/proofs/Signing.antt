@@ -19,13 +19,12 @@ use Rattle.macho_model.specs.Segments.{TEXT}
 use Rattle.macho_model.specs.WrittenSum.{SIGNED_PAGE, DIGEST_SIZE, SIGNATURE_FIXED}
 use Rattle.macho_model.specs.Placement.{Placed, is_segment_named, Follows}
 use Rattle.macho_model.specs.Images.{segments_of, is_named, segments_named}
-use Rattle.macho_model.specs.Agreement.{SegmentPlace, place_by_command, place_told, SegmentsAgree}
+use Rattle.macho_model.specs.Agreement.{SegmentsAgree}
 use Rattle.macho_model.specs.Signature.{Signed, identifier_text, signature_text, signed_of}
 use Rattle.macho_signature.specs.declared.signature.Signer.{Signer}
 use Rattle.macho_signature.specs.Sizes.{signed_by}
 use Rattle.macho_bytes.proofs.Layouts.{length-spelling}
 use Rattle.macho_bytes.proofs.Numbers.{big_is_sound}
-use Rattle.macho_structs.specs.Layouts.{code_directory}
 use Rattle.macho_signature.specs.Sizes.{directory_for}
 use Rattle.macho_signature.proofs.Texts.{length-signature, length-identifier}
 use Rattle.macho_commands.proofs.HeadRead.{head_read}
@@ -36,6 +35,8 @@ use Rattle.macho_agreement.proofs.Classes.{AllDiffer}
 use Rattle.macho_agreement.proofs.Headers.{all_differ}
 use Rattle.macho_agreement.proofs.Room.{text_begins}
 use Rattle.macho_sealing.specs.Signing.{IsSignerOf, SignatureIsSaid}
+use Rattle.macho_structs.specs.Spellings.{code_directory_rows}
+use Rattle.macho_model.specs.steps.Agreement.{SegmentPlace, place_by_command, place_told}
 
 -- the segments of a name are told alike
 alike : (cs : List SegmentCommand) (segments : List PlacedSegment) → map place_by_command cs ≡ map place_told segments
@@ -49,7 +50,7 @@ alike (c ∷ cs) (s ∷ segments) e = by (alike cs segments (ap (drop 1) e)) (is
     one = ap (λ (ps : List SegmentPlace). get_or ps 0 (place_told s)) e
 
     test : is_named TEXT c ≡ is_segment_named TEXT s
-    test = ap (λ (q : SegmentPlace). bytes_eq q.name TEXT) one
+    test = ap (λ (q : SegmentPlace). bytes_eq q.0 TEXT) one
 
     by : map place_by_command (filter (is_named TEXT) cs) ≡ map place_told (filter (is_segment_named TEXT) segments) → (x : Bool)
         → is_segment_named TEXT s ≡ x
@@ -131,19 +132,19 @@ signed_same l p signer c t limit signs has named offset size front =
 pub signature_said : SignatureIsSaid
 signature_said l counts uuid b p signer says are placed laid signs long stands =
     let reads = head_read l counts uuid b p says.trie says.commands in
-    let t : PlacedSegment = placed.in_order.begins.0 in
-    let has : Contains p.segments t = placed.in_order.begins.1 in
-    let named : is_segment_named TEXT t ≡ true = placed.in_order.begins.2 in
-    let one = text_told l b p t placed.in_order.follow reads.segments has named in
+    let t : PlacedSegment = placed.begins.0 in
+    let has : Contains p.segments t = placed.begins.1 in
+    let named : is_segment_named TEXT t ≡ true = placed.begins.2 in
+    let one = text_told l b p t placed.follow reads.segments has named in
     let limit : ℕ = p.linkedit.signature.start in
     let s : Signed = signed_by signer limit in
     let size : length (signature_text s b) ≡ SIGNATURE_FIXED + rounded_up 16 (length signer.identifier.now + 1) + DIGEST_SIZE *
     ((limit + (SIGNED_PAGE - 1)) / SIGNED_PAGE) =
-    length-signature s b (length-spelling code_directory (directory_for s) big_is_sound (search rules)) in
+    length-signature s b (length-spelling code_directory_rows (directory_for s) big_is_sound (search rules)) in
     let room = laid.least.rooms.signature in
     let front : t.file_offset ≡ 0 =
     all_contains (λ (u : PlacedSegment). is_segment_named TEXT u ≡ true → u.file_offset ≡ 0) p.segments t
-    (text_begins l counts p placed.in_order.follow laid) has named in
+    (text_begins l counts p placed.follow laid) has named in
     let pages : rounded_up SIGNED_PAGE limit / SIGNED_PAGE ≡ (limit + (SIGNED_PAGE - 1)) / SIGNED_PAGE =
     whole_pages ((limit + (SIGNED_PAGE - 1)) / SIGNED_PAGE) in
     let name : counts.identifier ≡ rounded_up 16 (length signer.identifier.now + 1) =
@@ -161,5 +162,5 @@ signature_said l counts uuid b p signer says are placed laid signs long stands =
       text_is = one.one;
       says = ap (λ (n : ℕ). slice_range b limit n) (sym ends) ∙ stands.same
           ∙ ap (λ (u : Signed). signature_text u b) (signed_same l p signer one.text t limit signs has named
-          (ap (λ (q : SegmentPlace). q.file_offset) one.place) (ap (λ (q : SegmentPlace). q.file_size) one.place) front);
+          (ap (λ (q : SegmentPlace). q.3) one.place) (ap (λ (q : SegmentPlace). q.4) one.place) front);
     }

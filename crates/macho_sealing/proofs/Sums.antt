@@ -10,8 +10,7 @@ use Rattle.macho_bytes.specs.Texts.{put}
 use Rattle.macho_model.specs.declared.placed.Counts.{Counts}
 use Rattle.macho_model.specs.Links.{Link}
 use Rattle.macho_model.specs.Placement.{Placed}
-use Rattle.macho_model.specs.Head.{describes_thread_locals}
-use Rattle.macho_model.specs.HeadCommands.{commands_for, header_for, size_said}
+use Rattle.macho_model.specs.HeadCommands.{commands_for, header_for, size_said, describes_thread_locals}
 use Rattle.macho_commands.specs.declared.command.Command.{Command}
 use Rattle.macho_commands.specs.declared.command.Command.TheVariants.{Segment, EntryPoint, Uuid, BuildVersion, Dylinker, IdDylib}
 use Rattle.macho_commands.specs.declared.command.Command.TheVariants.{LoadDylib, Rpath, ChainedFixups, ExportsTrie, Symtab, CodeSignature}

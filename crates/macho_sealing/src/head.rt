@@ -3,10 +3,10 @@ ghost use Rattle.std.specs.Prelude.{◌≡◌, ℕ, ◌<◌, ◌≤◌, ◌^◌,
 ghost use Rattle.std.specs.List.{list_any};
 ghost use Rattle.macho_model.specs.declared.placed.Counts.{Counts};
 ghost use Rattle.macho_model.specs.Links.{Link};
-ghost use Rattle.macho_model.specs.Head.{describes_thread_locals};
 ghost use Rattle.macho_layout.specs.Placements.{placed_of};
 ghost use Rattle.macho_sealing.specs.Splits.{HeadersAreSplit};
 ghost use Rattle.macho_sealing.specs.Heads.{AreHeadParts, TablesAreSmall, head_bytes, HeadIsPut};
+ghost use Rattle.macho_model.specs.HeadCommands.{describes_thread_locals};
 
 use crate::commands::{HeadParts, head_commands};
 use macho_commands::{ImageKind, write_head};

@@ -16,10 +16,11 @@ use Rattle.sha2.specs.Sha256.{sha256}
 use Rattle.macho_bytes.specs.Texts.{put, Stands}
 use Rattle.macho_bytes.proofs.Puts.{length-put, is_put, get_or-put_in, get_or-put_below, get_or-put_above}
 use Rattle.macho_model.specs.WrittenSum.{SIGNED_PAGE}
-use Rattle.macho_model.specs.Signature.{page_digest, page_count, uuid_byte, uuid_written}
+use Rattle.macho_model.specs.Signature.{page_digest, page_count, uuid_written}
 use Rattle.macho_signature.specs.Pages.{digests_of, first_page, last_page}
 use Rattle.macho_signature.specs.Pages.{digests_from}
 use Rattle.macho_signature.proofs.Pages.{length-digests, digests_all, digests_join, digests_agree}
+use Rattle.macho_model.specs.steps.Signature.{uuid_byte}
 
 -- a UUID as it is written has 16 bytes
 pub length-uuid_written : (uuid : List ℕ) → length (uuid_written uuid) ≡ 16

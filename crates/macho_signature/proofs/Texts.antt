@@ -3,18 +3,18 @@
 -- Super blob, code directory, identifier and digests have 20, 88, a multiple of 16 and 32 bytes a page. Each is put where
 -- the one before it ends, and puts next to each other are one put of the joined texts. What is signed stands in front of
 -- the signature, so the digests of a file are those of the bytes in front of its signature, before and after it is put.
-use Rattle.std.proofs.Common.{◌≡◌, ℕ, ◌+◌, ◌-◌, ◌*◌, ◌≤◌, List, [], ◌∷◌, ◌++◌, length, take, drop, replicate, refl, sym, ap, ◌∙◌, arith}
-use Rattle.std.proofs.lemmas.List.{length-append, length-replicate, length-take, length-drop}
+use Rattle.std.proofs.Common.{◌≡◌, ℕ, ◌+◌, ◌-◌, ◌*◌, ◌≤◌, List, [], ◌∷◌, ◌++◌, length, replicate, ap, ◌∙◌, arith}
+use Rattle.std.proofs.lemmas.List.{length-append, length-replicate}
 use Rattle.macho_bytes.specs.Numbers.{big, row_bytes}
 use Rattle.macho_bytes.specs.Texts.{put}
-use Rattle.macho_bytes.specs.Layouts.{spelling}
 use Rattle.macho_bytes.proofs.Numbers.{length-row_big}
-use Rattle.macho_bytes.proofs.Puts.{put-put, length-put}
-use Rattle.macho_structs.specs.Layouts.{code_directory}
+use Rattle.macho_bytes.proofs.Puts.{put-put}
 use Rattle.macho_model.specs.Signature.{Signed, DIRECTORY_PLACE, identifier_text}
 use Rattle.macho_model.specs.Signature.{page_count, page_digests, signature_text}
 use Rattle.macho_signature.specs.Sizes.{identifier_size, digests_offset, signature_size, directory_size, directory_for}
 use Rattle.macho_signature.proofs.Pages.{length-page_digests}
+use Rattle.macho_bytes.specs.Spellings.{spelling}
+use Rattle.macho_structs.specs.Spellings.{code_directory_rows}
 
 -- the identifier's bytes
 pub length-identifier : (name : List ℕ) → length (identifier_text name) ≡ identifier_size (length name)
@@ -25,30 +25,30 @@ length-identifier name =
     omega (arith, length-append name zeros, count)
 
 -- the bytes of the whole text
-pub length-signature : (s : Signed) (b : List ℕ) → length (spelling code_directory (directory_for s)) ≡ 88
+pub length-signature : (s : Signed) (b : List ℕ) → length (spelling code_directory_rows (directory_for s)) ≡ 88
     → length (signature_text s b) ≡ signature_size (length s.name) s.limit
 unfolding signature_text spelling
 length-signature s b directory =
     let head : List ℕ = row_bytes big 4 (0xfade0cc0 ∷ (DIRECTORY_PLACE + directory_size s) ∷ 1 ∷ 0 ∷ DIRECTORY_PLACE ∷ []) in
-    let front = head ++ spelling code_directory (directory_for s) in
+    let front = head ++ spelling code_directory_rows (directory_for s) in
     omega (
       arith,
       length-row_big 4 (0xfade0cc0 ∷ (DIRECTORY_PLACE + directory_size s) ∷ 1 ∷ 0 ∷ DIRECTORY_PLACE ∷ []),
       directory,
       length-identifier s.name,
       length-page_digests b s.limit,
-      length-append head (spelling code_directory (directory_for s)),
+      length-append head (spelling code_directory_rows (directory_for s)),
       length-append front (identifier_text s.name),
       length-append (front ++ identifier_text s.name) (page_digests b s.limit),
     )
 
 -- the four parts, put one behind the other
 pub signature_put : (s : Signed) (b : List ℕ) (size at : ℕ) (digests before headed directed named now : List ℕ)
-    → length (spelling code_directory (directory_for s)) ≡ 88 → size ≡ signature_size (length s.name) s.limit
+    → length (spelling code_directory_rows (directory_for s)) ≡ 88 → size ≡ signature_size (length s.name) s.limit
     → at ≡ digests_offset (length s.name)
     → size ≤ length before → digests ≡ page_digests b s.limit
     → headed ≡ put 0 (row_bytes big 4 (0xfade0cc0 ∷ size ∷ 1 ∷ 0 ∷ DIRECTORY_PLACE ∷ [])) before
-    → directed ≡ put DIRECTORY_PLACE (spelling code_directory (directory_for s)) headed → named ≡ put 108 (identifier_text s.name) directed
+    → directed ≡ put DIRECTORY_PLACE (spelling code_directory_rows (directory_for s)) headed → named ≡ put 108 (identifier_text s.name) directed
     → now ≡ put at digests named → now ≡ put 0 (signature_text s b) before
 unfolding signature_text spelling
 signature_put s b size at digests before headed directed named now directory sized offset room are first second third fourth =
@@ -64,7 +64,7 @@ signature_put s b size at digests before headed directed named now directory siz
     front = row_bytes big 4 (0xfade0cc0 ∷ size ∷ 1 ∷ 0 ∷ DIRECTORY_PLACE ∷ [])
 
     directory_text : List ℕ
-    directory_text = spelling code_directory (directory_for s)
+    directory_text = spelling code_directory_rows (directory_for s)
 
     whole : size ≡ DIRECTORY_PLACE + directory_size s
     whole = omega (arith, sized, length-identifier s.name)

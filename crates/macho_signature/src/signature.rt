@@ -2,10 +2,10 @@
 ghost use Rattle.std.specs.Prelude.{◌≡◌, ◌+◌, ◌*◌, ◌-◌, ◌<◌, ◌≤◌, ◌^◌, [], ◌∷◌, length};
 ghost use Rattle.macho_bytes.specs.Numbers.{rounded_up, big, row_bytes};
 ghost use Rattle.macho_bytes.specs.Texts.{put, Stands};
-ghost use Rattle.macho_bytes.specs.Layouts.{ReadsBack};
-ghost use Rattle.macho_structs.specs.Layouts.{code_directory};
 ghost use Rattle.macho_model.specs.Signature.{DIRECTORY_PLACE, identifier_text, signature_text};
 ghost use Rattle.macho_signature.specs.Sizes.{identifier_size, digests_offset, signature_size, signed_by, directory_for};
+ghost use Rattle.macho_bytes.specs.Spellings.{ReadsBack};
+ghost use Rattle.macho_structs.specs.Spellings.{code_directory_rows};
 
 use crate::digests::{DIGEST, page_count, sign_again};
 use byteorder::{BigEndian, ByteOrder};
@@ -125,7 +125,7 @@ pub fn sign(signed: &[u8], signature: &mut [u8], signer: &Signer<'_>)
     requires room { signature_size (length signer.now.identifier.now) (length signed.now) ≤ length signature.old }
     ensures done { signature.new ≡ put 0 (signature_text (signed_by signer.now (length signed.now)) signed.now) signature.old }
     ensures length { length (signature_text (signed_by signer.now (length signed.now)) signed.now) ≡ signature_size (length signer.now.identifier.now) (length signed.now) }
-    ensures back { ReadsBack code_directory (directory_for (signed_by signer.now (length signed.now))) }
+    ensures back { ReadsBack code_directory_rows (directory_for (signed_by signer.now (length signed.now))) }
 {
     let name = signer.identifier;
     let size = signature_size(name.len(), signed.len());

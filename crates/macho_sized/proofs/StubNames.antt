@@ -2,11 +2,14 @@
 --
 -- Its text is UTF-8 and holds no NUL, so each of its bytes is one of 1 to 255. The names of its documents are slices of the text, and the
 -- symbols of its library are some of these names.
-use Rattle.std.proofs.Common.{ℕ, ◌+◌, ◌-◌, ◌<◌, ◌≤◌, List, length, drop, sym, subst, arith, All}
+use Rattle.std.proofs.Common.{ℕ, ◌+◌, ◌-◌, ◌<◌, ◌≤◌, List, ◌∷◌, length, drop, ◌≡◌, ap, ◌∙◌, sym, subst, arith, All}
 use Rattle.std.specs.List.{AllByRecursion}
 use Rattle.std.proofs.lemmas.List.Elements.{All-take, All-drop}
 use Rattle.macho_stub_lines.specs.Slices.{Slice, StandsIn}
-use Rattle.macho_stub.specs.Documents.{DocumentOf}
+use Rattle.macho_stub.specs.Documents.{DocumentOf, DocumentFields, documents_texts}
+use Rattle.macho_stub.specs.Library.{gathered}
+use Rattle.macho_stub.specs.Places.{IsStubText}
+use Rattle.macho_stub.proofs.Trees.{in_places}
 use Rattle.macho_stub.specs.Answer.{DocumentStands}
 use Rattle.macho_stub.proofs.NoNuls.{HasEach, text_plain, symbols_have, weak_symbols_have}
 use Rattle.macho_stub.proofs.TreesStand.{text_stands}
@@ -29,20 +32,25 @@ pub record NamesLetters (says : StubReading) : Type 0 where
   pub weak_names : All (All IsLetter) says.weak_names
 
 pub stub_names : (text : List ℕ) (says : StubReading) → IsStubInput text says → NamesLetters says
-stub_names text says s = subst NamesLetters (sym s.is) (record {
-  names = subst (All (All IsLetter)) (sym s.in_grammar.makes.symbols) (symbols_have text (All IsLetter) each documents stand);
-  weak_names = subst (All (All IsLetter)) (sym s.in_grammar.makes.weak_symbols) (weak_symbols_have text (All IsLetter) each documents stand);
-})
+stub_names text says s = record {
+  names = subst (All (All IsLetter)) (ap (gathered (λ item. item.names)) placed.2 ∙ sym s.names)
+      (symbols_have text (All IsLetter) each placed.0 stand);
+  weak_names = subst (All (All IsLetter)) (ap (gathered (λ item. item.weak_names)) placed.2 ∙ sym s.weak_names)
+      (weak_symbols_have text (All IsLetter) each placed.0 stand);
+}
   where
-    documents : List (DocumentOf Slice)
-    documents = s.in_grammar.says
+    documents : List DocumentFields
+    documents = s.main ∷ s.others
 
-    stand : AllByRecursion (DocumentStands text) documents
-    stand = text_stands text documents s.in_grammar.in_grammar
+    placed : (slices : List (DocumentOf Slice)) × IsStubText text slices × (documents_texts slices ≡ documents)
+    placed = in_places text documents s.in_grammar
+
+    stand : AllByRecursion (DocumentStands text) placed.0
+    stand = text_stands text placed.0 placed.1
 
     letters : All IsLetter text
     letters k d within =
-        let some = text_plain text documents s.in_grammar.in_grammar k d within in
+        let some = text_plain text placed.0 placed.1 k d within in
         let small = of_utf8 text s.utf8 k d within in
         (omega (arith, some), small)
 

@@ -19,9 +19,13 @@ use Rattle.macho_lists.proofs.Members.{all_contains, contains_first, contains_la
 use Rattle.macho_lists.proofs.Members.{enumerate_contains}
 use Rattle.macho_model.specs.Objects.{num_symbols, symbol_at, symbol_name, strings_of, symtab_of}
 use Rattle.macho_model.specs.Links.{Link, Input, Object, Dylib, Stub, object_bytes, object_of, no_input}
-use Rattle.macho_model.specs.Resolution.{SymbolId, Definition, Symbol, Library, ImageBase, strong_of, weak_of, greatest_of}
-use Rattle.macho_model.specs.Resolution.{is_offered_symbol, offers, libraries_with, first_or, definition_of, DSO_HANDLE}
-use Rattle.macho_model.specs.Needs.{is_library, is_imported, imports_of, name_used, uses_of, distinct}
+use Rattle.macho_model.specs.Resolution.{SymbolId, Definition, Symbol, Library, ImageBase, strong_of, greatest_of}
+use Rattle.macho_model.specs.steps.Resolved.{weak_of}
+use Rattle.macho_model.specs.Resolution.{offers, libraries_with}
+use Rattle.macho_model.specs.steps.Resolved.{is_offered_symbol, first_or, DSO_HANDLE}
+use Rattle.macho_model.specs.Needs.{is_imported, imports_of, distinct}
+use Rattle.macho_model.specs.steps.Resolved.{is_library}
+use Rattle.macho_model.specs.Uses.{name_used, uses_of}
 use Rattle.macho_model.specs.Told.{from_object, from_library}
 use Rattle.macho_promise.specs.Inputs.{IsInput}
 use Rattle.macho_targets.proofs.Named.{defined_by}
@@ -30,6 +34,11 @@ use Rattle.macho_sized.specs.Laws.{ExportsAreSpelled, HasBytes, LinksHaveSizes}
 use Rattle.macho_sized.proofs.Utf8.{IsByte}
 use Rattle.macho_sized.proofs.StubNames.{IsLetter, stub_names}
 use Rattle.macho_sized.proofs.Sized.{sizes_are}
+use Rattle.macho_model.proofs.Uses.{imports_are}
+use Rattle.macho_model.proofs.Resolved.{definition_is_first}
+use Rattle.macho_model.specs.steps.Resolved.{first_definition}
+use Rattle.std.proofs.Common.{ap}
+use Rattle.std.proofs.Common.{◌∙◌}
 
 some_byte : (x : ℕ) → (x == 0) ≡ false → 1 ≤ x
 some_byte x e = grind (arith, nat_tests)
@@ -113,10 +122,10 @@ some_library [] false e = cc
 some_library (file ∷ files) b e = (file, contains_first file files)
 
 imported_spelled : (l : Link) (name : List ℕ) → All IsInput l.inputs → All HasBytes l.inputs → is_imported l name ≡ true → All IsLetter name
-unfolding definition_of libraries_with
+unfolding first_definition libraries_with
 imported_spelled l name are have e =
     let found = some_library (libraries_with l name) (bytes_eq name DSO_HANDLE)
-    (no_symbol (greatest_of l name) _ (no_symbol (weak_of l name) _ (no_symbol (strong_of l name) _ e))) in
+    (no_symbol (greatest_of l name) _ (no_symbol (weak_of l name) _ (no_symbol (strong_of l name) _ (ap is_library (sym (definition_is_first l name)) ∙ e)))) in
     let m = map_contains (λ (i : ℕ × Input). i.0) (filter (λ i. offers name i.1) (enumerate_from 0 l.inputs)) found.0 found.1 in
     let of = filter_contains (λ (i : ℕ × Input). offers name i.1) (enumerate_from 0 l.inputs) m.0 m.1 in
     let number = enumerate_contains l.inputs m.0 of.0 in
@@ -135,11 +144,10 @@ of_distinct (y ∷ xs) x there =
 
 import_spelled : (l : Link) (name : List ℕ) → All IsInput l.inputs → All HasBytes l.inputs → Contains (imports_of l) name
     → All IsLetter name
-unfolding imports_of
 import_spelled l name are have there =
     imported_spelled l name are have
     (filter_contains (is_imported l) (filter_map (name_used l) (uses_of l)) name
-    (of_distinct (filter (is_imported l) (filter_map (name_used l) (uses_of l))) name there)).1
+    (of_distinct (filter (is_imported l) (filter_map (name_used l) (uses_of l))) name (subst (λ (ns : List (List ℕ)). Contains ns name) (imports_are l) there))).1
 
 exports_spelled : (l : Link) → All IsInput l.inputs → All HasBytes l.inputs → ExportsAreSpelled l
 exports_spelled l are have name weak (from_object s exported) =

@@ -40,6 +40,7 @@ use Rattle.macho_linkedit.proofs.Members.{in_distinct, in_map, from_map}
 use Rattle.macho_needs.specs.Tables.{with_some}
 use Rattle.macho_needs.proofs.Deciding.{targets_decide}
 use Rattle.macho_sizing.specs.steps.Personalities.{personality_named, personality_of}
+use Rattle.macho_model.proofs.Uses.{personalities_are as targets_are}
 
 -- an entry that says nothing
 abbrev pub no_entry : UnwindEntry
@@ -129,8 +130,8 @@ rows_named l (d ∷ ds) keeps each =
 -- THE personality functions of a link are those that its rows name
 pub personalities_are : (l : Link) → EntriesKeepRules l
     → distinct same_target (filter_map (personality_of l) (entry_rows l)) ≡ personality_targets l
-unfolding entry_rows personality_targets
-personalities_are l keeps = ap (distinct same_target) (rows_named l (entries_of_link l) keeps (in_section l))
+unfolding entry_rows
+personalities_are l keeps = ap (distinct same_target) (rows_named l (entries_of_link l) keeps (in_section l)) ∙ sym (targets_are l)
 
 -- numbers, by the test whether a list has one
 has_there : (x : ℕ) (xs : List ℕ) → has x xs ≡ true → Contains xs x

@@ -30,6 +30,7 @@ use Rattle.macho_faults.specs.declared.fault.LinkError.TheVariants as error
 use Rattle.macho_faults.specs.Standing.{Stands}
 use Rattle.macho_sizing.specs.steps.Rooms.{kept_counts, IsLaid, passed_pages, HasMany, HasFew}
 use Rattle.macho_sizing.proofs.Larger.{outputs_kept, written_grows, some_kept}
+use Rattle.macho_model.proofs.Parts.{in_segment_of}
 
 pub is_laid : (l : Link) (p : Planning) (counts : Counts) (q : Placed) → IsPlanOf l p → FitsLimits p counts → IsLaidOut p counts q
     → IsSmall q
@@ -46,7 +47,7 @@ is_kept l counts q are w = record {
   counts = kept_counts counts;
   counted = record { whole = counts; are = are; capped = refl };
   placed = w.placed;
-  laid_out = record { order = w.order; least = w.least; sections = w.sections };
+  laid_out = record { segments = w.order.segments; names = w.order.names; least = w.least; sections = w.sections };
 }
 
 -- a number that a layout tells passes its limit
@@ -93,7 +94,7 @@ pub unwind_passes : (l : Link) (counts : Counts) (q : Placed) → IsWhollyPlaced
     → ImagePasses l q
 unwind_passes l counts q w large =
     let room : q.unwind.end ≡ q.unwind.start + 2 ^ 32 = omega (arith, w.least.rooms.unwind, large) in
-    elim w.placed.in_segment.unwind.1 [
+    elim (in_segment_of w.placed).unwind.1 [
       | inl empty ↦ absurd (omega (arith, room, empty))
       | inr lies ↦ inl (lies.0, lies.1, inr (omega (arith, lies.3.from, lies.3.to, room)))
     ]

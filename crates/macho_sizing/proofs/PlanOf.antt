@@ -18,7 +18,8 @@ use Rattle.macho_model.specs.Links.{Link, Input, Object, Dylib, Stub, object_byt
 use Rattle.macho_model.specs.declared.targets.Target.{Target}
 use Rattle.macho_model.specs.declared.targets.Target.TheVariants as target
 use Rattle.macho_model.specs.Targets.{slots_of, stubs_of, same_target}
-use Rattle.macho_model.specs.Resolution.{SymbolId, entry_at, symbols_of, symbols_of_file, is_chosen, chosen_commons}
+use Rattle.macho_model.specs.Resolution.{SymbolId, entry_at, symbols_of, symbols_of_file, chosen_commons}
+use Rattle.macho_model.specs.LinkLaws.{is_chosen}
 use Rattle.macho_object.specs.Views.{FileBytes}
 use Rattle.macho_parts.specs.Views.{object_view, views_of, ViewsObject}
 use Rattle.macho_symbols.specs.declared.solved.Common.{Common}

@@ -26,14 +26,16 @@ use Rattle.macho_model.specs.Links.{Link, header_at, carried_of}
 use Rattle.macho_model.specs.Targets.{is_import}
 use Rattle.macho_model.specs.Fields.{Field, fields_of}
 use Rattle.macho_model.specs.Segments.{DATA, DATA_CONST, may_hold_pointers, loaded_protection_of}
-use Rattle.macho_model.specs.Placement.{Placed, id_of, section_span, slot_span, LiesIn, LiesInNamed, SectionLies}
+use Rattle.macho_model.specs.Placement.{Placed, id_of}
+use Rattle.macho_model.specs.Spans.{section_span, slot_span}
+use Rattle.macho_model.specs.steps.Parts.{LiesIn, LiesInNamed, SectionLies}
 use Rattle.macho_model.specs.Images.{segments_of, Table, tables_of, fixups_header}
 use Rattle.macho_model.specs.Chain.{ChainSegment, chain_segment, chain_segments, IsFileWord, OnPageChain}
 use Rattle.macho_model.specs.Needs.{POINTER_SIZE}
-use Rattle.macho_model.specs.LoadRules.{protections_fit, table_fits, import_fits}
-use Rattle.macho_model.specs.Loader.{is_bind, ordinal_of, is_writable, import_count, WordFits}
+use Rattle.macho_model.specs.LoadRules.{table_fits, import_fits, protections_fit}
+use Rattle.macho_model.specs.Loader.{is_bind, ordinal_of, WordFits}
 use Rattle.macho_model.specs.Fixups.{has_room, import_entries_of}
-use Rattle.macho_model.specs.Agreement.{SegmentPlace, place_by_command, place_told, SegmentsAgree}
+use Rattle.macho_model.specs.Agreement.{SegmentsAgree}
 use Rattle.macho_model.specs.Values.{is_pointer, is_absolute_target}
 use Rattle.macho_model.specs.Stands.{is_template_offset}
 use Rattle.macho_fixups.specs.declared.run.Fixup.{Fixup}
@@ -59,12 +61,16 @@ use Rattle.macho_standing.proofs.Words.{import_number_of, own_is_among, slot_has
 use Rattle.macho_standing.proofs.Rests.{IsLed}
 use Rattle.macho_standing.proofs.Entries.{the_one, imports_fit}
 use Rattle.macho_standing.proofs.Whole.{ready_of, led_of}
+use Rattle.macho_model.specs.steps.Loader.{import_count}
+use Rattle.macho_model.specs.steps.Agreement.{SegmentPlace, place_by_command, place_told}
+use Rattle.macho_model.proofs.Parts.{in_order_of, in_segment_of}
+use Rattle.macho_model.specs.SegmentRules.{is_writable}
 
 -- the eighth rule
 table_taken : (l : Link) (counts : Counts) (uuid b : List ℕ) (p : Placed) (h : IsLed l counts uuid b p)
     → table_fits b h.composed.fixups.say.table ≡ true
 table_taken l counts uuid b p h =
-    h.composed.fixups.table.taken b h.composed.fixups.say.table h.composed.fixups.say.text (record {
+    h.composed.fixups.table.taken b h.composed.fixups.say.table h.composed.fixups.text (record {
       inside = h.composed.fixups.inside;
       room = h.composed.fixups.room;
       begins = one_base l counts b p h.placed h.composed.agrees.commands.segments;
@@ -145,7 +151,7 @@ holds_pointers name h = elim (or_cases (bytes_eq name DATA) (bytes_eq name DATA_
 in_written : (l : Link) (counts : Counts) (uuid b : List ℕ) (p : Placed) → IsLed l counts uuid b p → (f : Fixup) → IsFixupOf l p f
     → IsInWritten p f.address
 in_written l counts uuid b p h _ (asked.IsFixupOf.slot s one) =
-    let lies = All-contains (λ (x : Slot). LiesInNamed p DATA_CONST true (slot_span x)) p.slots s h.placed.in_segment.slots one in
+    let lies = All-contains (λ (x : Slot). LiesInNamed p DATA_CONST true (slot_span x)) p.slots s (in_segment_of h.placed).slots one in
     record {
       segment = lies.0;
       one = lies.1;
@@ -155,7 +161,7 @@ in_written l counts uuid b p h _ (asked.IsFixupOf.slot s one) =
     }
 in_written l counts uuid b p h _ (asked.IsFixupOf.pointer q f one field needs) =
     let carried = placed_is_carried l p q h.placed.whole_list one in
-    let lies = All-contains (SectionLies l p) p.sections q h.placed.in_segment.sections one in
+    let lies = All-contains (SectionLies l p) p.sections q (in_segment_of h.placed).sections one in
     let name : text_of lies.0.name ≡ segment_name_of (header_at l (id_of q)) =
     same_bytes (text_of lies.0.name) (segment_name_of (header_at l (id_of q))) lies.2 in
     let inside = pointer_inside l p q f h.placed.whole_list h.leads one field needs in
@@ -237,12 +243,12 @@ word_fits told l counts uuid b p h protections number s page a is on =
     seen = chain_is_seen told l b p h.composed.fixups h.composed.agrees.commands.segments
 
     page_word : IsPageWord h.composed.fixups.say.fixups (chain_segment b (number, s)) page a
-    page_word = h.composed.fixups.chain.pages b (chain_segment b (number, s)) page a h.composed.fixups.say.words
+    page_word = h.composed.fixups.chain.pages b (chain_segment b (number, s)) page a h.composed.fixups.words
         (subst (λ (gs : List ChainSegment). Contains gs (chain_segment b (number, s))) seen (seen_at b number s is))
         (subst (λ (gs : List ChainSegment). OnPageChain gs b (chain_segment b (number, s)) page a) seen on)
 
     of_fixup : IsFixupOf l p page_word.one.0
-    of_fixup = All-contains (IsFixupOf l p) h.composed.fixups.say.fixups page_word.one.0 h.composed.fixups.say.each page_word.one.1
+    of_fixup = (h.composed.fixups.say.are page_word.one.0).0 page_word.one.1
 
     written : IsInWritten p a
     written = subst (IsInWritten p) page_word.one.2 (in_written l counts uuid b p h page_word.one.0 of_fixup)
@@ -252,14 +258,14 @@ word_fits told l counts uuid b p h protections number s page a is on =
 
     one : placed.segment ≡ written.segment
     one =
-        let address : s.vmaddr ≡ placed.segment.address = ap (λ (x : SegmentPlace). x.address) placed.same in
-        let size : s.filesize ≡ placed.segment.file_size = ap (λ (x : SegmentPlace). x.file_size) placed.same in
+        let address : s.vmaddr ≡ placed.segment.address = ap (λ (x : SegmentPlace). x.1) placed.same in
+        let size : s.filesize ≡ placed.segment.file_size = ap (λ (x : SegmentPlace). x.4) placed.same in
         one_segment p placed.segment written.segment a h.composed.head.segments placed.one written.one
         (omega (arith, address, page_word.page_from))
         (omega (arith, address, size, page_word.inside)) written.from (omega (arith, written.to))
 
     name : name_of s.segname ≡ text_of written.segment.name
-    name = ap (λ (x : SegmentPlace). x.name) placed.same ∙ ap (λ (x : PlacedSegment). text_of x.name) one
+    name = ap (λ (x : SegmentPlace). x.0) placed.same ∙ ap (λ (x : PlacedSegment). text_of x.name) one
 
     imports : (word : ℕ) → IsFileWord (chain_segments b) b a word → is_bind word ≡ true → ordinal_of word < import_count b (tables_of b)
     imports word stands binds =
@@ -269,7 +275,7 @@ word_fits told l counts uuid b p h protections number s page a is on =
         subst (λ (g : Fixup). IsFileWord (map (chain_seen fixups) (fixup_segments p)) b g.address word) (sym f.1.2)
         (subst (λ (x : ℕ). IsFileWord (map (chain_seen fixups) (fixup_segments p)) b x word) (sym f.2)
         (subst (λ (gs : List ChainSegment). IsFileWord gs b a word) seen stands)) in
-        let says = (h.composed.fixups.chain.says b f.1.0 word f.0 h.composed.fixups.say.words f.1.1 there).says in
+        let says = (h.composed.fixups.chain.says b f.1.0 word f.0 h.composed.fixups.words f.1.1 there).says in
         let kind : Says f.0.kind word = subst (λ (g : Fixup). Says g.kind word) f.1.2 says in
         let below = fixup_ordinal l counts uuid b p h f.0 of_fixup word kind binds in
         let t = h.composed.imports.table.table in
@@ -280,7 +286,7 @@ word_fits told l counts uuid b p h protections number s page a is on =
 pub composed_is_accepted : HeadKeepsRules → ChainsAreTold → ComposedIsAccepted
 composed_is_accepted keeps told l counts uuid b p image =
     let h = led_of l counts uuid b p image in
-    let head = keeps l counts uuid b p h.composed.head.says h.placed.in_order h.composed.head.room in
+    let head = keeps l counts uuid b p h.composed.head.says (in_order_of h.placed) h.composed.head.room in
     let w = h.composed.fixups in
     let T : Table → Type 0 = λ t. table_fits b t ≡ true in
     record {

@@ -14,8 +14,11 @@ use Rattle.macho_model.specs.declared.placed.Slot.{Slot}
 use Rattle.macho_model.specs.declared.placed.Stub.{Stub}
 use Rattle.macho_model.specs.Links.{Link, header_at, carried_of}
 use Rattle.macho_model.specs.Fields.{Field, fields_of}
-use Rattle.macho_model.specs.Placement.{Placed, Span, AreApart, id_of, head_span, section_span, common_span, slot_span, stub_span}
-use Rattle.macho_model.specs.Placement.{range_span, linkedit_span, linkedit_ranges, spans_with, IsWholeList}
+use Rattle.macho_model.specs.Placement.{Placed, id_of}
+use Rattle.macho_model.specs.Zeros.{Span}
+use Rattle.macho_model.specs.Spans.{AreApart, head_span, section_span, common_span, slot_span, stub_span}
+use Rattle.macho_model.specs.Placement.{linkedit_ranges, IsWholeList}
+use Rattle.macho_model.specs.Spans.{range_span, linkedit_span, spans_with}
 use Rattle.macho_model.specs.Values.{needs_fixup}
 use Rattle.macho_model.specs.Fixups.{IsFixupPlace, ChainIsWhole}
 use Rattle.macho_model.specs.Fixups as place
@@ -25,6 +28,7 @@ use Rattle.macho_standing.specs.Leads.{TargetsLead}
 use Rattle.macho_standing.proofs.Members.{in_map, at_front, at_rest, pairs_left, pairs_right, pairs_across, one_or_pair}
 use Rattle.macho_standing.proofs.Run.{free_apart}
 use Rattle.macho_standing.proofs.Fits.{fixed_pointer}
+use Rattle.macho_model.proofs.Parts.{same_order}
 
 pub apart_back : (a b : Span) → AreApart a b → AreApart b a
 apart_back a b (inl none) = inr (inl none)
@@ -144,7 +148,7 @@ parts_apart l counts p all =
 -- a placed section is carried
 pub placed_is_carried : (l : Link) (p : Placed) (q : PlacedSection) → IsWholeList l p → Contains p.sections q
     → Contains (carried_of l) (id_of q)
-placed_is_carried l p q whole one = Contains-permutation (map id_of p.sections) (carried_of l) (id_of q) whole.sections
+placed_is_carried l p q whole one = Contains-permutation (map id_of p.sections) (carried_of l) (id_of q) (same_order whole.sections)
     (in_map id_of p.sections q one)
 
 -- a pointer that the loader writes lies in its section

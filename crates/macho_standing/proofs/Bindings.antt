@@ -19,7 +19,7 @@ use Rattle.macho_model.specs.Images.{Table, tables_of, import_entry, import_name
 use Rattle.macho_model.specs.Loader.{ordinal_of}
 use Rattle.macho_model.specs.Memory.{Choice, chosen, bind_addend, BindsAll}
 use Rattle.macho_model.specs.Fixups.{EntryOfImport, same_entry, has_room, own_entries, import_entries_of}
-use Rattle.macho_model.specs.ImportTable.{no_entry, entry_of_link, name_of_entry}
+use Rattle.macho_model.specs.ImportTable.{entry_of_link, name_of_entry}
 use Rattle.macho_model.specs.SlideLaws.{BindsAt}
 use Rattle.macho_fixups.specs.declared.run.Fixup.{Fixup}
 use Rattle.macho_fixups.specs.declared.words.FixupKind.{FixupKind}
@@ -30,6 +30,7 @@ use Rattle.macho_standing.specs.Composed.{ImportsAreWritten}
 use Rattle.macho_standing.proofs.Distinct.{first_within, first_is}
 use Rattle.macho_standing.proofs.Libraries.{library_is_found}
 use Rattle.macho_standing.proofs.Run.{HasWord}
+use Rattle.macho_model.specs.steps.ImportTable.{no_entry}
 
 abbrev entry : ℕ → ℕ → EntryOfImport
 entry id addend = record { import = id; addend = addend }

@@ -27,12 +27,15 @@ use Rattle.macho_model.specs.Needs.{relocation_in}
 use Rattle.macho_model.specs.Fields.{Field, fields_of, content_of}
 use Rattle.macho_model.specs.Segments.{PAGEZERO, TEXT, DATA, SEGMENT_PAGE}
 use Rattle.macho_model.specs.WrittenSum.{STUB_SIZE}
-use Rattle.macho_model.specs.Placement.{Placed, Span, id_of, section_span, common_span, stub_span, slot_span, is_segment_named, LiesIn}
-use Rattle.macho_model.specs.Placement.{LiesInNamed, SectionLies}
+use Rattle.macho_model.specs.Placement.{Placed, id_of, is_segment_named}
+use Rattle.macho_model.specs.Zeros.{Span}
+use Rattle.macho_model.specs.Spans.{section_span, common_span, stub_span, slot_span, IsOutsideField}
+use Rattle.macho_model.specs.steps.Parts.{LiesIn}
+use Rattle.macho_model.specs.steps.Parts.{LiesInNamed, SectionLies}
 use Rattle.macho_model.specs.Addresses.{offset_in_file}
 use Rattle.macho_model.specs.Memory.{Choice, BindsAll, Holds, HoldsNumber}
 use Rattle.macho_model.specs.HeldLaws.{IsFree}
-use Rattle.macho_model.specs.Stands.{IsOutsideField, kind_of, Says, Denotes, SectionStands, CommonStands, StubStands}
+use Rattle.macho_model.specs.Stands.{kind_of, Says, Denotes, SectionStands, StubStands}
 use Rattle.macho_model.specs.Values.{needs_fixup}
 use Rattle.macho_parts.specs.Filled.{FieldIsSet, bytes_in_file}
 use Rattle.macho_standing.specs.Composed.{SectionIsWritten, StubIsWritten}
@@ -43,6 +46,8 @@ use Rattle.macho_standing.proofs.Apart.{parts_apart, placed_is_carried, part_fre
 use Rattle.macho_standing.proofs.Held.{IsBacked, place_in_file, number_held, byte_held, zero_held, section_is_mapped, segment_small}
 use Rattle.macho_standing.proofs.Rests.{RestsOn, IsReady, IsJoined, AreZero}
 use Rattle.macho_standing.proofs.Words.{pointer_stands}
+use Rattle.macho_model.specs.steps.Stands.{CommonStands}
+use Rattle.macho_model.proofs.Parts.{apart_of, in_segment_of}
 
 -- a segment that is not the one that keeps addresses free
 pub backed : (l : Link) (counts : Counts) (b : List ℕ) (p : Placed) (s : PlacedSegment) → IsReady l counts p → IsJoined l b p
@@ -75,7 +80,7 @@ has_segment : (l : Link) (counts : Counts) (b : List ℕ) (p : Placed) (q : Plac
     → Contains p.sections q
     → HasSegment l b p q
 has_segment l counts b p q ready joined one =
-    let lies = All-contains (SectionLies l p) p.sections q ready.placed.in_segment.sections one in
+    let lies = All-contains (SectionLies l p) p.sections q (in_segment_of ready.placed).sections one in
     let s = lies.0 in
     let there : Contains p.segments s = (q.segment, lies.1.0, lies.1.1) in
     let named = section_is_mapped l (id_of q) s (placed_is_carried l p q ready.placed.whole_list one) lies.2 same_bytes in
@@ -104,7 +109,7 @@ outside_free : (l : Link) (counts : Counts) (b : List ℕ) (p : Placed) (q : Pla
     → Contains p.sections q
     → i < (header_at l (id_of q)).size → All (IsOutsideField i) (fields_of l (id_of q)) → IsFree b (q.address + i) 1
 outside_free l counts b p q i ready joined one within outside =
-    section_free l counts b p q i 1 ready.placed.whole_list (parts_apart l counts p ready.placed.apart) ready.leads joined.chain one
+    section_free l counts b p q i 1 ready.placed.whole_list (parts_apart l counts p (apart_of ready.placed)) ready.leads joined.chain one
     (omega (arith, within)) (omega arith)
     (λ f field needs.
     let wide = (fixed_pointer l (id_of q) f needs).0 in
@@ -173,7 +178,7 @@ field_free : (l : Link) (counts : Counts) (b : List ℕ) (p : Placed) (q : Place
 field_free l counts b p q f ready joined one field plain =
     let carried = placed_is_carried l p q ready.placed.whole_list one in
     section_free l counts b p q f.offset f.width ready.placed.whole_list
-    (parts_apart l counts p ready.placed.apart) ready.leads joined.chain one
+    (parts_apart l counts p (apart_of ready.placed)) ready.leads joined.chain one
     (ready.leads.inside (id_of q) f carried field) (some_width l q f field)
     (λ g other needs.
     let wide = (fixed_pointer l (id_of q) g needs).0 in
@@ -253,11 +258,11 @@ pub common_stands : (rests : RestsOn) (l : Link) (counts : Counts) (b : List ℕ
     → AreZero l b p → (s : ℕ) (choice : Choice)
     → (c : PlacedCommon) → Contains p.commons c → CommonStands l b s choice c
 common_stands rests l counts b p ready joined zeros s choice c one i within =
-    let lies = All-contains (λ (d : PlacedCommon). LiesInNamed p DATA false (common_span l d)) p.commons c ready.placed.in_segment.commons
+    let lies = All-contains (λ (d : PlacedCommon). LiesInNamed p DATA false (common_span l d)) p.commons c (in_segment_of ready.placed).commons
     one in
     let seg = lies.0 in
     let back = backed l counts b p seg ready joined lies.1 (of_data seg lies.2) in
-    let apart = parts_apart l counts p ready.placed.apart in
+    let apart = parts_apart l counts p (apart_of ready.placed) in
     let free = part_free l b p (common_span l c) (c.address + i) 1 ready.placed.whole_list ready.leads joined.chain
     (λ q in_q. apart.section_common q c in_q one)
     (λ t in_t. apart_back (common_span l c) (slot_span t) (apart.common_slot c t one in_t)) (omega arith) (omega (arith, within))
@@ -275,10 +280,10 @@ pub stub_stands : (rests : RestsOn) (l : Link) (counts : Counts) (b : List ℕ) 
     → (s : ℕ) (choice : Choice)
     → s % SEGMENT_PAGE ≡ 0 → (stub : Stub) → Contains p.stubs stub → StubIsWritten b p stub → StubStands b p s choice stub
 stub_stands rests l counts b p ready joined s choice whole stub one written =
-    let lies = All-contains (λ (t : Stub). LiesInNamed p TEXT true (stub_span t)) p.stubs stub ready.placed.in_segment.stubs one in
+    let lies = All-contains (λ (t : Stub). LiesInNamed p TEXT true (stub_span t)) p.stubs stub (in_segment_of ready.placed).stubs one in
     let seg = lies.0 in
     let back = backed l counts b p seg ready joined lies.1 (of_text seg lies.2) in
-    let apart = parts_apart l counts p ready.placed.apart in
+    let apart = parts_apart l counts p (apart_of ready.placed) in
     let place = place_in_file p seg stub.address ready.order lies.1 lies.3.from (omega (arith, lies.3.to)) in
     let off = offset_in_file p stub.address in
     let free = λ (k : ℕ) (within : k + 4 ≤ 12). part_free l b p (stub_span stub)

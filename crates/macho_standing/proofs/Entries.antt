@@ -28,7 +28,7 @@ use Rattle.macho_model.specs.Placement.{Placed}
 use Rattle.macho_model.specs.Images.{Table, tables_of, libraries_of, fixups_header, import_entry, table_names}
 use Rattle.macho_model.specs.LoadRules.{import_fits}
 use Rattle.macho_model.specs.Fixups.{EntryOfImport, same_entry, has_room, own_entry, own_entries, import_entries_of, import_format}
-use Rattle.macho_model.specs.ImportTable.{names_text, no_entry, entry_of_link, name_of_entry, name_place}
+use Rattle.macho_model.specs.ImportTable.{names_text, entry_of_link, name_of_entry, name_place}
 use Rattle.macho_model.specs.Values.{is_pointer}
 use Rattle.macho_parts.specs.FixupsSay.{fixup_segments}
 use Rattle.macho_standing.specs.Leads.{HasPlace, TargetsLead}
@@ -38,6 +38,7 @@ use Rattle.macho_standing.proofs.Run.{table_read}
 use Rattle.macho_standing.proofs.Libraries.{library_number_fits}
 use Rattle.macho_standing.proofs.Rests.{IsLed}
 use Rattle.macho_standing.proofs.TableLength.{table_long}
+use Rattle.macho_model.specs.steps.ImportTable.{no_entry}
 
 -- the one table of a list
 pub the_one : (ts : List Table) (t u : Table) → ts ≡ t ∷ [] → Contains ts u → t ≡ u
@@ -144,7 +145,7 @@ imports_fit l counts uuid b p h k lt =
     the_one (tables_of b) h.composed.fixups.say.table t h.composed.fixups.say.one
     (subst (λ (ts : List Table). Contains ts t) (sym w.table.one) (at_front t [])) in
     let header = ap (λ (x : ChainedFixupsHeader). x.symbols_offset) (table_read l b p h.composed.fixups).header in
-    let long = table_long p.base h.composed.fixups.say.fixups (fixup_segments p) (import_format l) h.composed.fixups.say.entries
+    let long = table_long p.base h.composed.fixups.say.fixups (fixup_segments p) (import_format l) h.composed.fixups.entries
     (names_text l) in
     let at : h.composed.fixups.say.table.at ≡ t.at = ap (λ (x : Table). x.at) same in
     let size : h.composed.fixups.say.table.size ≡ t.size = ap (λ (x : Table). x.size) same in

@@ -22,7 +22,8 @@ use Rattle.macho_model.specs.Memory.{Choice, Holds, HoldsNumber}
 use Rattle.macho_model.specs.HeldLaws.{IsFree, TextsAreHeld, ZerosAreHeld, NumbersAreHeld}
 use Rattle.macho_fixups.specs.declared.run.FixupSegment.{FixupSegment}
 use Rattle.macho_fixups.specs.Runs.{AreSegments}
-use Rattle.macho_parts.specs.FixupsSay.{fixup_segment, fixup_segments}
+use Rattle.macho_parts.specs.FixupsSay.{fixup_segments}
+use Rattle.macho_parts.specs.steps.Segments.{fixup_segment}
 use Rattle.std.specs.Str.{bytes_eq}
 use Rattle.macho_standing.proofs.Members.{of_filter, one_or_pair, in_map}
 use Rattle.macho_standing.proofs.Segments.{IsMapped}

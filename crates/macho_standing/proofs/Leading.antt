@@ -16,10 +16,14 @@ use Rattle.macho_model.specs.declared.targets.Target.{Target}
 use Rattle.macho_model.specs.declared.targets.Target.TheVariants as target
 use Rattle.macho_model.specs.ExportLists.{plain_entries}
 use Rattle.macho_model.specs.Links.{Link, SectionId, header_at, is_carried, is_unwind_entries, sections_of, carried_of}
-use Rattle.macho_model.specs.Needs.{Use, ByRelocation, ByInitializer, ByPersonality, ByName, uses_of, distinct, is_imported, relocation_in}
-use Rattle.macho_model.specs.Needs.{section_named, symbol_of_relocation, relocations_of, relocations_at, carried_uses, initializer_uses}
-use Rattle.macho_model.specs.Needs.{personality_uses, initializer_sections, unwind_sections, UNWIND_ENTRY_SIZE, PERSONALITY_PLACE}
-use Rattle.macho_model.specs.Targets.{is_import, is_defined, same_target, goes_by_slot, slot_of_use, slots_of}
+use Rattle.macho_model.specs.Needs.{distinct, is_imported, relocation_in}
+use Rattle.macho_model.specs.Uses.{Use, ByRelocation, ByInitializer, ByPersonality, ByName, uses_of}
+use Rattle.macho_model.specs.Needs.{section_named, symbol_of_relocation, relocations_of, relocations_at}
+use Rattle.macho_model.specs.Uses.{carried_uses, initializer_uses}
+use Rattle.macho_model.specs.Needs.{initializer_sections, unwind_sections, UNWIND_ENTRY_SIZE, PERSONALITY_PLACE}
+use Rattle.macho_model.specs.Uses.{personality_uses}
+use Rattle.macho_model.specs.Targets.{is_import, is_defined, same_target, slots_of}
+use Rattle.macho_model.specs.Uses.{goes_by_slot, slot_of_use}
 use Rattle.macho_model.specs.Targets.{target_of_relocation}
 use Rattle.macho_model.specs.Fields.{Field, field_of, fields_of, is_prefix_type}
 use Rattle.macho_model.specs.Rows.{is_none, has_form, defined_or_import, is_supported}
@@ -35,6 +39,7 @@ use Rattle.macho_standing.proofs.Distinct.{of_distinct}
 use Rattle.macho_standing.proofs.Fits.{field_number, field_fits_in, fixed_pointer}
 use Rattle.macho_standing.proofs.Inputs.{IsSectionOf, section_of_file}
 use Rattle.macho_standing.proofs.Targets.{relocation_has}
+use Rattle.macho_model.proofs.Uses.{slots_are}
 
 -- a carried section is one of an object
 pub carried_section : (l : Link) (s : SectionId) → ObjectsAreRead l → Contains (carried_of l) s → IsSectionOf l s
@@ -256,13 +261,15 @@ use_leads l u t inputs sound fit one asks =
         (named_type l m.0 r.0 both.0 both.1) lead.0 lead.1)
 
 slots_lead : (l : Link) → ObjectsAreRead l → RelocationsAreSupported l → PersonalitiesFit l → All (HasPlace l) (slots_of l)
-unfolding slots_of
-slots_lead l inputs sound fit k d lt =
-    let t = get_or (distinct same_target (filter_map (slot_of_use l) (uses_of l))) k d in
-    let there = of_distinct same_target (filter_map (slot_of_use l) (uses_of l)) t
-    (All-contains_itself (distinct same_target (filter_map (slot_of_use l) (uses_of l))) k d lt) in
-    let u = of_filter_map (slot_of_use l) (uses_of l) t there in
-    use_leads l u.0 t inputs sound fit u.1 u.2
+slots_lead l inputs sound fit = subst (All (HasPlace l)) (sym (slots_are l)) each
+  where
+    each : All (HasPlace l) (distinct same_target (filter_map (slot_of_use l) (uses_of l)))
+    each k d lt =
+        let t = get_or (distinct same_target (filter_map (slot_of_use l) (uses_of l))) k d in
+        let there = of_distinct same_target (filter_map (slot_of_use l) (uses_of l)) t
+        (All-contains_itself (distinct same_target (filter_map (slot_of_use l) (uses_of l))) k d lt) in
+        let u = of_filter_map (slot_of_use l) (uses_of l) t there in
+        use_leads l u.0 t inputs sound fit u.1 u.2
 
 -- THE link leads.
 pub link_leads : (l : Link) → ObjectsAreRead l → RelocationsAreSupported l → PersonalitiesFit l → TargetsLead l

@@ -13,13 +13,21 @@ use Rattle.std.proofs.lemmas.List.FromFn.{length-enumerate_from, get_or-enumerat
 use Rattle.std.proofs.lemmas.List.{get_or_default}
 use Rattle.std.proofs.lemmas.Slice.Eq.{bytes_eq-Decides}
 use Rattle.macho_model.specs.Links.{Link, Input, Object, Dylib, Stub, no_input}
-use Rattle.macho_model.specs.Resolution.{Definition, Symbol, Library, ImageBase, first_or, strong_of, weak_of, greatest_of, libraries_with, library_of_input}
-use Rattle.macho_model.specs.Resolution.{offers, definition_of, DSO_HANDLE, library_name}
-use Rattle.macho_model.specs.Needs.{distinct, imports_of, is_imported, is_library, library_file, import_library}
-use Rattle.macho_model.specs.Needs.{libraries_needed, uses_of, name_used}
+use Rattle.macho_model.specs.Resolution.{Definition, Symbol, Library, ImageBase, strong_of, greatest_of, libraries_with, library_of_input}
+use Rattle.macho_model.specs.steps.Resolved.{first_or, weak_of}
+use Rattle.macho_model.specs.Resolution.{offers, definition_of}
+use Rattle.macho_model.specs.steps.Resolved.{DSO_HANDLE}
+use Rattle.macho_model.specs.Resolution.{library_name}
+use Rattle.macho_model.specs.Needs.{distinct, imports_of, is_imported, import_library}
+use Rattle.macho_model.specs.steps.Resolved.{is_library, library_file}
+use Rattle.macho_model.specs.Needs.{libraries_needed}
+use Rattle.macho_model.specs.Uses.{uses_of, name_used}
 use Rattle.macho_model.specs.Exports.{library_number}
 use Rattle.macho_standing.proofs.Members.{at_front, front_or_rest, in_none, in_filter, of_filter, of_map, in_filter_map}
 use Rattle.macho_standing.proofs.Distinct.{in_distinct, of_distinct, first_within, first_is}
+use Rattle.macho_model.proofs.Uses.{imports_are}
+use Rattle.macho_model.proofs.Resolved.{definition_is_first}
+use Rattle.macho_model.specs.steps.Resolved.{first_definition}
 
 pub same_bytes : (x y : List ℕ) → bytes_eq x y ≡ true → x ≡ y
 same_bytes x y h = (bytes_eq-Decides x y).0 h
@@ -29,10 +37,9 @@ itself x = (bytes_eq-Decides x x).1 refl
 
 -- an import is imported
 pub import_is_imported : (l : Link) (name : List ℕ) → Contains (imports_of l) name → is_imported l name ≡ true
-unfolding imports_of
 import_is_imported l name h =
     (of_filter (is_imported l) (filter_map (name_used l) (uses_of l)) name
-    (of_distinct bytes_eq (filter (is_imported l) (filter_map (name_used l) (uses_of l))) name h)).1
+    (of_distinct bytes_eq (filter (is_imported l) (filter_map (name_used l) (uses_of l))) name (subst (λ (ns : List (List ℕ)). Contains ns name) (imports_are l) h))).1
 
 -- a definition by a library names one that offers the name
 by_library : (d : Option Definition) → is_library d ≡ true → (file : ℕ) × (d ≡ Some (Library file))
@@ -58,12 +65,12 @@ first_library [] b file h = absurd (image_or_none b file h)
 first_library (f ∷ files) b file h = let e : f ≡ file = cc in subst (λ n. Contains (f ∷ files) n) e (at_front f files)
 
 library_offers : (l : Link) (name : List ℕ) (file : ℕ) → definition_of l name ≡ Some (Library file) → Contains (libraries_with l name) file
-unfolding definition_of
+unfolding first_definition
 library_offers l name file h =
     first_library (libraries_with l name) (bytes_eq name DSO_HANDLE) file
     (past_symbols Symbol (greatest_of l name) _ file (λ s e. cc)
     (past_symbols Symbol (weak_of l name) _ file (λ s e. cc)
-    (past_symbols Symbol (strong_of l name) _ file (λ s e. cc) h)))
+    (past_symbols Symbol (strong_of l name) _ file (λ s e. cc) (sym (definition_is_first l name) ∙ h))))
 
 -- which is an input with an install name
 has_install_name : (name : List ℕ) (x : Input) → offers name x ≡ true → library_of_input x ≡ Some (unwrap_or (library_of_input x) [])

@@ -9,7 +9,8 @@ use Rattle.std.specs.Int.Bits.{xor_self, xor_add_and, or_add_and}
 use Rattle.std.proofs.lemmas.Nat.{and_mask, and_mod, or_mod}
 use Rattle.macho_model.specs.Links.{Link, SectionId, header_at, carried_of}
 use Rattle.macho_model.specs.Segments.{OutputKey, same_key, key_of}
-use Rattle.macho_model.specs.OutputSections.{KEPT_FLAGS, members_of, flags_of_key}
+use Rattle.macho_model.specs.OutputSections.{KEPT_FLAGS, flags_of_key}
+use Rattle.macho_model.specs.steps.Outputs.{members_of}
 use Rattle.macho_standing.proofs.Members.{at_front, at_rest, of_filter}
 
 or_same : (t : ℕ) → bit_or t t ≡ t

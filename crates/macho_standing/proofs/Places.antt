@@ -22,7 +22,10 @@ use Rattle.macho_model.specs.Links.{Link, SectionId, section_id, header_at, carr
 use Rattle.macho_model.specs.Resolution.{chosen_commons}
 use Rattle.macho_model.specs.Targets.{is_defined, is_import}
 use Rattle.macho_model.specs.Segments.{base_of_link}
-use Rattle.macho_model.specs.Placement.{Placed, Span, id_of, section_span, common_span, LiesIn, SectionLies, LiesInNamed, IsPaged}
+use Rattle.macho_model.specs.Placement.{Placed, id_of, IsPaged}
+use Rattle.macho_model.specs.Zeros.{Span}
+use Rattle.macho_model.specs.Spans.{section_span, common_span}
+use Rattle.macho_model.specs.steps.Parts.{LiesIn, SectionLies, LiesInNamed}
 use Rattle.macho_model.specs.Placement.{IsWholeList, IsPlaced}
 use Rattle.macho_model.specs.Segments.{DATA}
 use Rattle.macho_model.specs.Lists.{of_first}
@@ -41,6 +44,7 @@ use Rattle.macho_parts.specs.FixupsSay.{kind_for}
 use Rattle.macho_standing.specs.Leads.{HasPlace}
 use Rattle.macho_standing.proofs.Members.{of_map, in_filter, of_filter, at_front, in_none}
 use Rattle.macho_standing.proofs.Run.{HasWord}
+use Rattle.macho_model.proofs.Parts.{in_segment_of, same_order}
 
 -- the first of those that pass is one of them
 pub first_passing : {X : Type 0} (p : X → Bool) (f : X → ℕ) (xs : List X) (x : X) → Contains xs x → p x ≡ true
@@ -65,7 +69,7 @@ pub section_found : (l : Link) (p : Placed) (file section : ℕ) → IsWholeList
 unfolding section_address
 section_found l p file section whole one =
     let there = Contains-permutation (carried_of l) (map id_of p.sections) (section_id file section)
-    (IsPermutation-sym (map id_of p.sections) (carried_of l) whole.sections) one in
+    (IsPermutation-sym (map id_of p.sections) (carried_of l) (same_order whole.sections)) one in
     let m = of_map id_of p.sections (section_id file section) there in
     let r = first_passing (λ (q : PlacedSection). (q.file == file) && (q.section == section))
     (λ (q : PlacedSection). q.address) p.sections m.0 m.1
@@ -94,7 +98,7 @@ common_found l p id whole lt =
     let in_range : Contains (range_with_len 0 n) id =
     (id, omega (arith, lt, length-range_with_len 0 n), get_or-range_with_len 0 n id id lt ∙ omega arith) in
     let there = Contains-permutation (range_with_len 0 n) (map (λ (c : PlacedCommon). c.id) p.commons) id
-    (IsPermutation-sym (map (λ (c : PlacedCommon). c.id) p.commons) (range_with_len 0 n) whole.commons) in_range in
+    (IsPermutation-sym (map (λ (c : PlacedCommon). c.id) p.commons) (range_with_len 0 n) (same_order whole.commons)) in_range in
     let m = of_map (λ (c : PlacedCommon). c.id) p.commons id there in
     let r = first_passing (λ (c : PlacedCommon). c.id == id) (λ (c : PlacedCommon). c.address) p.commons m.0 m.1 (eq-eqb m.0.id id m.2) in
     record { one = r.0; placed = r.1; id_is = eqb-true r.0.id id r.2; address = r.3 }
@@ -132,9 +136,9 @@ pub address_fits : (l : Link) (counts : Counts) (p : Placed) (t : Target) → Is
     → HasPlace l t → address_of p t ≤ 2 ^ 64
 address_fits l counts p (target.Section file section offset) placed ends has =
     let q = section_found l p file section placed.whole_list has.0 in
-    let lies = All-contains (SectionLies l p) p.sections q.one placed.in_segment.sections q.placed in
+    let lies = All-contains (SectionLies l p) p.sections q.one (in_segment_of placed).sections q.placed in
     let there : Contains p.segments lies.0 = (q.one.segment, lies.1.0, lies.1.1) in
-    let within = lies_within _ (section_span l q.one) lies.0 lies.3 (All-contains IsPaged p.segments lies.0 placed.in_order.paged there) in
+    let within = lies_within _ (section_span l q.one) lies.0 lies.3 (All-contains IsPaged p.segments lies.0 placed.paged there) in
     let end = All-contains (λ (s : PlacedSegment). s.address + s.size ≤ 2 ^ 64) p.segments lies.0 ends there in
     let same : (header_at l (id_of q.one)).size ≡ (header_at l (section_id file section)).size =
     ap (λ (n : ℕ). (header_at l (section_id n q.one.section)).size) q.file_is
@@ -142,7 +146,7 @@ address_fits l counts p (target.Section file section offset) placed ends has =
     omega (arith, q.address, within, end, same, has.1)
 address_fits l counts p (target.Common id) placed ends has =
     let q = common_found l p id placed.whole_list has in
-    let lies = All-contains (λ (c : PlacedCommon). LiesInNamed p DATA false (common_span l c)) p.commons q.one placed.in_segment.commons
+    let lies = All-contains (λ (c : PlacedCommon). LiesInNamed p DATA false (common_span l c)) p.commons q.one (in_segment_of placed).commons
     q.placed in
     let end = All-contains (λ (s : PlacedSegment). s.address + s.size ≤ 2 ^ 64) p.segments lies.0 ends lies.1 in
     omega (arith, q.address, lies.3.to, end)

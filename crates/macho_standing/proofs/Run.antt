@@ -31,8 +31,8 @@ use Rattle.macho_standing.proofs.Segments.{segments_agree}
 
 -- the table is read back
 pub table_read : (l : Link) (b : List ℕ) (p : Placed) (w : FixupsAreWritten l b p)
-    → IsRead b w.say.table w.say.fixups (fixup_segments p) (import_format l) w.say.entries (names_text l)
-table_read l b p w = w.table.read b w.say.table w.say.text
+    → IsRead b w.say.table w.say.fixups (fixup_segments p) (import_format l) w.entries (names_text l)
+table_read l b p w = w.table.read b w.say.table w.text
 
 -- the segments of the chain are those of the placement, with the starts of the run
 pub chain_is_seen : ChainsAreTold → (l : Link) (b : List ℕ) (p : Placed) (w : FixupsAreWritten l b p) → SegmentsAgree b p
@@ -46,7 +46,7 @@ pub on_run : ChainsAreTold → (l : Link) (b : List ℕ) (p : Placed) (w : Fixup
     → OnChainOf b a ↔ IsAddressOf w.say.fixups a
 on_run told l b p w agree a =
     subst (λ (gs : List ChainSegment). OnChain gs b a ↔ IsAddressOf w.say.fixups a) (sym (chain_is_seen told l b p w agree))
-    (w.chain.set b a w.say.words)
+    (w.chain.set b a w.words)
 
 -- which is where the link asks for one
 pub place_of_fixup : (l : Link) (p : Placed) (f : Fixup) → IsFixupOf l p f → IsFixupPlace l p f.address
@@ -55,13 +55,13 @@ place_of_fixup l p _ (asked.IsFixupOf.pointer q f one field needs) = place.IsFix
 
 fixup_of_place : (l : Link) (b : List ℕ) (p : Placed) (say : FixupsSay l b p) (a : ℕ) → IsFixupPlace l p a → IsAddressOf say.fixups a
 fixup_of_place l b p say _ (place.IsFixupPlace.slot s one) =
-    (record { address = s.address; kind = _ }, say.all _ (asked.IsFixupOf.slot s one), refl)
+    (record { address = s.address; kind = _ }, (say.are _).1 (asked.IsFixupOf.slot s one), refl)
 fixup_of_place l b p say _ (place.IsFixupPlace.pointer q f one field needs) =
-    (record { address = q.address + f.offset; kind = _ }, say.all _ (asked.IsFixupOf.pointer q f one field needs), refl)
+    (record { address = q.address + f.offset; kind = _ }, (say.are _).1 (asked.IsFixupOf.pointer q f one field needs), refl)
 
 place_of_address : (l : Link) (b : List ℕ) (p : Placed) (say : FixupsSay l b p) (a : ℕ) → IsAddressOf say.fixups a → IsFixupPlace l p a
 place_of_address l b p say a at =
-    subst (IsFixupPlace l p) at.2 (place_of_fixup l p at.0 (All-contains (IsFixupOf l p) say.fixups at.0 say.each at.1))
+    subst (IsFixupPlace l p) at.2 (place_of_fixup l p at.0 ((say.are at.0).0 at.1))
 
 -- so 'the chain has the words of the fixups' and 'the chain has the words that the link asks for' say the same
 pub whole_by_run : (l : Link) (b : List ℕ) (p : Placed) (say : FixupsSay l b p) → ((a : ℕ) → OnChainOf b a ↔ IsAddressOf say.fixups a)
@@ -114,10 +114,10 @@ pub has_word : ChainsAreTold → (l : Link) (b : List ℕ) (p : Placed) (w : Fix
     → Contains w.say.fixups f → HasWord b f
 has_word told l b p w agree f one =
     let inside = All-contains (λ (g : Fixup). (s : FixupSegment) × Contains (fixup_segments p) s × Holds s g.address) w.say.fixups f
-    w.say.run.in_segment one in
+    w.run.in_segment one in
     let word = file_number b inside.0 f.address in
     let stands = file_word b w.say.fixups (fixup_segments p) inside.0 f.address inside.1 inside.2 in
-    let is = w.chain.says b one.0 word f w.say.words one.1
+    let is = w.chain.says b one.0 word f w.words one.1
     (subst (λ (g : Fixup). IsFileWord (map (chain_seen w.say.fixups) (fixup_segments p)) b g.address word) (sym one.2) stands) in
     record {
       on = (on_run told l b p w agree f.address).1 (f, one, refl);
@@ -126,7 +126,7 @@ has_word told l b p w agree f one =
       says = subst (λ (g : Fixup). Says g.kind word) one.2 is.says;
       alone = λ other on.
           let at = (on_run told l b p w agree other).0 on in
-          subst (λ a. (a ≤ f.address) ⊎ (f.address + POINTER_SIZE ≤ a)) at.2 (words_apart w.say.fixups f at.0 w.say.run.sorted one at.1);
+          subst (λ a. (a ≤ f.address) ⊎ (f.address + POINTER_SIZE ≤ a)) at.2 (words_apart w.say.fixups f at.0 w.run.sorted one at.1);
     }
 
 -- what is apart from all places of fixups, no chain word covers

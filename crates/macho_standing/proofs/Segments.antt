@@ -20,11 +20,13 @@ use Rattle.macho_model.specs.Links.{Link}
 use Rattle.macho_model.specs.Segments.{PAGEZERO, TEXT, segment_rank}
 use Rattle.macho_model.specs.Placement.{Placed, is_segment_named, IsPlaced, Follows}
 use Rattle.macho_model.specs.Images.{segments_of, mapped_segments, is_named, base_of}
-use Rattle.macho_model.specs.Agreement.{SegmentPlace, place_by_command, place_told, SegmentsAgree}
+use Rattle.macho_model.specs.Agreement.{SegmentsAgree}
 use Rattle.macho_fixups.specs.declared.run.FixupSegment.{FixupSegment}
 use Rattle.macho_fixups.specs.Readings.{AreSegmentsOf}
-use Rattle.macho_parts.specs.FixupsSay.{fixup_segment, fixup_segments}
+use Rattle.macho_parts.specs.FixupsSay.{fixup_segments}
+use Rattle.macho_parts.specs.steps.Segments.{fixup_segment}
 use Rattle.macho_standing.proofs.Members.{in_map, of_map, in_filter, of_filter, at_front, in_none}
+use Rattle.macho_model.specs.steps.Agreement.{SegmentPlace, place_by_command, place_told}
 
 -- a placed segment has a command of the file
 pub record HasCommand (b : List ℕ) (s : PlacedSegment) : Type 0 where
@@ -52,15 +54,15 @@ pub is_mapped : (b : List ℕ) (p : Placed) (s : PlacedSegment) → SegmentsAgre
 unfolding mapped_segments
 is_mapped b p s agree one named =
     let h = has_command b p s agree one in
-    let name : name_of h.command.segname ≡ text_of s.name = ap (λ (x : SegmentPlace). x.name) h.same in
+    let name : name_of h.command.segname ≡ text_of s.name = ap (λ (x : SegmentPlace). x.0) h.same in
     let unnamed : is_named PAGEZERO h.command ≡ false = ap (λ (n : List ℕ). bytes_eq n PAGEZERO) name ∙ named in
     record {
       command = h.command;
       one = in_filter (λ (c : SegmentCommand). not (is_named PAGEZERO c)) (segments_of b) h.command h.one (ap not unnamed);
-      address = ap (λ (x : SegmentPlace). x.address) h.same;
-      size = ap (λ (x : SegmentPlace). x.size) h.same;
-      file_offset = ap (λ (x : SegmentPlace). x.file_offset) h.same;
-      file_size = ap (λ (x : SegmentPlace). x.file_size) h.same;
+      address = ap (λ (x : SegmentPlace). x.1) h.same;
+      size = ap (λ (x : SegmentPlace). x.2) h.same;
+      file_offset = ap (λ (x : SegmentPlace). x.3) h.same;
+      file_size = ap (λ (x : SegmentPlace). x.4) h.same;
     }
 
 -- no segment
@@ -81,9 +83,9 @@ segments_agree b p agree =
           let same : place_by_command (get_or (segments_of b) k c) ≡ place_told (get_or p.segments k no_placed) =
           sym said ∙ ap (λ (xs : List SegmentPlace). get_or xs k (place_by_command c)) agree ∙ told in
           record {
-            address = ap (λ (x : SegmentPlace). x.address) same ∙ ap (λ (x : FixupSegment). x.address) (sym seen);
-            file_offset = ap (λ (x : SegmentPlace). x.file_offset) same ∙ ap (λ (x : FixupSegment). x.file_offset) (sym seen);
-            file_size = ap (λ (x : SegmentPlace). x.file_size) same ∙ ap (λ (x : FixupSegment). x.file_size) (sym seen);
+            address = ap (λ (x : SegmentPlace). x.1) same ∙ ap (λ (x : FixupSegment). x.address) (sym seen);
+            file_offset = ap (λ (x : SegmentPlace). x.3) same ∙ ap (λ (x : FixupSegment). x.file_offset) (sym seen);
+            file_size = ap (λ (x : SegmentPlace). x.4) same ∙ ap (λ (x : FixupSegment). x.file_size) (sym seen);
           };
     }
   where
@@ -173,13 +175,13 @@ first_named name (c ∷ cs) (s ∷ ss) agree =
     same = ap front agree
 
     test_same : is_named name c ≡ is_segment_named name s
-    test_same = ap (λ (x : SegmentPlace). bytes_eq x.name name) same
+    test_same = ap (λ (x : SegmentPlace). bytes_eq x.0 name) same
 
     by : of_first 0 (λ (s : SegmentCommand). s.vmaddr) (filter (is_named name) cs) ≡ first_placed (filter (is_segment_named name) ss) → (t : Bool)
         → is_segment_named name s ≡ t
         → of_first 0 (λ (s : SegmentCommand). s.vmaddr) (cond (is_named name c) (c ∷ filter (is_named name) cs) (filter (is_named name) cs))
         ≡ first_placed (cond (is_segment_named name s) (s ∷ filter (is_segment_named name) ss) (filter (is_segment_named name) ss))
-    by again true is = rw (test_same, is) (ap (λ (x : SegmentPlace). x.address) same)
+    by again true is = rw (test_same, is) (ap (λ (x : SegmentPlace). x.1) same)
     by again false is = rw (test_same, is) again
 
 first_is : (s : PlacedSegment) (ss : List PlacedSegment) → ((t : PlacedSegment) → Contains ss t → t ≡ s) → Contains ss s
@@ -192,10 +194,10 @@ first_is s (t ∷ ss) only one = ap (λ (x : PlacedSegment). x.address) (only t 
 pub one_base : (l : Link) (counts : Counts) (b : List ℕ) (p : Placed) → IsPlaced l counts p → SegmentsAgree b p → base_of b ≡ p.base
 unfolding base_of
 one_base l counts b p placed agree =
-    let begins = placed.in_order.begins in
+    let begins = placed.begins in
     let there = in_filter (is_segment_named TEXT) p.segments begins.0 begins.1 begins.2 in
     let only : (t : PlacedSegment) → Contains (filter (is_segment_named TEXT) p.segments) t → t ≡ begins.0 = λ t h.
     let r = of_filter (is_segment_named TEXT) p.segments t h in
-    one_of_name l p.segments TEXT t begins.0 placed.in_order.follow r.0 begins.1 r.1 begins.2 in
+    one_of_name l p.segments TEXT t begins.0 placed.follow r.0 begins.1 r.1 begins.2 in
     first_named TEXT (segments_of b) p.segments agree ∙ first_is begins.0 (filter (is_segment_named TEXT) p.segments) only there ∙ begins.3
     ∙ sym placed.base

@@ -21,16 +21,19 @@ use Rattle.macho_model.specs.Links.{Link, header_at}
 use Rattle.macho_model.specs.Fields.{Field, fields_of, content_of}
 use Rattle.macho_model.specs.Segments.{TEXT}
 use Rattle.macho_model.specs.WrittenSum.{STUB_SIZE}
-use Rattle.macho_model.specs.Placement.{Placed, id_of, section_span, stub_span, LiesIn, LiesInNamed, SectionLies}
+use Rattle.macho_model.specs.Placement.{Placed, id_of}
+use Rattle.macho_model.specs.Spans.{section_span, stub_span, IsOutsideField}
+use Rattle.macho_model.specs.steps.Parts.{LiesIn, LiesInNamed, SectionLies}
 use Rattle.macho_model.specs.Addresses.{offset_in_file}
 use Rattle.macho_model.specs.Needs.{POINTER_SIZE}
 use Rattle.macho_model.specs.Fixups.{IsFixupPlace}
 use Rattle.macho_model.specs.Meaning.{GoesThrough}
-use Rattle.macho_model.specs.Stands.{IsOutsideField, Says, kind_of}
+use Rattle.macho_model.specs.Stands.{Says, kind_of}
 use Rattle.macho_model.specs.Values.{needs_fixup}
 use Rattle.macho_fixups.specs.declared.run.Fixup.{Fixup}
 use Rattle.macho_fixups.specs.Laws.{BytesStay}
-use Rattle.macho_parts.specs.FixupsSay.{fixup_segment, fixup_segments}
+use Rattle.macho_parts.specs.FixupsSay.{fixup_segments}
+use Rattle.macho_parts.specs.steps.Segments.{fixup_segment}
 use Rattle.macho_parts.specs.Filled.{FieldIsSet, bytes_in_file}
 use Rattle.macho_standing.specs.Leads.{TargetsLead}
 use Rattle.macho_standing.specs.Laws.{IsPlacedLink, WordsAreWritten, SectionsStayFilled, StubsStaySet}
@@ -40,6 +43,7 @@ use Rattle.macho_standing.proofs.Fits.{fields_apart, fixed_pointer}
 use Rattle.macho_standing.proofs.Apart.{parts_apart, placed_is_carried, part_apart, section_apart}
 use Rattle.macho_standing.proofs.Held.{place_in_file}
 use Rattle.macho_standing.proofs.Leading.{link_leads}
+use Rattle.macho_model.proofs.Parts.{apart_of, in_segment_of}
 
 leads_of : (l : Link) (counts : Counts) (p : Placed) → IsPlacedLink l counts p → TargetsLead l
 leads_of l counts p link = link_leads l link.objects link.sound.relocations link.personalities
@@ -54,7 +58,7 @@ pub record HasFilePart (p : Placed) (address size : ℕ) : Type 0 where
 section_part : (l : Link) (counts : Counts) (p : Placed) (q : PlacedSection) → IsPlacedLink l counts p → Contains p.sections q
     → is_zerofill (header_at l (id_of q)) ≡ false → 1 ≤ (header_at l (id_of q)).size → HasFilePart p q.address (header_at l (id_of q)).size
 section_part l counts p q link one filled some =
-    let lies = All-contains (SectionLies l p) p.sections q link.placed.in_segment.sections one in
+    let lies = All-contains (SectionLies l p) p.sections q (in_segment_of link.placed).sections one in
     let other : ((header_at l (id_of q)).size == 0) ≡ false = ne_eqb (header_at l (id_of q)).size 0 (λ e. omega (arith, some, e)) in
     let flag : (not (is_zerofill (header_at l (id_of q))) && not ((header_at l (id_of q)).size == 0)) ≡ true = rw (filled, other) refl in
     let in_part = subst (λ (t : Bool). LiesIn t (section_span l q) lies.0) flag lies.3 in
@@ -127,7 +131,7 @@ sections_stay_filled stay l counts p fixups before now q link w one some filled 
     outside_byte i within outside =
         byte_stays stay l p fixups before now q.address (header_at l (id_of q)).size i w
         (section_part l counts p q link one some (omega (arith, within))) within
-        (section_apart l counts p q i 1 link.placed.whole_list (parts_apart l counts p link.placed.apart) (leads_of l counts p link) one
+        (section_apart l counts p q i 1 link.placed.whole_list (parts_apart l counts p (apart_of link.placed)) (leads_of l counts p link) one
         (omega (arith, within)) (omega arith)
         (λ f field needs.
         let wide = (fixed_pointer l (id_of q) f needs).0 in
@@ -142,7 +146,7 @@ sections_stay_filled stay l counts p fixups before now q link w one some filled 
         let inside = leads.inside (id_of q) f (placed_is_carried l p q link.placed.whole_list one) field in
         byte_stays stay l p fixups before now q.address (header_at l (id_of q)).size (f.offset + k) w
         (section_part l counts p q link one some (omega (arith, inside, within))) (omega (arith, inside, within))
-        (section_apart l counts p q (f.offset + k) 1 link.placed.whole_list (parts_apart l counts p link.placed.apart) leads one
+        (section_apart l counts p q (f.offset + k) 1 link.placed.whole_list (parts_apart l counts p (apart_of link.placed)) leads one
         (omega (arith, inside, within))
         (omega arith)
         (λ g other needs. elim (field_beside l counts p q f g link one field plain other needs) [
@@ -183,13 +187,13 @@ stubs_stay_set stay l counts p fixups before now stub link w one was =
   where
     part : HasFilePart p stub.address STUB_SIZE
     part =
-        let lies = All-contains (λ (t : Stub). LiesInNamed p TEXT true (stub_span t)) p.stubs stub link.placed.in_segment.stubs one in
+        let lies = All-contains (λ (t : Stub). LiesInNamed p TEXT true (stub_span t)) p.stubs stub (in_segment_of link.placed).stubs one in
         record { segment = lies.0; one = lies.1; from = lies.3.from; to = lies.3.to }
 
     byte : (i : ℕ) → i < STUB_SIZE → slice_index (bytes_in_file now p stub.address STUB_SIZE) i
         ≡ slice_index (bytes_in_file before p stub.address STUB_SIZE) i
     byte i within =
-        let apart = parts_apart l counts p link.placed.apart in
+        let apart = parts_apart l counts p (apart_of link.placed) in
         byte_stays stay l p fixups before now stub.address STUB_SIZE i w part within
         (part_apart l p (stub_span stub) (stub.address + i) 1 link.placed.whole_list (leads_of l counts p link)
         (λ q in_q. apart.section_stub q stub in_q one)

@@ -17,13 +17,20 @@ use Rattle.macho_model.specs.declared.targets.Target.{Target}
 use Rattle.macho_model.specs.declared.targets.Target.TheVariants as target
 use Rattle.macho_model.specs.Objects.{num_sections, num_symbols}
 use Rattle.macho_model.specs.Links.{Link, SectionId, section_id, object_of, header_at, is_carried, sections_of, carried_of}
-use Rattle.macho_model.specs.Resolution.{SymbolId, Definition, Symbol, Library, ImageBase, first_or, entry_at, name_at, same_symbol}
-use Rattle.macho_model.specs.Resolution.{symbols_of, section_of_symbol, stands_in_carried, has_name, is_strong, is_weak, strong_of, weak_of}
-use Rattle.macho_model.specs.Resolution.{commons_of, greatest_of, libraries_with, definition_of, DSO_HANDLE, is_symbol, defines, is_chosen}
+use Rattle.macho_model.specs.Resolution.{SymbolId, Definition, Symbol, Library, ImageBase, entry_at, name_at, same_symbol}
+use Rattle.macho_model.specs.steps.Resolved.{first_or}
+use Rattle.macho_model.specs.Resolution.{symbols_of, section_of_symbol, stands_in_carried, has_name, strong_of}
+use Rattle.macho_model.specs.steps.Resolved.{is_strong, is_weak, weak_of}
+use Rattle.macho_model.specs.Resolution.{commons_of, greatest_of, libraries_with, definition_of, is_symbol, defines}
+use Rattle.macho_model.specs.steps.Resolved.{DSO_HANDLE}
+use Rattle.macho_model.specs.LinkLaws.{is_chosen}
 use Rattle.macho_model.specs.Resolution.{chosen_commons}
-use Rattle.macho_model.specs.Needs.{Use, uses_of, imports_of, is_imported, is_library, name_used, global_name, relocation_in, section_named}
+use Rattle.macho_model.specs.Needs.{imports_of, is_imported, relocation_in, section_named}
+use Rattle.macho_model.specs.steps.Resolved.{is_library}
+use Rattle.macho_model.specs.Uses.{Use, uses_of, name_used, global_name}
 use Rattle.macho_model.specs.Needs.{symbol_of_relocation}
-use Rattle.macho_model.specs.Targets.{own_target, definition_target, target_with, target_of}
+use Rattle.macho_model.specs.Targets.{own_target, definition_target, target_of}
+use Rattle.macho_model.specs.Uses.{target_with}
 use Rattle.macho_model.specs.Targets.{target_of_relocation}
 use Rattle.macho_model.specs.Rows.{is_none}
 use Rattle.macho_model.specs.Values.{is_absolute_target}
@@ -34,6 +41,9 @@ use Rattle.macho_standing.proofs.Members.{in_filter, of_filter, in_filter_map, a
 use Rattle.macho_standing.proofs.Distinct.{in_distinct, first_within}
 use Rattle.macho_standing.proofs.Libraries.{same_bytes, itself}
 use Rattle.macho_standing.proofs.Inputs.{IsObjectFile, IsSectionOf, section_listed, symbol_of_file, symbol_listed}
+use Rattle.macho_model.proofs.Uses.{imports_are}
+use Rattle.macho_model.proofs.Resolved.{definition_is_first}
+use Rattle.macho_model.specs.steps.Resolved.{first_definition}
 
 -- a section of a file by its number is carried where its header says so
 carried_listed : (l : Link) (file k : ℕ) → IsObjectFile l file → k < num_sections (object_of l file)
@@ -122,9 +132,9 @@ no_symbol_behind (f ∷ files) b t h = cc
 
 pub symbol_defines : (l : Link) (name : List ℕ) (t : SymbolId) → definition_of l name ≡ Some (Symbol t)
     → Contains (symbols_of l) t × (has_name l name t ≡ true)
-unfolding definition_of strong_of weak_of greatest_of commons_of
+unfolding first_definition strong_of weak_of greatest_of commons_of
 symbol_defines l name t h =
-    elim (among_first (strong_of l name) _ t h) [
+    elim (among_first (strong_of l name) _ t (sym (definition_is_first l name) ∙ h)) [
       | inl strong ↦
           let f = of_filter (λ (s : SymbolId). is_strong l s && has_name l name s) (symbols_of l) t strong in
           (f.0, (and_parts (is_strong l t) (has_name l name t) f.1).1)
@@ -177,11 +187,10 @@ definition_has l name inputs used (Some ImageBase) is some moves = tt
 -- a name that is used and that a library defines is imported
 used_is_imported : (l : Link) (u : Use) (name : List ℕ) → Contains (uses_of l) u → name_used l u ≡ Some name → is_imported l name ≡ true
     → Contains (imports_of l) name
-unfolding imports_of
 used_is_imported l u name one named imported =
-    in_distinct bytes_eq same_bytes (filter (is_imported l) (filter_map (name_used l) (uses_of l))) name
+    subst (λ (ns : List (List ℕ)). Contains ns name) (sym (imports_are l)) (in_distinct bytes_eq same_bytes (filter (is_imported l) (filter_map (name_used l) (uses_of l))) name
     (in_filter (is_imported l) (filter_map (name_used l) (uses_of l)) name
-    (in_filter_map (name_used l) (uses_of l) u name one named) imported)
+    (in_filter_map (name_used l) (uses_of l) u name one named) imported))
 
 -- THE target of a symbol that is used
 symbol_has : (l : Link) (s : SymbolId) → ObjectsAreRead l → Contains (symbols_of l) s

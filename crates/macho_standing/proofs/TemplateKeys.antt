@@ -17,8 +17,8 @@ use Rattle.macho_model.specs.declared.placed.Counts.{Counts}
 use Rattle.macho_model.specs.Links.{Link, SectionId, header_at, carried_of}
 use Rattle.macho_model.specs.ObjectRules.{is_thread_local}
 use Rattle.macho_model.specs.Segments.{TEXT, DATA, OutputKey, same_key, key_of, common_key, output_keys_of, list_if}
-use Rattle.macho_model.specs.OutputSections.{OutputSection, Merged, InitOffsets, UnwindInfo, Stubs, Slots, merged_in, sections_of_text}
-use Rattle.macho_model.specs.OutputSections.{sections_of_data, sections_of_other, output_sections_in, flags_of_output}
+use Rattle.macho_model.specs.steps.Outputs.{OutputSection, Merged, InitOffsets, UnwindInfo, Stubs, Slots, merged_in, sections_of_text}
+use Rattle.macho_model.specs.steps.Outputs.{sections_of_data, sections_of_other, output_sections_in, flags_of_output}
 use Rattle.macho_model.specs.Grammar.{ObjectsAreRead}
 use Rattle.macho_standing.proofs.Members.{front_or_rest, in_none, in_map, of_map, of_filter}
 use Rattle.macho_standing.proofs.Distinct.{in_distinct, of_distinct}

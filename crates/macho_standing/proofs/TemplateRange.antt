@@ -3,15 +3,18 @@
 -- The piece around pieces begins at the least of them and ends at the greatest end. Of sections in order the first begins no later
 -- than any other, and the last ends no earlier; so where all lie in a range, one begins at its start and one ends at its end, the
 -- first begins it and the last ends it.
-use Rattle.std.proofs.Common.{◌≡◌, ℕ, zero, suc, ◌+◌, ◌≤◌, min, List, [], ◌∷◌, ◌++◌, map, fold, refl, ap, subst, ◌∙◌, arith, inl, inr, All}
+use Rattle.std.proofs.Common.{◌≡◌, ℕ, zero, suc, ◌+◌, ◌-◌, ◌≤◌, min, List, [], ◌∷◌, ◌++◌, map, length, get_or, fold, refl, ap, subst, ◌∙◌, arith, inl, inr, All}
 use Rattle.std.specs.Prelude.{Contains, AllPairs}
-use Rattle.std.proofs.lemmas.List.{map-append}
+use Rattle.std.proofs.lemmas.List.{map-append, length-append, get_or-append-add}
 use Rattle.std.proofs.lemmas.List.Elements.{Contains-append_cases, Contains-append_right, All-map, All-contains}
 use Rattle.macho_records.specs.declared.header.SectionHeader.{SectionHeader}
 use Rattle.macho_model.specs.declared.placed.Range64.{Range64}
+use Rattle.macho_model.specs.Lists.{IsNumber}
 use Rattle.macho_model.specs.Links.{Link, greatest}
 use Rattle.macho_model.specs.Placement.{Placed}
-use Rattle.macho_model.specs.OutputSections.{OutputSection, Piece, end_of_piece, around, extent_of, output_header}
+use Rattle.macho_model.specs.OutputSections.{around}
+use Rattle.macho_model.specs.steps.Outputs.{OutputSection, extent_of, output_header}
+use Rattle.macho_model.specs.Placement.{Piece, end_of_piece}
 use Rattle.macho_model.proofs.Least.{EndsBefore}
 use Rattle.macho_model.specs.Made.{FillTemplate}
 use Rattle.macho_standing.proofs.Members.{at_front, at_rest, front_or_rest, in_none, of_map, in_map, pairs_across}
@@ -100,6 +103,16 @@ last_ends l p os last a h there = elim (Contains-append_cases os (last ∷ []) a
   ]
 ]
 
+-- its number is the length less 1
+last_numbered : {X : Type 0} (xs before : List X) (last : X) → xs ≡ before ++ last ∷ [] → IsNumber xs (length xs - 1) last
+last_numbered {X} xs before last is =
+    let long : length xs ≡ length before + 1 = ap length is ∙ length-append before (last ∷ []) in
+    let number : length xs - 1 ≡ length before + 0 = omega (arith, long) in (
+      omega (arith, long),
+      ap (λ (n : ℕ). get_or xs n last) number ∙ ap (λ (ys : List X). get_or ys (length before + 0) last) is
+          ∙ get_or-append-add before (last ∷ []) 0 last,
+    )
+
 -- THE range is filled
 pub fills : (l : Link) (p : Placed) (r : Range64) (os : List OutputSection) (a z : OutputSection) → AllPairs (IsBehind l p) os
     → All (IsWithin l p r) os → Contains os a → (extent_of l p a).start ≡ r.start → Contains os z
@@ -117,10 +130,11 @@ fills l p r (o ∷ os) a z pairs within in_a begins in_z ends =
     (Contains-append_right e.0 (e.1 ∷ []) e.1 (at_front e.1 [])) in
     record {
       within = All-map (λ (h : SectionHeader). (r.start ≤ h.addr) × (h.addr + h.size ≤ r.end)) (output_header l p) (o ∷ os) within;
-      first = output_header l p o;
-      behind = map (output_header l p) os;
-      begins = (refl, omega (arith, first, begins, low.0));
-      last = output_header l p e.1;
-      before = map (output_header l p) e.0;
-      ends = (ap (map (output_header l p)) e.2 ∙ map-append (output_header l p) e.0 (e.1 ∷ []), omega (arith, last, ends, high.1));
+      begins = (output_header l p o, (omega arith, refl), omega (arith, first, begins, low.0));
+      ends = (
+        output_header l p e.1,
+        last_numbered (map (output_header l p) (o ∷ os)) (map (output_header l p) e.0) (output_header l p e.1)
+            (ap (map (output_header l p)) e.2 ∙ map-append (output_header l p) e.0 (e.1 ∷ [])),
+        omega (arith, last, ends, high.1),
+      );
     }

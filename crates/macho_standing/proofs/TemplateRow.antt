@@ -24,8 +24,10 @@ use Rattle.macho_model.specs.Targets.{slots_of}
 use Rattle.macho_model.specs.Segments.{PAGEZERO, TEXT, DATA_CONST, DATA, LINKEDIT, is_known_segment, other_segments}
 use Rattle.macho_model.specs.Segments.{has_section_in, segment_names_of, list_if}
 use Rattle.macho_model.specs.Placement.{Placed}
-use Rattle.macho_model.specs.OutputSections.{OutputSection, Piece, output_sections_in, output_sections_of, extent_of}
-use Rattle.macho_model.specs.Order.{StandInOrder, AreLeast, row_of, sections_in}
+use Rattle.macho_model.specs.steps.Outputs.{OutputSection, output_sections_in, output_sections_of, extent_of}
+use Rattle.macho_model.specs.Placement.{Piece}
+use Rattle.macho_model.specs.Spans.{StandInOrder}
+use Rattle.macho_model.specs.steps.Least.{AreLeast, row_of, sections_in}
 use Rattle.macho_model.proofs.Least.{EndsBefore, rows_in_order}
 use Rattle.macho_model.specs.Grammar.{ObjectsAreRead}
 use Rattle.macho_standing.proofs.Members.{at_front, of_map, of_filter}

@@ -24,12 +24,17 @@ use Rattle.macho_model.specs.Links.{Link, SectionId, header_at, carried_of, sect
 use Rattle.macho_model.specs.Resolution.{entry_at, chosen_commons}
 use Rattle.macho_model.specs.Segments.{DATA, OutputKey, same_key, key_of, common_key, output_keys_of, has_section_in}
 use Rattle.macho_model.specs.Segments.{segment_names_of, list_if}
-use Rattle.macho_model.specs.Placement.{Placed, id_of, common_of, section_span, common_span, template_sections, HoldsSpan, HoldsTemplate}
-use Rattle.macho_model.specs.Placement.{TemplateHolds}
-use Rattle.macho_model.specs.OutputSections.{OutputSection, Merged, Piece, piece, end_of_piece, placed_members, pieces_of, output_header}
-use Rattle.macho_model.specs.OutputSections.{output_sections_in, output_sections_of, output_sections_for, merged_in, sections_of_data}
+use Rattle.macho_model.specs.Placement.{Placed, id_of, common_of, template_sections}
+use Rattle.macho_model.specs.Spans.{section_span, common_span}
+use Rattle.macho_model.specs.steps.Parts.{HoldsSpan, HoldsTemplate}
+use Rattle.macho_model.specs.steps.Parts.{TemplateHolds}
+use Rattle.macho_model.specs.steps.Outputs.{OutputSection, Merged, placed_members, pieces_of, output_header}
+use Rattle.macho_model.specs.Placement.{Piece, end_of_piece}
+use Rattle.macho_model.specs.Spans.{piece}
+use Rattle.macho_model.specs.steps.Outputs.{output_sections_in, output_sections_of, output_sections_for, merged_in, sections_of_data}
 use Rattle.macho_model.specs.OutputSections.{is_zeros}
-use Rattle.macho_model.specs.Order.{StandInOrder, AreLeast}
+use Rattle.macho_model.specs.Spans.{StandInOrder}
+use Rattle.macho_model.specs.steps.Least.{AreLeast}
 use Rattle.macho_model.specs.Made.{template_headers, FillTemplate}
 use Rattle.macho_model.specs.Grammar.{ObjectsAreRead}
 use Rattle.macho_standing.specs.Template.{TemplateIsTight, HeadersTellTemplate}
@@ -38,6 +43,8 @@ use Rattle.macho_standing.proofs.TemplateRange.{IsWithin, IsAround, is_around, f
 use Rattle.macho_standing.proofs.TemplateKeys.{same_is, same_itself, is_template_output, template_key, IsTemplateKey, is_template_key}
 use Rattle.macho_standing.proofs.TemplateKeys.{section_key, IsTemplateOf, each_template}
 use Rattle.macho_standing.proofs.TemplateRow.{has_data, no_elements, data_named, templates_in_order}
+use Rattle.macho_model.proofs.Parts.{template_of, order_of}
+use Rattle.macho_model.proofs.Outputs.{least_of, headers_same}
 
 -- the pieces of a key of the template are its placed sections
 abbrev piece_at : Link → PlacedSection → Piece
@@ -211,7 +218,7 @@ pub headers_tell_template : HeadersTellTemplate
 unfolding template_headers output_sections_for
 headers_tell_template l counts b p objects placed laid headers tight =
     let are : template_headers b ≡ map (output_header l p) (templates l counts)
-    = ap (filter (λ (h : SectionHeader). is_template_type (type_of h))) (headers ∙ laid.sections)
+    = ap (filter (λ (h : SectionHeader). is_template_type (type_of h))) (headers ∙ laid.sections ∙ headers_same l counts p)
     ∙ filter_of_map (output_header l p) (λ (h : SectionHeader). is_template_type (type_of h)) (output_sections_of l counts) in
     subst (λ (hs : List SectionHeader). MatchOption p.template (hs ≡ []) (FillTemplate hs)) (sym are)
-    (filled l counts p p.template objects laid.order laid.least placed.template tight)
+    (filled l counts p p.template objects (order_of placed.whole_list laid.segments laid.names) (least_of laid.least) (template_of placed) tight)

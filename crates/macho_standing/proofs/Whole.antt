@@ -75,7 +75,7 @@ fixups_lie l b p w agree =
         (names_text l) ≤ p.linkedit.fixups.end - p.linkedit.fixups.start)
     here =
         let header = ap (λ (h : ChainedFixupsHeader). h.symbols_offset) (table_read l b p w).header in
-        let long = table_long p.base w.say.fixups (fixup_segments p) (import_format l) w.say.entries (names_text l) in
+        let long = table_long p.base w.say.fixups (fixup_segments p) (import_format l) w.entries (names_text l) in
         let size : w.say.table.size ≡ p.linkedit.fixups.end - p.linkedit.fixups.start = ap (λ (t : Table). t.size) same in
         (ap (λ (t : Table). t.at) same, omega (arith, header, long, size, w.room))
 

@@ -73,7 +73,7 @@ slot_word : (rests : RestsOn) (l : Link) (b : List ℕ) (p : Placed) (slot : Slo
     → HasWord b (record { address = slot.address; kind = kind_for l p slot.target 0 })
 slot_word rests l b p slot joined one =
     has_word rests.chains l b p joined.fixups joined.agree (record { address = slot.address; kind = kind_for l p slot.target 0 })
-    (joined.fixups.say.all (record { address = slot.address; kind = kind_for l p slot.target 0 }) (asked.IsFixupOf.slot slot one))
+    ((joined.fixups.say.are (record { address = slot.address; kind = kind_for l p slot.target 0 })).1 (asked.IsFixupOf.slot slot one))
 
 room_for_none : has_room 0 ≡ false → ⊥
 room_for_none h = cc
@@ -140,7 +140,7 @@ field_word rests l b p q f joined one field needs =
       address = q.address + f.offset;
       kind = kind_for l p f.target f.addend;
     })
-    (joined.fixups.say.all (record { address = q.address + f.offset; kind = kind_for l p f.target f.addend })
+    ((joined.fixups.say.are (record { address = q.address + f.offset; kind = kind_for l p f.target f.addend })).1
     (asked.IsFixupOf.pointer q f one field needs))
 
 -- THE pointer denotes.

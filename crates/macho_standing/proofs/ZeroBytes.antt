@@ -19,13 +19,19 @@ use Rattle.macho_model.specs.declared.placed.Range64.{Range64}
 use Rattle.macho_model.specs.Commands.{commands_end}
 use Rattle.macho_model.specs.Links.{Link, header_at}
 use Rattle.macho_model.specs.Segments.{TEXT, DATA_CONST, LINKEDIT}
-use Rattle.macho_model.specs.Placement.{Placed, Span, AreApart, id_of, head_size, head_span, section_span, common_span, slot_span}
-use Rattle.macho_model.specs.Placement.{stub_span, range_span, linkedit_span, linkedit_ranges, is_segment_named, LiesIn}
-use Rattle.macho_model.specs.Placement.{LiesInNamed, SectionLies, TableLies, RangeLies, IsPlaced}
+use Rattle.macho_model.specs.Placement.{Placed, id_of, head_size}
+use Rattle.macho_model.specs.Zeros.{Span}
+use Rattle.macho_model.specs.Spans.{AreApart, head_span, section_span, common_span, slot_span, IsOutsideSpan, filled_sections}
+use Rattle.macho_model.specs.Placement.{linkedit_ranges, is_segment_named}
+use Rattle.macho_model.specs.Spans.{stub_span, range_span, linkedit_span}
+use Rattle.macho_model.specs.steps.Parts.{LiesIn}
+use Rattle.macho_model.specs.Placement.{IsPlaced}
+use Rattle.macho_model.specs.steps.Parts.{LiesInNamed, SectionLies, TableLies, RangeLies}
 use Rattle.macho_model.specs.Addresses.{offset_in_file}
 use Rattle.macho_model.specs.Images.{Table, tables_of, tries_of, symbol_tables_of, string_tables_of, signatures_of, fixups_header}
 use Rattle.macho_model.specs.ImportTable.{names_text}
-use Rattle.macho_model.specs.Zeros.{in_file, filled_sections, fixups_content, contents_of, IsOutsideSpan, IsZeroElsewhere}
+use Rattle.macho_model.specs.Zeros.{contents_of, IsZeroElsewhere}
+use Rattle.macho_model.specs.Spans.{in_file}
 use Rattle.macho_model.specs.Lists.{of_first}
 use Rattle.macho_fixups.specs.Runs.{AreSegments}
 use Rattle.macho_parts.specs.FixupsSay.{fixup_segments}
@@ -34,6 +40,8 @@ use Rattle.macho_standing.proofs.Segments.{one_of_name}
 use Rattle.macho_standing.proofs.Apart.{PartsAreApart, parts_apart, apart_back}
 use Rattle.macho_standing.proofs.Rests.{AreZero}
 use Rattle.macho_standing.proofs.ZeroPlaces.{files_apart, IsByteOf, outside_of, beside}
+use Rattle.macho_model.specs.steps.Zeros.{fixups_content}
+use Rattle.macho_model.proofs.Parts.{apart_of, in_segment_of}
 
 -- A part of zeros, and an address of it in the file part of a segment: apart from all parts that have content.
 pub record IsZeroPart (l : Link) (counts : Counts) (p : Placed) (a : Span) : Type 0 where
@@ -88,7 +96,7 @@ outside_head : (l : Link) (counts : Counts) (b : List ℕ) (p : Placed) (unwind 
     → IsByteOf p s a → part.start ≤ a → a < part.start + part.size → AreApart (head_span counts p) part
     → IsOutsideSpan (s.file_offset + (a - s.address)) (record { start = 0; size = commands_end b })
 outside_head l counts b p unwind s a part lie byte from to apart =
-    let begins = lie.placed.in_order.begins in
+    let begins = lie.placed.begins in
     let t = begins.0 in
     let text = All-contains (λ (x : PlacedSegment). is_segment_named TEXT x ≡ true → (x.file_offset ≡ 0) × (commands_end b ≤ x.file_size))
     p.segments t lie.text begins.1 begins.2 in
@@ -122,13 +130,13 @@ outside_table : (l : Link) (counts : Counts) (b : List ℕ) (p : Placed) (unwind
     → AreApart part (linkedit_span p r) → at ≡ r.start → size ≤ r.end - r.start
     → IsOutsideSpan (s.file_offset + (a - s.address)) (record { start = at; size = size })
 outside_table l counts b p unwind s a part r at size lie byte from to one apart begins fits =
-    elim (All-contains (TableLies p) (linkedit_ranges p) r lie.placed.in_segment.linkedit one) [
+    elim (All-contains (TableLies p) (linkedit_ranges p) r (in_segment_of lie.placed).linkedit one) [
       | inl none ↦ elim (cases_lt (s.file_offset + (a - s.address)) at)
           [ inl before ↦ inl (omega (arith, before)) | inr behind ↦ inr (omega (arith, behind, none, fits)) ]
       | inr (t, in_t, named, low, some, high) ↦
           let only : (y : PlacedSegment) → Contains (filter (is_segment_named LINKEDIT) p.segments) y → y ≡ t = λ y h.
           let f = of_filter (is_segment_named LINKEDIT) p.segments y h in
-          one_of_name l p.segments LINKEDIT y t lie.placed.in_order.follow f.0 in_t f.1 named in
+          one_of_name l p.segments LINKEDIT y t lie.placed.follow f.0 in_t f.1 named in
           let start = linkedit_at t r.start (filter (is_segment_named LINKEDIT) p.segments)
           (in_filter (is_segment_named LINKEDIT) p.segments t in_t named) only in
           elim (files_apart p s t lie.order byte.one in_t) [
@@ -179,10 +187,10 @@ none_has l counts b p unwind s a part lie zero byte from to =
     (All-map P (λ t. in_file p (stub_span t)) p.stubs (λ k d lt. of_stub (get_or p.stubs k d) (All-contains_itself p.stubs k d lt))))
     (All-cons P (in_file p (range_span p.init_offsets)) (in_file p (record { start = p.unwind.start; size = unwind }) ∷ map
     (fixups_content l b) (tables_of b))
-    (of_range p.init_offsets (range_span p.init_offsets).size lie.placed.in_segment.init_offsets
+    (of_range p.init_offsets (range_span p.init_offsets).size (in_segment_of lie.placed).init_offsets
     (at_front (range_span p.init_offsets) (range_span p.unwind ∷ map (linkedit_span p) (linkedit_ranges p))) (omega arith))
     (All-cons P (in_file p (record { start = p.unwind.start; size = unwind })) (map (fixups_content l b) (tables_of b))
-    (of_range p.unwind unwind lie.placed.in_segment.unwind
+    (of_range p.unwind unwind (in_segment_of lie.placed).unwind
     (at_rest (range_span p.init_offsets) (range_span p.unwind ∷ map (linkedit_span p) (linkedit_ranges p)) (range_span p.unwind)
     (at_front (range_span p.unwind) (map (linkedit_span p) (linkedit_ranges p)))) lie.unwind_fits)
     (All-map P (fixups_content l b) (tables_of b) (λ k d lt. of_fixups (get_or (tables_of b) k d)
@@ -197,7 +205,7 @@ none_has l counts b p unwind s a part lie zero byte from to =
     of_section q h =
         let f = of_filter (λ (x : PlacedSection). not (is_zerofill (header_at l (id_of x)))) p.sections q h in
         let some = not-true (is_zerofill (header_at l (id_of q))) f.1 in
-        let lies = All-contains (SectionLies l p) p.sections q lie.placed.in_segment.sections f.0 in
+        let lies = All-contains (SectionLies l p) p.sections q (in_segment_of lie.placed).sections f.0 in
         let there : Contains p.segments lies.0 = (q.segment, lies.1.0, lies.1.1) in
         let side = beside part (section_span l q) a (zero.sections q f.0 some) from to in
         elim (cases_lt 0 (header_at l (id_of q)).size) [
@@ -218,13 +226,13 @@ none_has l counts b p unwind s a part lie zero byte from to =
 
     of_slot : (t : Slot) → Contains p.slots t → IsOutsideSpan (s.file_offset + (a - s.address)) (in_file p (slot_span t))
     of_slot t one =
-        let lies = All-contains (λ (x : Slot). LiesInNamed p DATA_CONST true (slot_span x)) p.slots t lie.placed.in_segment.slots one in
+        let lies = All-contains (λ (x : Slot). LiesInNamed p DATA_CONST true (slot_span x)) p.slots t (in_segment_of lie.placed).slots one in
         outside_of p s lies.0 a (slot_span t) lie.order byte lies.1 lies.3.from lies.3.to
         (beside part (slot_span t) a (zero.slots t one) from to)
 
     of_stub : (t : Stub) → Contains p.stubs t → IsOutsideSpan (s.file_offset + (a - s.address)) (in_file p (stub_span t))
     of_stub t one =
-        let lies = All-contains (λ (x : Stub). LiesInNamed p TEXT true (stub_span x)) p.stubs t lie.placed.in_segment.stubs one in
+        let lies = All-contains (λ (x : Stub). LiesInNamed p TEXT true (stub_span x)) p.stubs t (in_segment_of lie.placed).stubs one in
         outside_of p s lies.0 a (stub_span t) lie.order byte lies.1 lies.3.from lies.3.to
         (beside part (stub_span t) a (zero.stubs t one) from to)
 
@@ -278,7 +286,7 @@ none_has l counts b p unwind s a part lie zero byte from to =
 pub are_zero : (l : Link) (counts : Counts) (b : List ℕ) (p : Placed) (unwind : ℕ) → ContentsLie l counts b p unwind
     → All (λ (s : PlacedSegment). s.file_offset + s.file_size ≤ length b) p.segments → IsZeroElsewhere l b p unwind → AreZero l b p
 are_zero l counts b p unwind lie room zeros =
-    let apart = parts_apart l counts p lie.placed.apart in
+    let apart = parts_apart l counts p (apart_of lie.placed) in
     record {
       sections = λ q s a in_q zerofill in_s low high from to.
           let end = All-contains (λ (t : PlacedSegment). t.file_offset + t.file_size ≤ length b) p.segments s room in_s in

@@ -6,12 +6,15 @@ use Rattle.std.proofs.Common.{◌≡◌, ℕ, ◌+◌, ◌-◌, ◌<◌, ◌≤�
 use Rattle.std.specs.Prelude.{Contains}
 use Rattle.std.proofs.lemmas.Bool.{cases_lt}
 use Rattle.macho_model.specs.declared.placed.PlacedSegment.{PlacedSegment}
-use Rattle.macho_model.specs.Placement.{Placed, Span, AreApart}
+use Rattle.macho_model.specs.Placement.{Placed}
+use Rattle.macho_model.specs.Zeros.{Span}
+use Rattle.macho_model.specs.Spans.{AreApart, IsOutsideSpan}
 use Rattle.macho_model.specs.Addresses.{offset_in_file}
-use Rattle.macho_model.specs.Zeros.{in_file, IsOutsideSpan}
+use Rattle.macho_model.specs.Spans.{in_file}
 use Rattle.macho_fixups.specs.declared.run.FixupSegment.{FixupSegment}
 use Rattle.macho_fixups.specs.Runs.{AreSegments}
-use Rattle.macho_parts.specs.FixupsSay.{fixup_segment, fixup_segments}
+use Rattle.macho_parts.specs.FixupsSay.{fixup_segments}
+use Rattle.macho_parts.specs.steps.Segments.{fixup_segment}
 use Rattle.macho_standing.proofs.Members.{one_or_pair}
 use Rattle.macho_standing.proofs.Apart.{pairs_of_map}
 use Rattle.macho_standing.proofs.Held.{place_in_file}

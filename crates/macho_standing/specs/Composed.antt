@@ -1,6 +1,7 @@
 -- When an image is composed of the parts that a link and a placement of it ask for. What each field says is what the writer of
 -- that part hands on, of the final bytes.
 use Rattle.std.specs.Prelude.{◌≡◌, ℕ, ◌+◌, ◌-◌, ◌≤◌, false, List, length, All}
+use Rattle.macho_bytes.specs.Texts.{Stands}
 use Rattle.macho_records.specs.Sections.{is_zerofill}
 use Rattle.macho_model.specs.declared.placed.Counts.{Counts}
 use Rattle.macho_model.specs.declared.placed.PlacedSection.{PlacedSection}
@@ -13,8 +14,9 @@ use Rattle.macho_model.specs.Values.{BadRebase}
 use Rattle.macho_model.specs.HeadCommands.{CommandsSay}
 use Rattle.macho_model.specs.ImportTable.{ImportTableSays, LibrariesSay, names_text}
 use Rattle.macho_model.specs.Zeros.{IsZeroElsewhere}
-use Rattle.macho_fixups.specs.Runs.{AreSegments}
-use Rattle.macho_fixups.specs.Chains.{ChainIsRun}
+use Rattle.macho_fixups.specs.declared.imports.ImportEntry.{ImportEntry}
+use Rattle.macho_fixups.specs.Runs.{AreFixups, AreSegments}
+use Rattle.macho_fixups.specs.Chains.{AllStand, ChainIsRun}
 use Rattle.macho_fixups.specs.Tables.{table_text}
 use Rattle.macho_fixups.specs.Readings.{TableReadsBack}
 use Rattle.macho_commands.specs.Laws.{HasRoom}
@@ -26,11 +28,20 @@ use Rattle.macho_parts.specs.Filled.{IsFilled, StubIsSet, bytes_in_file}
 -- The fixup table and the words of its chains are written: with what their writers promise of the run, and with its room.
 pub record FixupsAreWritten (l : Link) (b : List ℕ) (p : Placed) : Type 0 where
   pub say : FixupsSay l b p
-  -- the chain of the words is the run, and the table is read back
+  -- chains can hold the run
+  pub run : AreFixups (fixup_segments p) say.fixups
+  -- the words stand, and their chain is the run
+  pub words : AllStand (fixup_segments p) say.fixups b
   pub chain : ChainIsRun (fixup_segments p) say.fixups
-  pub table : TableReadsBack p.base say.fixups (fixup_segments p) (import_format l) say.entries (names_text l)
+  -- the table stands with its entries, and is read back
+  pub entries : List ImportEntry
+  pub text : Stands b (record {
+    at = say.table.at;
+    text = table_text p.base say.fixups (fixup_segments p) (import_format l) entries (names_text l);
+  })
+  pub table : TableReadsBack p.base say.fixups (fixup_segments p) (import_format l) entries (names_text l)
   -- the table lies in the range that is told, and that in the file
-  pub room : length (table_text p.base say.fixups (fixup_segments p) (import_format l) say.entries (names_text l)) ≤ say.table.size
+  pub room : length (table_text p.base say.fixups (fixup_segments p) (import_format l) entries (names_text l)) ≤ say.table.size
   pub inside : say.table.at + say.table.size ≤ length b
   -- each value that moves has a word
   pub encoded : (at : Site) → BadRebase l p at → ⊥

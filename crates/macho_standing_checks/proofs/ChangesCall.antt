@@ -15,11 +15,11 @@ use Rattle.macho_model.specs.Objects.{symbol_place, symbol_at, strings_of, symbo
 use Rattle.macho_model.specs.ExportLists.{plain_entries, all_entries, entries_of}
 use Rattle.macho_records.specs.Sections.{is_zerofill}
 use Rattle.macho_model.specs.Links.{header_at, sections_of, carried_of, template_exponent, placed_exponent, object_of}
-use Rattle.macho_model.specs.Resolution.{symbols_of, strong_of, weak_of, commons_of, greatest_of, libraries_with, definition_of}
+use Rattle.macho_model.specs.Resolution.{symbols_of, strong_of, commons_of, greatest_of, libraries_with, definition_of}
 use Rattle.macho_model.specs.Resolution.{chosen_commons}
-use Rattle.macho_model.specs.Needs.{initializer_sections, unwind_sections, uses_of, imports_of, libraries_needed}
+use Rattle.macho_model.specs.Needs.{initializer_sections, unwind_sections, imports_of, libraries_needed, carried_relocations, initializer_relocations, personality_relocations}
 use Rattle.macho_model.specs.Targets.{target_of, target_of_relocation, slots_of, stubs_of}
-use Rattle.macho_model.specs.Fields.{Field, fields_of}
+use Rattle.macho_model.specs.Fields.{fields_of}
 use Rattle.macho_model.specs.Segments.{other_segments, segment_names_of, output_keys_of}
 use Rattle.macho_model.specs.Images.{segments_of, mapped_segments, base_of, libraries_of, tables_of, tries_of, signatures_of}
 use Rattle.macho_model.specs.Images.{symbol_tables_of, string_tables_of, entries_of_file, Table}
@@ -36,7 +36,6 @@ use Rattle.macho_model_checks.proofs.ValidTests.{one_passes}
 use Rattle.std.specs.Prelude.{Contains}
 use Rattle.macho_model.specs.Loader.{IsAccepted}
 use Rattle.macho_model.specs.Addresses.{offset_in_file}
-use Rattle.macho_model.specs.Agreement.{SegmentPlace, place_by_command}
 use Rattle.macho_model_checks.proofs.LoaderTests.{load_test, shows_load_test}
 use Rattle.macho_model.specs.declared.rules.LoadRule.{LoadRule}
 use Rattle.macho_model.specs.declared.rules.LoadRule.TheVariants.{L1, L2, L3, L4, L5, L6, L7, L8, L9, L10}
@@ -45,7 +44,7 @@ use Rattle.std.proofs.lemmas.Bool.{leb-true, le-leb, lt-ltb}
 use Rattle.std.proofs.lemmas.List.Elements.{All-nil, All-cons}
 use Rattle.macho_records.specs.declared.header.SegmentCommand.{SegmentCommand}
 use Rattle.macho_model.specs.Memory.{Choice, Holds, Covers}
-use Rattle.macho_model.specs.Stands.{ImageStands, IsOutsideField}
+use Rattle.macho_model.specs.Stands.{ImageStands}
 use Rattle.macho_model_checks.proofs.RowsCall.{with_another_library, library_is_asked}
 use Rattle.macho_model_checks.proofs.RowsCallChain.{constants_in_chain, segments_in_chain, words_in_chain, pointer_is_asked}
 use Rattle.macho_model_checks.proofs.RowsCallFixups.{fixup_of_pointer, is_of_pointer}
@@ -55,6 +54,8 @@ use Rattle.macho_promise.specs.Promise.{Agrees}
 use Rattle.macho_parts.specs.Filled.{bytes_in_file}
 use Rattle.macho_standing.specs.Composed.{FixupsAreWritten, ImportsAreWritten, ContentIsWritten, HeadIsWritten}
 use Rattle.macho_standing_checks.proofs.FactsCall.{sizes_call, field_call, fields_call}
+use Rattle.macho_model.specs.steps.Agreement.{SegmentPlace, place_by_command}
+use Rattle.macho_model.specs.Spans.{IsOutsideField}
 
 -- A change breaks a part of what an image is composed of, and a conclusion.
 pub record Breaks (Part Conclusion : Type 0) : Type 0 where
@@ -98,7 +99,7 @@ head_is_needed = record {
 unfoldable pub data_elsewhere : List ℕ
 data_elsewhere = changed call_image 512 (words8 (0x100010000 ∷ []))
 
-elsewhere_facts : (map (λ (s : SegmentPlace). s.address) (map place_by_command (segments_of data_elsewhere))
+elsewhere_facts : (map (λ (s : SegmentPlace). s.1) (map place_by_command (segments_of data_elsewhere))
     ≡ 0 ∷ 0x100000000 ∷ 0x100004000 ∷ 0x100010000 ∷ 0x10000c000 ∷ []) × (load_test data_elsewhere L6 ≡ false)
 unfolding changed data_elsewhere commands_end commands_of commands_from header_of reading le_at row_bytes le_bytes words8 words halves
     name16 entry calls_exit head_of_call fixups_of_call tables_of_call be_at be_bytes big_words signature_of_call call_image segments_of
@@ -109,7 +110,7 @@ pub agreement_is_needed : Breaks (Agrees calling counts_of_call data_elsewhere p
 agreement_is_needed = record {
   part = λ agrees.
       let addresses = sym elsewhere_facts.0
-      ∙ ap (λ (ss : List SegmentPlace). map (λ (s : SegmentPlace). s.address) ss) agrees.commands.segments in
+      ∙ ap (λ (ss : List SegmentPlace). map (λ (s : SegmentPlace). s.1) ss) agrees.commands.segments in
       let address : 0x100010000 ≡ 0x100008000 = ap (λ (ns : List ℕ). get_or ns 3 0) addresses in
       omega (arith, address);
   conclusion = refused data_elsewhere L6 elsewhere_facts.1;
@@ -170,8 +171,8 @@ starts_are_needed = record {
   part = λ w.
       let same : table_there ≡ w.say.table = ap (λ (ts : List Table). get_or ts 0 w.say.table) (sym without_start_facts.2 ∙ w.say.one) in
       let on : OnChain (told_segments without_start w.say.table (fixup_segments placed_call)) without_start 0x100008000 =
-      ((w.table.read without_start w.say.table w.say.text).chain w.chain w.say.words 0x100008000).1
-      (fixup_of_pointer, w.say.all fixup_of_pointer is_of_pointer, refl) in
+      ((w.table.read without_start w.say.table w.text).chain w.chain w.words 0x100008000).1
+      (fixup_of_pointer, (w.say.are fixup_of_pointer).1 is_of_pointer, refl) in
       let there = subst (λ (t : Table). OnChain (told_segments without_start t (fixup_segments placed_call)) without_start 0x100008000)
       (sym same) on in
       not_on (subst (λ (segments : List ChainSegment). OnChain segments without_start 0x100008000) without_start_facts.1 there);
@@ -217,8 +218,8 @@ filled_code : is_zerofill (header_at calling (section 0 0)) ≡ false
 unfolding commands_end commands_of commands_from header_of reading le_at row_bytes le_bytes words8 words halves name16 entry calls_exit
     head_of_call fixups_of_call tables_of_call be_at be_bytes big_words signature_of_call call_image num_sections section_place
     section_at section_bytes symtab_of num_symbols symbol_place symbol_at strings_of symbol_name relocation_place relocation_at
-    sections_of carried_of template_exponent placed_exponent symbols_of strong_of weak_of commons_of greatest_of libraries_with
-    definition_of chosen_commons initializer_sections unwind_sections uses_of imports_of libraries_needed target_of
+    sections_of carried_of template_exponent placed_exponent symbols_of strong_of commons_of greatest_of libraries_with
+    definition_of chosen_commons initializer_sections unwind_sections carried_relocations initializer_relocations personality_relocations imports_of libraries_needed target_of
     target_of_relocation slots_of stubs_of fields_of plain_entries all_entries entries_of other_segments segment_names_of
     output_keys_of
 filled_code = refl
@@ -227,8 +228,8 @@ input_byte : slice_index (section_bytes (object_of calling 0) 0) 4 ≡ 0xc0
 unfolding commands_end commands_of commands_from header_of reading le_at row_bytes le_bytes words8 words halves name16 entry calls_exit
     head_of_call fixups_of_call tables_of_call be_at be_bytes big_words signature_of_call call_image num_sections section_place
     section_at section_bytes symtab_of num_symbols symbol_place symbol_at strings_of symbol_name relocation_place relocation_at
-    sections_of carried_of template_exponent placed_exponent symbols_of strong_of weak_of commons_of greatest_of libraries_with
-    definition_of chosen_commons initializer_sections unwind_sections uses_of imports_of libraries_needed target_of
+    sections_of carried_of template_exponent placed_exponent symbols_of strong_of commons_of greatest_of libraries_with
+    definition_of chosen_commons initializer_sections unwind_sections carried_relocations initializer_relocations personality_relocations imports_of libraries_needed target_of
     target_of_relocation slots_of stubs_of fields_of plain_entries all_entries entries_of other_segments segment_names_of
     output_keys_of
 input_byte = refl

@@ -22,13 +22,15 @@ use Rattle.macho_model.specs.Objects.{num_sections, section_place, section_at, s
 use Rattle.macho_model.specs.Objects.{symbol_place, symbol_at, strings_of, symbol_name, relocation_place, relocation_at}
 use Rattle.macho_model.specs.ExportLists.{plain_entries, all_entries, entries_of}
 use Rattle.macho_model.specs.Links.{sections_of, carried_of, template_exponent, placed_exponent}
-use Rattle.macho_model.specs.Resolution.{symbols_of, strong_of, weak_of, commons_of, greatest_of, libraries_with, definition_of}
+use Rattle.macho_model.specs.Resolution.{symbols_of, strong_of, commons_of, greatest_of, libraries_with, definition_of}
+use Rattle.macho_model.specs.steps.Resolved.{weak_of}
 use Rattle.macho_model.specs.Resolution.{chosen_commons}
-use Rattle.macho_model.specs.Needs.{initializer_sections, unwind_sections, uses_of, imports_of, libraries_needed}
+use Rattle.macho_model.specs.Needs.{initializer_sections, unwind_sections, imports_of, libraries_needed, carried_relocations, initializer_relocations, personality_relocations}
 use Rattle.macho_model.specs.Targets.{target_of, target_of_relocation, slots_of, stubs_of}
 use Rattle.macho_model.specs.Fields.{fields_of}
 use Rattle.macho_model.specs.Segments.{other_segments, segment_names_of, output_keys_of}
-use Rattle.macho_model.specs.Placement.{Placed, Span}
+use Rattle.macho_model.specs.Placement.{Placed}
+use Rattle.macho_model.specs.Zeros.{Span}
 use Rattle.macho_model.specs.Images.{segments_of, mapped_segments, base_of, libraries_of, tables_of, tries_of, signatures_of}
 use Rattle.macho_model.specs.Images.{symbol_tables_of, string_tables_of, entries_of_file}
 use Rattle.macho_model.specs.Fixups.{own_entries, import_entries_of, entries_have_addends}
@@ -37,7 +39,7 @@ use Rattle.macho_model.specs.Chain.{ChainSegment, chain_segments, OnChain}
 use Rattle.macho_model.specs.Addresses.{offset_in_file}
 use Rattle.macho_model.specs.Memory.{Choice, Holds, HoldsNumber, Covers}
 use Rattle.macho_model.specs.Stands.{ImageStands}
-use Rattle.macho_model.specs.Zeros.{contents_of, IsOutsideSpan, IsZeroElsewhere}
+use Rattle.macho_model.specs.Zeros.{contents_of, IsZeroElsewhere}
 use Rattle.macho_model.proofs.EachBelow.{is_equal, and_left, and_right, and_both}
 use Rattle.macho_memory_walks.proofs.ChainSets.{is_closed, among_passes, chain_within}
 use Rattle.macho_unwind_pages.specs.declared.entries.ResolvedUnwindInfo.{ResolvedUnwindInfo}
@@ -55,6 +57,7 @@ use Rattle.macho_model_checks.proofs.RowsCallZeros.{span, contents_of_call, call
 use Rattle.macho_standing_checks.proofs.ChangesCall.{Breaks}
 use Rattle.macho_standing_checks.proofs.FactsCall.{sizes_call}
 use Rattle.macho_standing_checks.proofs.ComposedCall.{filled_text, filled_data, stub_call}
+use Rattle.macho_model.specs.Spans.{IsOutsideSpan}
 
 -- The image with another byte at a place.
 abbrev with_byte : ℕ → ℕ → List ℕ
@@ -163,7 +166,7 @@ unfolding changed with_other_stub commands_end commands_of commands_from header_
     name16 entry calls_exit head_of_call fixups_of_call tables_of_call be_at be_bytes big_words signature_of_call call_image
     num_sections section_place section_at section_bytes symtab_of num_symbols symbol_place symbol_at strings_of symbol_name
     relocation_place relocation_at sections_of carried_of template_exponent placed_exponent symbols_of strong_of weak_of
-    commons_of greatest_of libraries_with definition_of chosen_commons initializer_sections unwind_sections uses_of imports_of
+    commons_of greatest_of libraries_with definition_of chosen_commons initializer_sections unwind_sections carried_relocations initializer_relocations personality_relocations imports_of
     libraries_needed target_of target_of_relocation slots_of stubs_of fields_of plain_entries all_entries entries_of
     other_segments segment_names_of output_keys_of own_entries import_entries_of entries_have_addends fixup_count
     names_text segments_of mapped_segments base_of libraries_of tables_of tries_of signatures_of symbol_tables_of
@@ -184,8 +187,8 @@ contents_are : contents_of calling call_image placed_call 0 ≡ contents_of_call
 unfolding commands_end commands_of commands_from header_of reading le_at row_bytes le_bytes words8 words halves name16 entry calls_exit
     head_of_call fixups_of_call tables_of_call be_at be_bytes big_words signature_of_call call_image num_sections section_place
     section_at section_bytes symtab_of num_symbols symbol_place symbol_at strings_of symbol_name relocation_place relocation_at
-    sections_of carried_of template_exponent placed_exponent symbols_of strong_of weak_of commons_of greatest_of libraries_with
-    definition_of chosen_commons initializer_sections unwind_sections uses_of imports_of libraries_needed target_of
+    sections_of carried_of template_exponent placed_exponent symbols_of strong_of commons_of greatest_of libraries_with
+    definition_of chosen_commons initializer_sections unwind_sections carried_relocations initializer_relocations personality_relocations imports_of libraries_needed target_of
     target_of_relocation slots_of stubs_of fields_of plain_entries all_entries entries_of other_segments segment_names_of
     output_keys_of own_entries import_entries_of entries_have_addends fixup_count names_text segments_of
     mapped_segments base_of libraries_of tables_of tries_of signatures_of symbol_tables_of string_tables_of
@@ -239,7 +242,7 @@ unfolding changed with_other_unwind commands_end commands_of commands_from heade
     name16 entry calls_exit head_of_call fixups_of_call tables_of_call be_at be_bytes big_words signature_of_call call_image
     num_sections section_place section_at section_bytes symtab_of num_symbols symbol_place symbol_at strings_of symbol_name
     relocation_place relocation_at sections_of carried_of template_exponent placed_exponent symbols_of strong_of weak_of
-    commons_of greatest_of libraries_with definition_of chosen_commons initializer_sections unwind_sections uses_of imports_of
+    commons_of greatest_of libraries_with definition_of chosen_commons initializer_sections unwind_sections carried_relocations initializer_relocations personality_relocations imports_of
     libraries_needed target_of target_of_relocation slots_of stubs_of fields_of plain_entries all_entries entries_of
     other_segments segment_names_of output_keys_of own_entries import_entries_of entries_have_addends fixup_count
     names_text segments_of mapped_segments base_of libraries_of tables_of tries_of signatures_of symbol_tables_of

@@ -1,8 +1,7 @@
 -- What the link of one object with a call of a library and a pointer has, computed from its bytes.
 --
 -- Two carried sections of eight bytes with one field each, a branch and a pointer; an import with its slot and its stub; nothing else.
-use Rattle.std.proofs.Common.{◌≡◌, false, [], ◌∷◌, None, refl}
-use Rattle.macho_records.specs.Sections.{is_zerofill}
+use Rattle.std.proofs.Common.{◌≡◌, [], ◌∷◌, None, refl}
 use Rattle.macho_records.specs.declared.constants.TheConstants.{ARM64_RELOC_BRANCH26}
 use Rattle.macho_model.specs.declared.targets.Target.TheVariants as target
 use Rattle.macho_bytes.specs.Numbers.{le_at, le_bytes, row_bytes}
@@ -12,14 +11,14 @@ use Rattle.macho_model.specs.Objects.{num_sections, section_place, section_at, s
 use Rattle.macho_model.specs.Objects.{symbol_place, symbol_at, strings_of, symbol_name, relocation_place, relocation_at}
 use Rattle.macho_model.specs.ExportLists.{plain_entries, all_entries, entries_of}
 use Rattle.macho_model.specs.Links.{header_at, sections_of, carried_of, template_exponent, placed_exponent}
-use Rattle.macho_model.specs.Resolution.{symbols_of, strong_of, weak_of, commons_of, greatest_of, libraries_with, definition_of}
+use Rattle.macho_model.specs.Resolution.{symbols_of, strong_of, commons_of, greatest_of, libraries_with, definition_of}
 use Rattle.macho_model.specs.Resolution.{chosen_commons}
-use Rattle.macho_model.specs.Needs.{initializer_sections, unwind_sections, uses_of, imports_of, libraries_needed}
+use Rattle.macho_model.specs.Needs.{initializer_sections, unwind_sections, imports_of, libraries_needed, carried_relocations, initializer_relocations, personality_relocations}
 use Rattle.macho_model.specs.Targets.{target_of, target_of_relocation, slots_of, stubs_of, target_of_name}
 use Rattle.macho_model.specs.Fields.{Field, fields_of, content_of}
 use Rattle.macho_model.specs.Rows.{is_supported}
 use Rattle.macho_model.specs.Consumed.{personality_targets, entries_of_link}
-use Rattle.macho_model.specs.Segments.{TEXT, other_segments, segment_rank, segment_names_of, output_keys_of, output_count}
+use Rattle.macho_model.specs.Segments.{other_segments, segment_rank, segment_names_of, output_keys_of, output_count}
 use Rattle.macho_model.specs.WrittenSum.{content_sum, command_sum, unsigned_sum, written_sum_of}
 use Rattle.macho_model_checks.proofs.Examples.{words8, words, halves, name16}
 use Rattle.macho_model_checks.proofs.ExampleLinks.{entry, section}
@@ -32,8 +31,8 @@ use Rattle.macho_model.specs.Valid.{IsValid}
 pub carried_call : carried_of calling ≡ section 0 0 ∷ section 0 1 ∷ []
 unfolding header_of commands_from commands_of commands_end num_sections section_place section_at section_bytes symtab_of
     num_symbols symbol_place symbol_at strings_of symbol_name relocation_place relocation_at sections_of carried_of template_exponent
-    placed_exponent symbols_of strong_of weak_of commons_of greatest_of libraries_with definition_of chosen_commons
-    initializer_sections unwind_sections uses_of imports_of libraries_needed target_of target_of_relocation slots_of stubs_of
+    placed_exponent symbols_of strong_of commons_of greatest_of libraries_with definition_of chosen_commons
+    initializer_sections unwind_sections carried_relocations initializer_relocations personality_relocations imports_of libraries_needed target_of target_of_relocation slots_of stubs_of
     fields_of is_supported plain_entries all_entries entries_of other_segments segment_rank segment_names_of output_keys_of
     output_count content_sum command_sum unsigned_sum written_sum_of personality_targets entries_of_link le_at le_bytes
     row_bytes reading words8 words halves name16 entry calls_exit
@@ -42,8 +41,8 @@ carried_call = refl
 pub sizes_call : ((header_at calling (section 0 0)).size ≡ 8) × ((header_at calling (section 0 1)).size ≡ 8)
 unfolding header_of commands_from commands_of commands_end num_sections section_place section_at section_bytes symtab_of
     num_symbols symbol_place symbol_at strings_of symbol_name relocation_place relocation_at sections_of carried_of template_exponent
-    placed_exponent symbols_of strong_of weak_of commons_of greatest_of libraries_with definition_of chosen_commons
-    initializer_sections unwind_sections uses_of imports_of libraries_needed target_of target_of_relocation slots_of stubs_of
+    placed_exponent symbols_of strong_of commons_of greatest_of libraries_with definition_of chosen_commons
+    initializer_sections unwind_sections carried_relocations initializer_relocations personality_relocations imports_of libraries_needed target_of target_of_relocation slots_of stubs_of
     fields_of is_supported plain_entries all_entries entries_of other_segments segment_rank segment_names_of output_keys_of
     output_count content_sum command_sum unsigned_sum written_sum_of personality_targets entries_of_link le_at le_bytes
     row_bytes reading words8 words halves name16 entry calls_exit
@@ -52,8 +51,8 @@ sizes_call = (refl, refl)
 pub exponents_call : (placed_exponent calling (section 0 0) ≡ 2) × (placed_exponent calling (section 0 1) ≡ 3)
 unfolding header_of commands_from commands_of commands_end num_sections section_place section_at section_bytes symtab_of
     num_symbols symbol_place symbol_at strings_of symbol_name relocation_place relocation_at sections_of carried_of template_exponent
-    placed_exponent symbols_of strong_of weak_of commons_of greatest_of libraries_with definition_of chosen_commons
-    initializer_sections unwind_sections uses_of imports_of libraries_needed target_of target_of_relocation slots_of stubs_of
+    placed_exponent symbols_of strong_of commons_of greatest_of libraries_with definition_of chosen_commons
+    initializer_sections unwind_sections carried_relocations initializer_relocations personality_relocations imports_of libraries_needed target_of target_of_relocation slots_of stubs_of
     fields_of is_supported plain_entries all_entries entries_of other_segments segment_rank segment_names_of output_keys_of
     output_count content_sum command_sum unsigned_sum written_sum_of personality_targets entries_of_link le_at le_bytes
     row_bytes reading words8 words halves name16 entry calls_exit
@@ -62,8 +61,8 @@ exponents_call = (refl, refl)
 pub commons_call : chosen_commons calling ≡ []
 unfolding header_of commands_from commands_of commands_end num_sections section_place section_at section_bytes symtab_of
     num_symbols symbol_place symbol_at strings_of symbol_name relocation_place relocation_at sections_of carried_of template_exponent
-    placed_exponent symbols_of strong_of weak_of commons_of greatest_of libraries_with definition_of chosen_commons
-    initializer_sections unwind_sections uses_of imports_of libraries_needed target_of target_of_relocation slots_of stubs_of
+    placed_exponent symbols_of strong_of commons_of greatest_of libraries_with definition_of chosen_commons
+    initializer_sections unwind_sections carried_relocations initializer_relocations personality_relocations imports_of libraries_needed target_of target_of_relocation slots_of stubs_of
     fields_of is_supported plain_entries all_entries entries_of other_segments segment_rank segment_names_of output_keys_of
     output_count content_sum command_sum unsigned_sum written_sum_of personality_targets entries_of_link le_at le_bytes
     row_bytes reading words8 words halves name16 entry calls_exit
@@ -72,8 +71,8 @@ commons_call = refl
 pub slots_call : slots_of calling ≡ target.Import 0 ∷ []
 unfolding header_of commands_from commands_of commands_end num_sections section_place section_at section_bytes symtab_of
     num_symbols symbol_place symbol_at strings_of symbol_name relocation_place relocation_at sections_of carried_of template_exponent
-    placed_exponent symbols_of strong_of weak_of commons_of greatest_of libraries_with definition_of chosen_commons
-    initializer_sections unwind_sections uses_of imports_of libraries_needed target_of target_of_relocation slots_of stubs_of
+    placed_exponent symbols_of strong_of commons_of greatest_of libraries_with definition_of chosen_commons
+    initializer_sections unwind_sections carried_relocations initializer_relocations personality_relocations imports_of libraries_needed target_of target_of_relocation slots_of stubs_of
     fields_of is_supported plain_entries all_entries entries_of other_segments segment_rank segment_names_of output_keys_of
     output_count content_sum command_sum unsigned_sum written_sum_of personality_targets entries_of_link le_at le_bytes
     row_bytes reading words8 words halves name16 entry calls_exit
@@ -82,8 +81,8 @@ slots_call = refl
 pub stubs_call : stubs_of calling ≡ target.Import 0 ∷ []
 unfolding header_of commands_from commands_of commands_end num_sections section_place section_at section_bytes symtab_of
     num_symbols symbol_place symbol_at strings_of symbol_name relocation_place relocation_at sections_of carried_of template_exponent
-    placed_exponent symbols_of strong_of weak_of commons_of greatest_of libraries_with definition_of chosen_commons
-    initializer_sections unwind_sections uses_of imports_of libraries_needed target_of target_of_relocation slots_of stubs_of
+    placed_exponent symbols_of strong_of commons_of greatest_of libraries_with definition_of chosen_commons
+    initializer_sections unwind_sections carried_relocations initializer_relocations personality_relocations imports_of libraries_needed target_of target_of_relocation slots_of stubs_of
     fields_of is_supported plain_entries all_entries entries_of other_segments segment_rank segment_names_of output_keys_of
     output_count content_sum command_sum unsigned_sum written_sum_of personality_targets entries_of_link le_at le_bytes
     row_bytes reading words8 words halves name16 entry calls_exit
@@ -104,8 +103,8 @@ field_call = record {
 pub fields_call : fields_of calling (section 0 0) ≡ field_call ∷ []
 unfolding header_of commands_from commands_of commands_end num_sections section_place section_at section_bytes symtab_of
     num_symbols symbol_place symbol_at strings_of symbol_name relocation_place relocation_at sections_of carried_of template_exponent
-    placed_exponent symbols_of strong_of weak_of commons_of greatest_of libraries_with definition_of chosen_commons
-    initializer_sections unwind_sections uses_of imports_of libraries_needed target_of target_of_relocation slots_of stubs_of
+    placed_exponent symbols_of strong_of commons_of greatest_of libraries_with definition_of chosen_commons
+    initializer_sections unwind_sections carried_relocations initializer_relocations personality_relocations imports_of libraries_needed target_of target_of_relocation slots_of stubs_of
     fields_of is_supported plain_entries all_entries entries_of other_segments segment_rank segment_names_of output_keys_of
     output_count content_sum command_sum unsigned_sum written_sum_of personality_targets entries_of_link le_at le_bytes
     row_bytes reading words8 words halves name16 entry calls_exit field_call
@@ -114,8 +113,8 @@ fields_call = refl
 pub content_call : content_of calling (section 0 0) 0 ≡ 0x94000000
 unfolding header_of commands_from commands_of commands_end num_sections section_place section_at section_bytes symtab_of
     num_symbols symbol_place symbol_at strings_of symbol_name relocation_place relocation_at sections_of carried_of template_exponent
-    placed_exponent symbols_of strong_of weak_of commons_of greatest_of libraries_with definition_of chosen_commons
-    initializer_sections unwind_sections uses_of imports_of libraries_needed target_of target_of_relocation slots_of stubs_of
+    placed_exponent symbols_of strong_of commons_of greatest_of libraries_with definition_of chosen_commons
+    initializer_sections unwind_sections carried_relocations initializer_relocations personality_relocations imports_of libraries_needed target_of target_of_relocation slots_of stubs_of
     fields_of is_supported plain_entries all_entries entries_of other_segments segment_rank segment_names_of output_keys_of
     output_count content_sum command_sum unsigned_sum written_sum_of personality_targets entries_of_link le_at le_bytes
     row_bytes reading words8 words halves name16 entry calls_exit
@@ -124,8 +123,8 @@ content_call = refl
 pub entry_call : target_of_name calling calling.entry ≡ target.Section 0 0 0
 unfolding header_of commands_from commands_of commands_end num_sections section_place section_at section_bytes symtab_of
     num_symbols symbol_place symbol_at strings_of symbol_name relocation_place relocation_at sections_of carried_of template_exponent
-    placed_exponent symbols_of strong_of weak_of commons_of greatest_of libraries_with definition_of chosen_commons
-    initializer_sections unwind_sections uses_of imports_of libraries_needed target_of target_of_relocation slots_of stubs_of
+    placed_exponent symbols_of strong_of commons_of greatest_of libraries_with definition_of chosen_commons
+    initializer_sections unwind_sections carried_relocations initializer_relocations personality_relocations imports_of libraries_needed target_of target_of_relocation slots_of stubs_of
     fields_of is_supported plain_entries all_entries entries_of other_segments segment_rank segment_names_of output_keys_of
     output_count content_sum command_sum unsigned_sum written_sum_of personality_targets entries_of_link le_at le_bytes
     row_bytes reading words8 words halves name16 entry calls_exit
@@ -135,8 +134,8 @@ entry_call = refl
 pub sum_call : written_sum_of calling counts_of_call ≡ 133505
 unfolding header_of commands_from commands_of commands_end num_sections section_place section_at section_bytes symtab_of
     num_symbols symbol_place symbol_at strings_of symbol_name relocation_place relocation_at sections_of carried_of template_exponent
-    placed_exponent symbols_of strong_of weak_of commons_of greatest_of libraries_with definition_of chosen_commons
-    initializer_sections unwind_sections uses_of imports_of libraries_needed target_of target_of_relocation slots_of stubs_of
+    placed_exponent symbols_of strong_of commons_of greatest_of libraries_with definition_of chosen_commons
+    initializer_sections unwind_sections carried_relocations initializer_relocations personality_relocations imports_of libraries_needed target_of target_of_relocation slots_of stubs_of
     fields_of is_supported plain_entries all_entries entries_of other_segments segment_rank segment_names_of output_keys_of
     output_count content_sum command_sum unsigned_sum written_sum_of personality_targets entries_of_link le_at le_bytes
     row_bytes reading words8 words halves name16 entry calls_exit
@@ -146,8 +145,8 @@ sum_call = refl
 pub object_call : IsObject calls_exit
 unfolding verdict header_of commands_from commands_of commands_end num_sections section_place section_at section_bytes
     symtab_of num_symbols symbol_place symbol_at strings_of symbol_name relocation_place relocation_at sections_of carried_of
-    template_exponent placed_exponent symbols_of strong_of weak_of commons_of greatest_of libraries_with definition_of chosen_commons
-    initializer_sections unwind_sections uses_of imports_of libraries_needed target_of target_of_relocation slots_of stubs_of
+    template_exponent placed_exponent symbols_of strong_of commons_of greatest_of libraries_with definition_of chosen_commons
+    initializer_sections unwind_sections carried_relocations initializer_relocations personality_relocations imports_of libraries_needed target_of target_of_relocation slots_of stubs_of
     fields_of is_supported plain_entries all_entries entries_of other_segments segment_rank segment_names_of output_keys_of
     output_count content_sum command_sum unsigned_sum written_sum_of personality_targets entries_of_link le_at le_bytes
     row_bytes reading words8 words halves name16 entry calls_exit
@@ -156,8 +155,8 @@ object_call = is_object calls_exit refl
 pub valid_call : IsValid calling counts_of_call
 unfolding valid_verdict header_of commands_from commands_of commands_end num_sections section_place section_at section_bytes
     symtab_of num_symbols symbol_place symbol_at strings_of symbol_name relocation_place relocation_at sections_of carried_of
-    template_exponent placed_exponent symbols_of strong_of weak_of commons_of greatest_of libraries_with definition_of chosen_commons
-    initializer_sections unwind_sections uses_of imports_of libraries_needed target_of target_of_relocation slots_of stubs_of
+    template_exponent placed_exponent symbols_of strong_of commons_of greatest_of libraries_with definition_of chosen_commons
+    initializer_sections unwind_sections carried_relocations initializer_relocations personality_relocations imports_of libraries_needed target_of target_of_relocation slots_of stubs_of
     fields_of is_supported plain_entries all_entries entries_of other_segments segment_rank segment_names_of output_keys_of
     output_count content_sum command_sum unsigned_sum written_sum_of personality_targets entries_of_link le_at le_bytes
     row_bytes reading words8 words halves name16 entry calls_exit

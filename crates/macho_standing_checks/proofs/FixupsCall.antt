@@ -3,17 +3,14 @@
 -- What the table and the words say is computed in `RowsCallFixups`. Here the words lead to no further one, so the chain is the run; the
 -- table reads back; and of the two words the one that moves has a target that it has room for.
 use Rattle.std.proofs.Common.{◌≡◌, ℕ, zero, suc, ◌+◌, ◌%◌, ◌^◌, ◌<◌, ◌≤◌, ◌⊎◌, true, false, List, [], ◌∷◌, length, get_or, map, refl, sym}
-use Rattle.std.proofs.Common.{ap, subst, ◌∙◌, arith, inl, inr, All, slice_range}
-use Rattle.std.specs.Prelude.{Contains, pos, codes, ◌++◌}
+use Rattle.std.proofs.Common.{ap, subst, ◌∙◌, arith, inl, inr, All}
+use Rattle.std.specs.Prelude.{Contains, pos}
 use Rattle.std.specs.List.{AllByRecursion}
 use Rattle.std.proofs.lemmas.Bool.{true≢false}
-use Rattle.std.proofs.lemmas.List.Elements.{All-nil, All-cons, All-from_recursion}
+use Rattle.std.proofs.lemmas.List.Elements.{All-from_recursion}
 use Rattle.std.specs.FinMap.{empty}
-use Rattle.macho_bytes.specs.Texts.{Stands}
-use Rattle.macho_bytes.specs.Layouts.{ReadsBack, spelling}
 use Rattle.macho_bytes.proofs.Layouts.{reads_back}
 use Rattle.macho_bytes.proofs.Numbers.{little_is_sound}
-use Rattle.macho_structs.specs.Layouts.{chained_fixups_header}
 use Rattle.macho_structs.specs.declared.fixups.ChainedFixupsHeader.{ChainedFixupsHeader}
 use Rattle.macho_model.specs.declared.placed.PlacedSection.{PlacedSection}
 use Rattle.macho_model.specs.declared.placed.Slot.{Slot}
@@ -21,59 +18,43 @@ use Rattle.macho_model.specs.declared.targets.Site.{Site}
 use Rattle.macho_model.specs.declared.targets.Site.TheVariants as site
 use Rattle.macho_model.specs.declared.targets.Target.TheVariants as target
 use Rattle.macho_model.specs.Targets.{is_import}
-use Rattle.macho_model.specs.Placement.{id_of}
 use Rattle.macho_model.specs.Values.{needs_fixup, IsNotEncodable, BadRebase}
 use Rattle.macho_model.specs.Stands.{IsAt}
-use Rattle.macho_model.specs.Chain.{STRIDE}
-use Rattle.macho_model.specs.Fixups.{own_entries, import_entries_of, entries_have_addends, import_format}
+use Rattle.macho_model.specs.Fixups.{import_format}
 use Rattle.macho_model.specs.ImportTable.{names_text}
 use Rattle.macho_fixups.specs.declared.run.Fixup.{Fixup}
 use Rattle.macho_fixups.specs.declared.run.FixupSegment.{FixupSegment}
 use Rattle.macho_fixups.specs.declared.imports.ImportEntry.{ImportEntry}
 use Rattle.macho_fixups.specs.declared.words.FixupKind.TheVariants.{Rebase, Bind}
-use Rattle.macho_fixups.specs.Words.{FitsOrdinal, IsWordOf, word_of}
-use Rattle.macho_fixups.specs.Runs.{AreFixups, Holds, pages_of, start_of}
-use Rattle.macho_fixups.specs.Chains.{ChainIsRun, step_of, place_of, word_part}
+use Rattle.macho_fixups.specs.Words.{IsWordOf, word_of}
+use Rattle.macho_fixups.specs.Runs.{pages_of, start_of}
+use Rattle.macho_fixups.specs.Chains.{ChainIsRun, step_of}
 use Rattle.macho_fixups.specs.Tables.{table_header, table_text, image_starts_text, image_starts_size, offsets_text, segment_text}
-use Rattle.macho_fixups.specs.Tables.{segment_size, starts_text, page_starts_text, entry_text}
+use Rattle.macho_fixups.specs.Tables.{segment_size, starts_text, page_starts_text}
 use Rattle.macho_fixups.specs.Readings.{TableReadsBack}
 use Rattle.macho_fixups.specs.Calls.{FitsTable, AreEntries}
 use Rattle.macho_fixups.specs.steps.Calls.{EntryFits}
 use Rattle.macho_fixups.proofs.RunPages.{chain_is_run}
 use Rattle.macho_fixups.proofs.TableReading.{table_reads_back}
-use Rattle.macho_promise.specs.FixupsSay.{FixupsSay, IsFixupOf, kind_for, fixup_segments}
+use Rattle.macho_promise.specs.FixupsSay.{fixup_segments}
 use Rattle.macho_promise.specs.FixupsSay as promised
-use Rattle.macho_bytes.specs.Numbers.{le_at, le_bytes, row_bytes, be_at, be_bytes}
-use Rattle.macho_bytes.specs.Layouts.{reading}
-use Rattle.macho_model.specs.Commands.{header_of, commands_from, commands_of, commands_end}
-use Rattle.macho_model.specs.Objects.{num_sections, section_place, section_at, section_bytes, symtab_of, num_symbols}
-use Rattle.macho_model.specs.Objects.{symbol_place, symbol_at, strings_of, symbol_name, relocation_place, relocation_at}
-use Rattle.macho_model.specs.ExportLists.{plain_entries, all_entries, entries_of}
-use Rattle.macho_model.specs.Links.{SectionId, section_id, sections_of, carried_of, template_exponent, placed_exponent}
-use Rattle.macho_model.specs.Resolution.{symbols_of, strong_of, weak_of, commons_of, greatest_of, libraries_with, definition_of}
-use Rattle.macho_model.specs.Resolution.{chosen_commons}
-use Rattle.macho_model.specs.Needs.{initializer_sections, unwind_sections, uses_of, imports_of, libraries_needed}
-use Rattle.macho_model.specs.Targets.{target_of, target_of_relocation, slots_of, stubs_of}
+use Rattle.macho_bytes.specs.Numbers.{le_bytes, row_bytes}
+use Rattle.macho_model.specs.Links.{SectionId, section_id, carried_of}
 use Rattle.macho_model.specs.Fields.{Field, fields_of}
-use Rattle.macho_model.specs.Rows.{is_supported}
-use Rattle.macho_model.specs.Consumed.{personality_targets, entries_of_link}
-use Rattle.macho_model.specs.Segments.{other_segments, segment_rank, segment_names_of, output_keys_of, output_count}
-use Rattle.macho_model.specs.WrittenSum.{content_sum, command_sum, unsigned_sum, written_sum_of}
-use Rattle.macho_model_checks.proofs.Examples.{words8, words, halves, name16}
-use Rattle.macho_model_checks.proofs.ExampleLinks.{entry, section}
-use Rattle.macho_model_checks.proofs.ExampleCall.{calls_exit, calling, placed_call}
-use Rattle.macho_model.specs.Images.{segments_of, base_of, tables_of, entries_of_file}
-use Rattle.macho_model.specs.Addresses.{offset_in_file}
-use Rattle.macho_model_checks.proofs.ExampleCall.{head_of_call, fixups_of_call, tables_of_call, big_words, signature_of_call, call_image}
-use Rattle.macho_model_checks.proofs.ExamplePlacement.{section_a}
+use Rattle.macho_model_checks.proofs.Examples.{words}
+use Rattle.macho_model_checks.proofs.ExampleLinks.{section}
+use Rattle.macho_model_checks.proofs.ExampleCall.{calling, placed_call}
+use Rattle.macho_model_checks.proofs.ExampleCall.{call_image}
 use Rattle.macho_model_checks.proofs.RowsCallFixups.{fixups_in_call, run_of_call, entry_of_exit, name_of_exit, table_size, what_is_asked}
-use Rattle.macho_model_checks.proofs.RowsCallFixups.{call_fixups}
+use Rattle.macho_model_checks.proofs.RowsCallFixups.{each_word, table_stands, call_fixups}
 use Rattle.macho_model_checks.proofs.RowsCallChain.{pointer_field, data_fields}
 use Rattle.macho_standing.specs.Composed.{FixupsAreWritten}
 use Rattle.macho_standing.proofs.Members.{front_or_rest, in_none}
 use Rattle.macho_standing.proofs.TableLength.{table_long}
 use Rattle.macho_standing_checks.proofs.FactsCall.{carried_call, field_call, fields_call, slots_call}
 use Rattle.macho_standing_checks.proofs.HeadCall.{image_size, segments_call}
+use Rattle.macho_bytes.specs.Spellings.{ReadsBack, spelling}
+use Rattle.macho_structs.specs.Spellings.{chained_fixups_header_rows}
 
 -- the words of the run
 steps_call : (step_of fixups_in_call 0 ≡ 0) × (step_of fixups_in_call 1 ≡ 0)
@@ -149,8 +130,8 @@ header_call : table_header fixups_in_call (fixup_segments placed_call) 1 (entry_
 unfolding image_starts_size segment_size pages_of
 header_call = refl
 
-header_back : ReadsBack chained_fixups_header (table_header fixups_in_call (fixup_segments placed_call) 1 (entry_of_exit ∷ []))
-header_back = rw header_call (reads_back chained_fixups_header header_of_table little_is_sound
+header_back : ReadsBack chained_fixups_header_rows (table_header fixups_in_call (fixup_segments placed_call) 1 (entry_of_exit ∷ []))
+header_back = rw header_call (reads_back chained_fixups_header_rows header_of_table little_is_sound
     (((omega arith, (omega arith, (omega arith, (omega arith, (omega arith, (omega arith, (omega arith, tt))))))), refl), tt)
     refl)
 
@@ -241,7 +222,11 @@ pub fixups_call : FixupsAreWritten calling call_image placed_call
 unfolding call_fixups
 fixups_call = record {
   say = call_fixups;
+  run = run_of_call;
+  words = record { each = each_word };
   chain = chain_call;
+  entries = entry_of_exit ∷ [];
+  text = table_stands;
   table = table_back_call;
   room = room_of_table;
   inside = omega (arith, image_size);

@@ -8,16 +8,21 @@ use Rattle.std.specs.List.{list_all, AllByRecursion}
 use Rattle.std.proofs.lemmas.Bool.{and_parts, or_cases, eqb-true, leb-true}
 use Rattle.std.proofs.lemmas.List.Elements.{All-from_recursion, All-weaker}
 use Rattle.std.proofs.lemmas.List.Kept.{AllPairs-cons}
-use Rattle.std.proofs.lemmas.List.Sorted.{IsPermutation-refl}
 use Rattle.macho_model.specs.declared.placed.PlacedSegment.{PlacedSegment}
 use Rattle.macho_model.specs.declared.placed.PlacedSection.{PlacedSection}
 use Rattle.macho_model.specs.declared.placed.Slot.{Slot}
 use Rattle.macho_model.specs.declared.placed.Stub.{Stub}
 use Rattle.macho_model.specs.declared.targets.Target.TheVariants as target
 use Rattle.macho_model.specs.Segments.{DATA_CONST}
-use Rattle.macho_model.specs.Placement.{Span, AreApart, spans_with, id_of, slot_span, stub_span, SectionLies, LiesInNamed, TableLies}
-use Rattle.macho_model.specs.Placement.{linkedit_ranges, IsWholeList, IsAligned, IsInSegment, IsPaged, Follows, IsInOrder, TextBegins}
-use Rattle.macho_model.specs.Placement.{TemplateHolds, IsPlaced}
+use Rattle.macho_model.specs.Placement.{id_of}
+use Rattle.macho_model.specs.Zeros.{Span}
+use Rattle.macho_model.specs.Spans.{AreApart, spans_with, slot_span, stub_span}
+use Rattle.macho_model.specs.steps.Parts.{SectionLies, LiesInNamed, TableLies}
+use Rattle.macho_model.specs.Placement.{linkedit_ranges, IsWholeList, IsPaged, Follows}
+use Rattle.macho_model.specs.steps.Parts.{IsAligned, IsInSegment}
+use Rattle.macho_model.specs.Spans.{IsInOrder, TextBegins}
+use Rattle.macho_model.specs.Placement.{IsPlaced}
+use Rattle.macho_model.specs.steps.Parts.{TemplateHolds}
 use Rattle.macho_model.proofs.EachBelow.{all_pass}
 use Rattle.macho_bytes.specs.Numbers.{le_at, le_bytes, row_bytes}
 use Rattle.macho_bytes.specs.Layouts.{reading}
@@ -26,9 +31,9 @@ use Rattle.macho_model.specs.Objects.{num_sections, section_place, section_at, s
 use Rattle.macho_model.specs.Objects.{symbol_place, symbol_at, strings_of, symbol_name, relocation_place, relocation_at}
 use Rattle.macho_model.specs.ExportLists.{plain_entries, all_entries, entries_of}
 use Rattle.macho_model.specs.Links.{sections_of, carried_of, template_exponent, placed_exponent}
-use Rattle.macho_model.specs.Resolution.{symbols_of, strong_of, weak_of, commons_of, greatest_of, libraries_with, definition_of}
+use Rattle.macho_model.specs.Resolution.{symbols_of, strong_of, commons_of, greatest_of, libraries_with, definition_of}
 use Rattle.macho_model.specs.Resolution.{chosen_commons}
-use Rattle.macho_model.specs.Needs.{initializer_sections, unwind_sections, uses_of, imports_of, libraries_needed}
+use Rattle.macho_model.specs.Needs.{initializer_sections, unwind_sections, imports_of, libraries_needed, carried_relocations, initializer_relocations, personality_relocations}
 use Rattle.macho_model.specs.Targets.{target_of, target_of_relocation, slots_of, stubs_of, slot_number}
 use Rattle.macho_model.specs.Fields.{fields_of}
 use Rattle.macho_model.specs.Rows.{is_supported}
@@ -37,11 +42,12 @@ use Rattle.macho_model.specs.Segments.{TEXT, other_segments, segment_rank, segme
 use Rattle.macho_model.specs.WrittenSum.{content_sum, command_sum, unsigned_sum, written_sum_of}
 use Rattle.macho_model.specs.Lists.{EachNext}
 use Rattle.macho_model_checks.proofs.Examples.{words8, words, halves, name16}
-use Rattle.macho_model_checks.proofs.ExampleLinks.{entry, section}
+use Rattle.macho_model_checks.proofs.ExampleLinks.{entry}
 use Rattle.macho_model_checks.proofs.ExampleCall.{calls_exit, calling, counts_of_call, code_placed, data_placed, slot_placed, stub_placed}
 use Rattle.macho_model_checks.proofs.ExampleCall.{placed_call, constants_segment, data_segment, linkedit_segment}
 use Rattle.macho_model_checks.proofs.ExamplePlacement.{pagezero_to, text_from}
 use Rattle.macho_standing_checks.proofs.FactsCall.{carried_call, exponents_call, commons_call, slots_call, stubs_call, sum_call}
+use Rattle.macho_model.proofs.Parts.{even_pieces, pieces_in, apart_pieces, template_pieces}
 
 -- two parts are apart, as a test
 abbrev apart_test : Span → Span → Bool
@@ -75,8 +81,8 @@ pairs_by_test R test sound (x ∷ xs) h =
 pairs_pass : pairs_test apart_test (spans_with calling counts_of_call placed_call placed_call.sections) ≡ true
 unfolding spans_with header_of commands_from commands_of commands_end num_sections section_place section_at section_bytes
     symtab_of num_symbols symbol_place symbol_at strings_of symbol_name relocation_place relocation_at sections_of carried_of
-    template_exponent placed_exponent symbols_of strong_of weak_of commons_of greatest_of libraries_with definition_of chosen_commons
-    initializer_sections unwind_sections uses_of imports_of libraries_needed target_of target_of_relocation slots_of stubs_of
+    template_exponent placed_exponent symbols_of strong_of commons_of greatest_of libraries_with definition_of chosen_commons
+    initializer_sections unwind_sections carried_relocations initializer_relocations personality_relocations imports_of libraries_needed target_of target_of_relocation slots_of stubs_of
     fields_of is_supported plain_entries all_entries entries_of other_segments segment_rank segment_names_of output_keys_of
     output_count content_sum command_sum unsigned_sum written_sum_of personality_targets entries_of_link le_at le_bytes
     row_bytes reading words8 words halves name16 entry calls_exit
@@ -84,8 +90,8 @@ pairs_pass = refl
 
 whole_call : IsWholeList calling placed_call
 whole_call = record {
-  sections = rw carried_call (IsPermutation-refl (section 0 0 ∷ section 0 1 ∷ []));
-  commons = rw commons_call (IsPermutation-refl []);
+  sections = sym carried_call;
+  commons = rw commons_call refl;
   slots = sym slots_call;
   stubs = sym stubs_call;
   stub_slots = All-from_recursion (λ (s : Stub). s.slot ≡ slot_number calling (target.Import s.import)) placed_call.stubs
@@ -104,8 +110,8 @@ aligned_call = record {
 sections_lie : SectionLies calling placed_call code_placed × SectionLies calling placed_call data_placed
 unfolding header_of commands_from commands_of commands_end num_sections section_place section_at section_bytes symtab_of
     num_symbols symbol_place symbol_at strings_of symbol_name relocation_place relocation_at sections_of carried_of template_exponent
-    placed_exponent symbols_of strong_of weak_of commons_of greatest_of libraries_with definition_of chosen_commons
-    initializer_sections unwind_sections uses_of imports_of libraries_needed target_of target_of_relocation slots_of stubs_of
+    placed_exponent symbols_of strong_of commons_of greatest_of libraries_with definition_of chosen_commons
+    initializer_sections unwind_sections carried_relocations initializer_relocations personality_relocations imports_of libraries_needed target_of target_of_relocation slots_of stubs_of
     fields_of is_supported plain_entries all_entries entries_of other_segments segment_rank segment_names_of output_keys_of
     output_count content_sum command_sum unsigned_sum written_sum_of personality_targets entries_of_link le_at le_bytes
     row_bytes reading words8 words halves name16 entry calls_exit
@@ -152,8 +158,8 @@ inside_call = record {
 follows_0 : Follows calling (pagezero_to 0x100000000) (text_from 0x100000000 0x4000)
 unfolding header_of commands_from commands_of commands_end num_sections section_place section_at section_bytes symtab_of
     num_symbols symbol_place symbol_at strings_of symbol_name relocation_place relocation_at sections_of carried_of template_exponent
-    placed_exponent symbols_of strong_of weak_of commons_of greatest_of libraries_with definition_of chosen_commons
-    initializer_sections unwind_sections uses_of imports_of libraries_needed target_of target_of_relocation slots_of stubs_of
+    placed_exponent symbols_of strong_of commons_of greatest_of libraries_with definition_of chosen_commons
+    initializer_sections unwind_sections carried_relocations initializer_relocations personality_relocations imports_of libraries_needed target_of target_of_relocation slots_of stubs_of
     fields_of is_supported plain_entries all_entries entries_of other_segments segment_rank segment_names_of output_keys_of
     output_count content_sum command_sum unsigned_sum written_sum_of personality_targets entries_of_link le_at le_bytes
     row_bytes reading words8 words halves name16 entry calls_exit
@@ -162,8 +168,8 @@ follows_0 = record { rank = omega arith; address = refl; file_offset = refl }
 follows_1 : Follows calling (text_from 0x100000000 0x4000) constants_segment
 unfolding header_of commands_from commands_of commands_end num_sections section_place section_at section_bytes symtab_of
     num_symbols symbol_place symbol_at strings_of symbol_name relocation_place relocation_at sections_of carried_of template_exponent
-    placed_exponent symbols_of strong_of weak_of commons_of greatest_of libraries_with definition_of chosen_commons
-    initializer_sections unwind_sections uses_of imports_of libraries_needed target_of target_of_relocation slots_of stubs_of
+    placed_exponent symbols_of strong_of commons_of greatest_of libraries_with definition_of chosen_commons
+    initializer_sections unwind_sections carried_relocations initializer_relocations personality_relocations imports_of libraries_needed target_of target_of_relocation slots_of stubs_of
     fields_of is_supported plain_entries all_entries entries_of other_segments segment_rank segment_names_of output_keys_of
     output_count content_sum command_sum unsigned_sum written_sum_of personality_targets entries_of_link le_at le_bytes
     row_bytes reading words8 words halves name16 entry calls_exit
@@ -172,8 +178,8 @@ follows_1 = record { rank = omega arith; address = refl; file_offset = refl }
 follows_2 : Follows calling constants_segment data_segment
 unfolding header_of commands_from commands_of commands_end num_sections section_place section_at section_bytes symtab_of
     num_symbols symbol_place symbol_at strings_of symbol_name relocation_place relocation_at sections_of carried_of template_exponent
-    placed_exponent symbols_of strong_of weak_of commons_of greatest_of libraries_with definition_of chosen_commons
-    initializer_sections unwind_sections uses_of imports_of libraries_needed target_of target_of_relocation slots_of stubs_of
+    placed_exponent symbols_of strong_of commons_of greatest_of libraries_with definition_of chosen_commons
+    initializer_sections unwind_sections carried_relocations initializer_relocations personality_relocations imports_of libraries_needed target_of target_of_relocation slots_of stubs_of
     fields_of is_supported plain_entries all_entries entries_of other_segments segment_rank segment_names_of output_keys_of
     output_count content_sum command_sum unsigned_sum written_sum_of personality_targets entries_of_link le_at le_bytes
     row_bytes reading words8 words halves name16 entry calls_exit
@@ -182,8 +188,8 @@ follows_2 = record { rank = omega arith; address = refl; file_offset = refl }
 follows_3 : Follows calling data_segment linkedit_segment
 unfolding header_of commands_from commands_of commands_end num_sections section_place section_at section_bytes symtab_of
     num_symbols symbol_place symbol_at strings_of symbol_name relocation_place relocation_at sections_of carried_of template_exponent
-    placed_exponent symbols_of strong_of weak_of commons_of greatest_of libraries_with definition_of chosen_commons
-    initializer_sections unwind_sections uses_of imports_of libraries_needed target_of target_of_relocation slots_of stubs_of
+    placed_exponent symbols_of strong_of commons_of greatest_of libraries_with definition_of chosen_commons
+    initializer_sections unwind_sections carried_relocations initializer_relocations personality_relocations imports_of libraries_needed target_of target_of_relocation slots_of stubs_of
     fields_of is_supported plain_entries all_entries entries_of other_segments segment_rank segment_names_of output_keys_of
     output_count content_sum command_sum unsigned_sum written_sum_of personality_targets entries_of_link le_at le_bytes
     row_bytes reading words8 words halves name16 entry calls_exit
@@ -222,8 +228,8 @@ order_call = record {
 template_call : TemplateHolds calling counts_of_call placed_call placed_call.template
 unfolding header_of commands_from commands_of commands_end num_sections section_place section_at section_bytes symtab_of
     num_symbols symbol_place symbol_at strings_of symbol_name relocation_place relocation_at sections_of carried_of template_exponent
-    placed_exponent symbols_of strong_of weak_of commons_of greatest_of libraries_with definition_of chosen_commons
-    initializer_sections unwind_sections uses_of imports_of libraries_needed target_of target_of_relocation slots_of stubs_of
+    placed_exponent symbols_of strong_of commons_of greatest_of libraries_with definition_of chosen_commons
+    initializer_sections unwind_sections carried_relocations initializer_relocations personality_relocations imports_of libraries_needed target_of target_of_relocation slots_of stubs_of
     fields_of is_supported plain_entries all_entries entries_of other_segments segment_rank segment_names_of output_keys_of
     output_count content_sum command_sum unsigned_sum written_sum_of personality_targets entries_of_link le_at le_bytes
     row_bytes reading words8 words halves name16 entry calls_exit
@@ -234,11 +240,14 @@ pub placed_is_placed : IsPlaced calling counts_of_call placed_call
 placed_is_placed = record {
   base = refl;
   whole_list = whole_call;
-  aligned = aligned_call;
-  in_segment = inside_call;
-  apart = pairs_by_test AreApart apart_test apart_by_test (spans_with calling counts_of_call placed_call placed_call.sections) pairs_pass;
-  in_order = order_call;
-  template = template_call;
+  aligned = even_pieces calling counts_of_call placed_call aligned_call;
+  in_segment = pieces_in calling counts_of_call placed_call inside_call;
+  apart = apart_pieces calling counts_of_call placed_call placed_call.sections
+      (pairs_by_test AreApart apart_test apart_by_test (spans_with calling counts_of_call placed_call placed_call.sections) pairs_pass);
+  paged = order_call.paged;
+  follow = order_call.follow;
+  begins = order_call.begins;
+  template = template_pieces calling counts_of_call placed_call placed_call.template template_call;
   within_sum = rw sum_call (All-from_recursion (λ (s : PlacedSegment). s.address + s.size ≤ 0x100000000 + 133505) placed_call.segments
       (omega arith, (omega arith, (omega arith, (omega arith, (omega arith, tt))))));
 }

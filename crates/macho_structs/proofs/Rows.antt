@@ -3,21 +3,22 @@
 -- Every field has another value, and the bytes were laid out apart from this project, by the C structures of
 -- mach-o/loader.h, reloc.h, fixup-chains.h, compact_unwind_encoding.h and cs_blobs.h. The checker computes both
 -- directions: the record is spelled by these bytes, and behind three others they are read as this record.
-use Rattle.std.proofs.Common.{◌≡◌, ℕ, true, false, List, [], ◌∷◌, ◌++◌, replicate, codes, refl}
+use Rattle.std.proofs.Common.{◌≡◌, ℕ, true, false, List, [], ◌∷◌, refl}
 use Rattle.macho_bytes.specs.Numbers.{le_at, be_at, le_bytes, be_bytes, row_bytes}
-use Rattle.macho_bytes.specs.Layouts.{Layout, spelling, reading}
-use Rattle.macho_structs.specs.Layouts.{entry_point_command, dylinker_command, dylib_command, rpath_command, linkedit_data_command}
-use Rattle.macho_structs.specs.Layouts.{uuid_command, build_version_command, build_tool_version, chained_fixups_header}
-use Rattle.macho_structs.specs.Layouts.{chained_starts_in_segment, unwind_info_entry, code_directory}
-use Rattle.macho_structs.specs.Relocations.{relocation_info}
+use Rattle.macho_bytes.specs.Layouts.{reading}
+use Rattle.macho_structs.specs.Spellings.{entry_point_command_rows, dylinker_command_rows, dylib_command_rows, rpath_command_rows, linkedit_data_command_rows}
+use Rattle.macho_structs.specs.Spellings.{uuid_command_rows, build_version_command_rows, build_tool_version_rows, chained_fixups_header_rows}
+use Rattle.macho_structs.specs.Spellings.{chained_starts_in_segment_rows, unwind_info_entry_rows, code_directory_rows}
+use Rattle.macho_structs.specs.Spellings.{relocation_info_rows}
+use Rattle.macho_bytes.specs.Spellings.{Spelled, spelling}
 
 -- the record is spelled by the bytes, and they are read as the record
-abbrev IsRow : {R : Type 0} → Layout R → R → List ℕ → Type 0
-IsRow l r bytes = (spelling l r ≡ bytes) × (reading l (7 ∷ 8 ∷ 9 ∷ bytes) 3 ≡ r)
+abbrev IsRow : {R : Type 0} → Spelled R → R → List ℕ → Type 0
+IsRow s r bytes = (spelling s r ≡ bytes) × (reading s.layout (7 ∷ 8 ∷ 9 ∷ bytes) 3 ≡ r)
 
 -- `struct entry_point_command`
 entry_point_command-row :
-    IsRow entry_point_command
+    IsRow entry_point_command_rows
     (record { cmd = 0x80000028; cmdsize = 24; entryoff = 0x1e0; stacksize = 0x100000 })
     (0x28 ∷ 0x00 ∷ 0x00 ∷ 0x80 ∷ 0x18 ∷ 0x00 ∷ 0x00 ∷ 0x00 ∷ 0xe0 ∷ 0x01 ∷ 0x00 ∷ 0x00 ∷ 0x00 ∷ 0x00 ∷ 0x00 ∷ 0x00 ∷ 0x00 ∷ 0x00 ∷
     0x10 ∷ 0x00 ∷ 0x00 ∷ 0x00 ∷ 0x00 ∷ 0x00 ∷ [])
@@ -26,7 +27,7 @@ entry_point_command-row = (refl, refl)
 
 -- `struct dylinker_command`
 dylinker_command-row :
-    IsRow dylinker_command
+    IsRow dylinker_command_rows
     (record { cmd = 14; cmdsize = 32; name_offset = 12 })
     (0x0e ∷ 0x00 ∷ 0x00 ∷ 0x00 ∷ 0x20 ∷ 0x00 ∷ 0x00 ∷ 0x00 ∷ 0x0c ∷ 0x00 ∷ 0x00 ∷ 0x00 ∷ [])
 unfolding reading spelling le_at be_at le_bytes be_bytes row_bytes
@@ -34,7 +35,7 @@ dylinker_command-row = (refl, refl)
 
 -- `struct dylib_command`
 dylib_command-row :
-    IsRow dylib_command
+    IsRow dylib_command_rows
     (record { cmd = 12; cmdsize = 56; name_offset = 24; timestamp = 2; current_version = 0x54c0000; compatibility_version = 0x10000 })
     (0x0c ∷ 0x00 ∷ 0x00 ∷ 0x00 ∷ 0x38 ∷ 0x00 ∷ 0x00 ∷ 0x00 ∷ 0x18 ∷ 0x00 ∷ 0x00 ∷ 0x00 ∷ 0x02 ∷ 0x00 ∷ 0x00 ∷ 0x00 ∷ 0x00 ∷ 0x00 ∷
     0x4c ∷ 0x05 ∷ 0x00 ∷ 0x00 ∷ 0x01 ∷ 0x00 ∷ [])
@@ -43,7 +44,7 @@ dylib_command-row = (refl, refl)
 
 -- `struct rpath_command`
 rpath_command-row :
-    IsRow rpath_command
+    IsRow rpath_command_rows
     (record { cmd = 0x8000001c; cmdsize = 24; name_offset = 12 })
     (0x1c ∷ 0x00 ∷ 0x00 ∷ 0x80 ∷ 0x18 ∷ 0x00 ∷ 0x00 ∷ 0x00 ∷ 0x0c ∷ 0x00 ∷ 0x00 ∷ 0x00 ∷ [])
 unfolding reading spelling le_at be_at le_bytes be_bytes row_bytes
@@ -51,7 +52,7 @@ rpath_command-row = (refl, refl)
 
 -- `struct linkedit_data_command`
 linkedit_data_command-row :
-    IsRow linkedit_data_command
+    IsRow linkedit_data_command_rows
     (record { cmd = 0x80000034; cmdsize = 16; dataoff = 0x4000; datasize = 192 })
     (0x34 ∷ 0x00 ∷ 0x00 ∷ 0x80 ∷ 0x10 ∷ 0x00 ∷ 0x00 ∷ 0x00 ∷ 0x00 ∷ 0x40 ∷ 0x00 ∷ 0x00 ∷ 0xc0 ∷ 0x00 ∷ 0x00 ∷ 0x00 ∷ [])
 unfolding reading spelling le_at be_at le_bytes be_bytes row_bytes
@@ -59,7 +60,7 @@ linkedit_data_command-row = (refl, refl)
 
 -- `struct uuid_command`
 uuid_command-row :
-    IsRow uuid_command
+    IsRow uuid_command_rows
     (record {
       cmd = 27;
       cmdsize = 24;
@@ -72,7 +73,7 @@ uuid_command-row = (refl, refl)
 
 -- `struct build_version_command`
 build_version_command-row :
-    IsRow build_version_command
+    IsRow build_version_command_rows
     (record { cmd = 50; cmdsize = 32; platform = 1; minos = 0xe0000; sdk = 0xf1011; ntools = 2 })
     (0x32 ∷ 0x00 ∷ 0x00 ∷ 0x00 ∷ 0x20 ∷ 0x00 ∷ 0x00 ∷ 0x00 ∷ 0x01 ∷ 0x00 ∷ 0x00 ∷ 0x00 ∷ 0x00 ∷ 0x00 ∷ 0x0e ∷ 0x00 ∷ 0x11 ∷ 0x10 ∷
     0x0f ∷ 0x00 ∷ 0x02 ∷ 0x00 ∷ 0x00 ∷ 0x00 ∷ [])
@@ -81,7 +82,7 @@ build_version_command-row = (refl, refl)
 
 -- `struct build_tool_version`
 build_tool_version-row :
-    IsRow build_tool_version
+    IsRow build_tool_version_rows
     (record { tool = 3; version = 0xb00 })
     (0x03 ∷ 0x00 ∷ 0x00 ∷ 0x00 ∷ 0x00 ∷ 0x0b ∷ 0x00 ∷ 0x00 ∷ [])
 unfolding reading spelling le_at be_at le_bytes be_bytes row_bytes
@@ -89,7 +90,7 @@ build_tool_version-row = (refl, refl)
 
 -- `struct dyld_chained_fixups_header`
 chained_fixups_header-row :
-    IsRow chained_fixups_header
+    IsRow chained_fixups_header_rows
     (record {
       fixups_version = 9;
       starts_offset = 28;
@@ -106,7 +107,7 @@ chained_fixups_header-row = (refl, refl)
 
 -- `struct dyld_chained_starts_in_segment`
 chained_starts_in_segment-row :
-    IsRow chained_starts_in_segment
+    IsRow chained_starts_in_segment_rows
     (record { size = 24; page_size = 0x4000; pointer_format = 6; segment_offset = 0x8000; max_valid_pointer = 0x1020304; page_count = 1 })
     (0x18 ∷ 0x00 ∷ 0x00 ∷ 0x00 ∷ 0x00 ∷ 0x40 ∷ 0x06 ∷ 0x00 ∷ 0x00 ∷ 0x80 ∷ 0x00 ∷ 0x00 ∷ 0x00 ∷ 0x00 ∷ 0x00 ∷ 0x00 ∷ 0x04 ∷ 0x03 ∷
     0x02 ∷ 0x01 ∷ 0x01 ∷ 0x00 ∷ [])
@@ -115,7 +116,7 @@ chained_starts_in_segment-row = (refl, refl)
 
 -- an entry of `__LD,__compact_unwind`
 unwind_info_entry-row :
-    IsRow unwind_info_entry
+    IsRow unwind_info_entry_rows
     (record { start = 0x100001000; length = 32; encoding = 0x2000000; personality = 0x100004000; lsda = 0x100005000 })
     (0x00 ∷ 0x10 ∷ 0x00 ∷ 0x00 ∷ 0x01 ∷ 0x00 ∷ 0x00 ∷ 0x00 ∷ 0x20 ∷ 0x00 ∷ 0x00 ∷ 0x00 ∷ 0x00 ∷ 0x00 ∷ 0x00 ∷ 0x02 ∷ 0x00 ∷ 0x40 ∷
     0x00 ∷ 0x00 ∷ 0x01 ∷ 0x00 ∷ 0x00 ∷ 0x00 ∷ 0x00 ∷ 0x50 ∷ 0x00 ∷ 0x00 ∷ 0x01 ∷ 0x00 ∷ 0x00 ∷ 0x00 ∷ [])
@@ -124,7 +125,7 @@ unwind_info_entry-row = (refl, refl)
 
 -- `struct __CodeDirectory`, big-endian
 code_directory-row :
-    IsRow code_directory
+    IsRow code_directory_rows
     (record {
       magic = 0xfade0c02;
       length = 0x108;
@@ -158,7 +159,7 @@ code_directory-row = (refl, refl)
 
 -- `struct relocation_info`: bits from the lowest on
 relocation_info-row :
-    IsRow relocation_info
+    IsRow relocation_info_rows
     (record { r_address = 20; r_symbolnum = 0x30201; r_pcrel = true; r_length = 2; r_extern = false; r_type = 10 })
     (0x14 ∷ 0x00 ∷ 0x00 ∷ 0x00 ∷ 0x01 ∷ 0x02 ∷ 0x03 ∷ 0xa5 ∷ [])
 unfolding reading spelling le_at be_at le_bytes be_bytes row_bytes

@@ -6,8 +6,10 @@
 //!     "/usr/lib/dyld" and zeros
 ghost use Rattle.std.specs.Prelude.{◌≡◌, ◌+◌, ◌≤◌, length};
 ghost use Rattle.macho_bytes.specs.Texts.{put};
-ghost use Rattle.macho_bytes.specs.Layouts.{read_of, size_of, spelling, ReadsBack};
+ghost use Rattle.macho_bytes.specs.Layouts.{read_of, size_of};
 ghost use Rattle.macho_structs.specs.Layouts.{entry_point_command, dylinker_command, dylib_command, rpath_command, linkedit_data_command, uuid_command, build_version_command, build_tool_version};
+ghost use Rattle.macho_bytes.specs.Spellings.{spelling, ReadsBack};
+ghost use Rattle.macho_structs.specs.Spellings.{entry_point_command_rows, dylinker_command_rows, dylib_command_rows, rpath_command_rows, linkedit_data_command_rows, uuid_command_rows, build_version_command_rows, build_tool_version_rows};
 
 use macho_numbers::{little_at, put_littles, put_text, text_at};
 
@@ -48,8 +50,8 @@ impl EntryPointCommand {
     #[tactic(auto, using(macho_bytes::proofs::Layouts::little_record))]
     pub fn write(&self, out: &mut [u8], at: usize)
         requires { at + size_of entry_point_command ≤ length out.old }
-        ensures written { out.new ≡ put at (spelling entry_point_command self.now) out.old }
-        ensures back { ReadsBack entry_point_command self.now }
+        ensures written { out.new ≡ put at (spelling entry_point_command_rows self.now) out.old }
+        ensures back { ReadsBack entry_point_command_rows self.now }
     {
         let r = *self;
         put_littles(out, at, &[r.cmd, r.cmdsize]);
@@ -91,8 +93,8 @@ impl DylinkerCommand {
     #[tactic(auto, using(macho_bytes::proofs::Layouts::little_record))]
     pub fn write(&self, out: &mut [u8], at: usize)
         requires { at + size_of dylinker_command ≤ length out.old }
-        ensures written { out.new ≡ put at (spelling dylinker_command self.now) out.old }
-        ensures back { ReadsBack dylinker_command self.now }
+        ensures written { out.new ≡ put at (spelling dylinker_command_rows self.now) out.old }
+        ensures back { ReadsBack dylinker_command_rows self.now }
     {
         let r = *self;
         put_littles(out, at, &[r.cmd, r.cmdsize, r.name_offset]);
@@ -142,8 +144,8 @@ impl DylibCommand {
     #[tactic(auto, using(macho_bytes::proofs::Layouts::little_record))]
     pub fn write(&self, out: &mut [u8], at: usize)
         requires { at + size_of dylib_command ≤ length out.old }
-        ensures written { out.new ≡ put at (spelling dylib_command self.now) out.old }
-        ensures back { ReadsBack dylib_command self.now }
+        ensures written { out.new ≡ put at (spelling dylib_command_rows self.now) out.old }
+        ensures back { ReadsBack dylib_command_rows self.now }
     {
         let r = *self;
         put_littles(
@@ -195,8 +197,8 @@ impl RpathCommand {
     #[tactic(auto, using(macho_bytes::proofs::Layouts::little_record))]
     pub fn write(&self, out: &mut [u8], at: usize)
         requires { at + size_of rpath_command ≤ length out.old }
-        ensures written { out.new ≡ put at (spelling rpath_command self.now) out.old }
-        ensures back { ReadsBack rpath_command self.now }
+        ensures written { out.new ≡ put at (spelling rpath_command_rows self.now) out.old }
+        ensures back { ReadsBack rpath_command_rows self.now }
     {
         let r = *self;
         put_littles(out, at, &[r.cmd, r.cmdsize, r.name_offset]);
@@ -240,8 +242,8 @@ impl LinkeditDataCommand {
     #[tactic(auto, using(macho_bytes::proofs::Layouts::little_record))]
     pub fn write(&self, out: &mut [u8], at: usize)
         requires { at + size_of linkedit_data_command ≤ length out.old }
-        ensures written { out.new ≡ put at (spelling linkedit_data_command self.now) out.old }
-        ensures back { ReadsBack linkedit_data_command self.now }
+        ensures written { out.new ≡ put at (spelling linkedit_data_command_rows self.now) out.old }
+        ensures back { ReadsBack linkedit_data_command_rows self.now }
     {
         let r = *self;
         put_littles(out, at, &[r.cmd, r.cmdsize, r.dataoff, r.datasize]);
@@ -282,8 +284,8 @@ impl UuidCommand {
     #[tactic(auto, using(macho_bytes::proofs::Layouts::little_record))]
     pub fn write(&self, out: &mut [u8], at: usize)
         requires { at + size_of uuid_command ≤ length out.old }
-        ensures written { out.new ≡ put at (spelling uuid_command self.now) out.old }
-        ensures back { ReadsBack uuid_command self.now }
+        ensures written { out.new ≡ put at (spelling uuid_command_rows self.now) out.old }
+        ensures back { ReadsBack uuid_command_rows self.now }
     {
         let r = *self;
         put_littles(out, at, &[r.cmd, r.cmdsize]);
@@ -334,8 +336,8 @@ impl BuildVersionCommand {
     #[tactic(auto, using(macho_bytes::proofs::Layouts::little_record))]
     pub fn write(&self, out: &mut [u8], at: usize)
         requires { at + size_of build_version_command ≤ length out.old }
-        ensures written { out.new ≡ put at (spelling build_version_command self.now) out.old }
-        ensures back { ReadsBack build_version_command self.now }
+        ensures written { out.new ≡ put at (spelling build_version_command_rows self.now) out.old }
+        ensures back { ReadsBack build_version_command_rows self.now }
     {
         let r = *self;
         put_littles(
@@ -377,8 +379,8 @@ impl BuildToolVersion {
     #[tactic(auto, using(macho_bytes::proofs::Layouts::little_record))]
     pub fn write(&self, out: &mut [u8], at: usize)
         requires { at + size_of build_tool_version ≤ length out.old }
-        ensures written { out.new ≡ put at (spelling build_tool_version self.now) out.old }
-        ensures back { ReadsBack build_tool_version self.now }
+        ensures written { out.new ≡ put at (spelling build_tool_version_rows self.now) out.old }
+        ensures back { ReadsBack build_tool_version_rows self.now }
     {
         let r = *self;
         put_littles(out, at, &[r.tool, r.version]);

@@ -7,8 +7,10 @@
 //!     ..  ChainedStartsInSegment     22 bytes, then 2 bytes for each page
 ghost use Rattle.std.specs.Prelude.{◌≡◌, ◌+◌, ◌≤◌, length};
 ghost use Rattle.macho_bytes.specs.Texts.{put};
-ghost use Rattle.macho_bytes.specs.Layouts.{read_of, size_of, spelling, ReadsBack};
+ghost use Rattle.macho_bytes.specs.Layouts.{read_of, size_of};
 ghost use Rattle.macho_structs.specs.Layouts.{chained_fixups_header, chained_starts_in_segment};
+ghost use Rattle.macho_bytes.specs.Spellings.{spelling, ReadsBack};
+ghost use Rattle.macho_structs.specs.Spellings.{chained_fixups_header_rows, chained_starts_in_segment_rows};
 
 use macho_numbers::{little_at, put_littles};
 
@@ -58,8 +60,8 @@ impl ChainedFixupsHeader {
     #[tactic(auto, using(macho_bytes::proofs::Layouts::little_record))]
     pub fn write(&self, out: &mut [u8], at: usize)
         requires { at + size_of chained_fixups_header ≤ length out.old }
-        ensures written { out.new ≡ put at (spelling chained_fixups_header self.now) out.old }
-        ensures back { ReadsBack chained_fixups_header self.now }
+        ensures written { out.new ≡ put at (spelling chained_fixups_header_rows self.now) out.old }
+        ensures back { ReadsBack chained_fixups_header_rows self.now }
     {
         let r = *self;
         put_littles(
@@ -121,8 +123,8 @@ impl ChainedStartsInSegment {
     #[tactic(auto, using(macho_bytes::proofs::Layouts::little_record))]
     pub fn write(&self, out: &mut [u8], at: usize)
         requires { at + size_of chained_starts_in_segment ≤ length out.old }
-        ensures written { out.new ≡ put at (spelling chained_starts_in_segment self.now) out.old }
-        ensures back { ReadsBack chained_starts_in_segment self.now }
+        ensures written { out.new ≡ put at (spelling chained_starts_in_segment_rows self.now) out.old }
+        ensures back { ReadsBack chained_starts_in_segment_rows self.now }
     {
         let r = *self;
         put_littles(out, at, &[r.size]);

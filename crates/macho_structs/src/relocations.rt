@@ -11,8 +11,10 @@
 //! A branch to symbol 2 is `02 00 00 2d`: type 2, extern, length 2, relative.
 ghost use Rattle.std.specs.Prelude.{◌≡◌, ◌+◌, ◌≤◌, IfSome, length};
 ghost use Rattle.macho_bytes.specs.Texts.{put};
-ghost use Rattle.macho_bytes.specs.Layouts.{read_of, size_of, spelling, ReadsBack};
-ghost use Rattle.macho_structs.specs.Relocations.{relocation_info, BitsFit, packed_word};
+ghost use Rattle.macho_bytes.specs.Layouts.{read_of, size_of};
+ghost use Rattle.macho_structs.specs.Relocations.{relocation_info, BitsFit};
+ghost use Rattle.macho_bytes.specs.Spellings.{spelling, ReadsBack};
+ghost use Rattle.macho_structs.specs.Spellings.{packed_word, relocation_info_rows};
 
 use macho_numbers::{little_at, put_littles};
 
@@ -62,8 +64,8 @@ impl RelocationInfo {
     pub fn write(&self, out: &mut [u8], at: usize)
         requires room { at + size_of relocation_info ≤ length out.old }
         requires bits { BitsFit self.now }
-        ensures written { out.new ≡ put at (spelling relocation_info self.now) out.old }
-        ensures back { ReadsBack relocation_info self.now }
+        ensures written { out.new ≡ put at (spelling relocation_info_rows self.now) out.old }
+        ensures back { ReadsBack relocation_info_rows self.now }
     {
         put_littles(out, at, &[self.r_address, self.word()]);
     }

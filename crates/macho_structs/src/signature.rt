@@ -5,8 +5,10 @@
 ghost use Rattle.std.specs.Prelude.{◌≡◌, ◌+◌, ◌≤◌, length, [], ◌∷◌};
 ghost use Rattle.macho_bytes.specs.Numbers.{big, row_bytes, AllBelow};
 ghost use Rattle.macho_bytes.specs.Texts.{put};
-ghost use Rattle.macho_bytes.specs.Layouts.{read_of, size_of, spelling, ReadsBack};
+ghost use Rattle.macho_bytes.specs.Layouts.{read_of, size_of};
 ghost use Rattle.macho_structs.specs.Layouts.{code_directory};
+ghost use Rattle.macho_bytes.specs.Spellings.{spelling, ReadsBack};
+ghost use Rattle.macho_structs.specs.Spellings.{code_directory_rows};
 
 use macho_numbers::{big_at, put_bigs};
 
@@ -98,8 +100,8 @@ impl CodeDirectory {
     #[tactic(auto, using(macho_bytes::proofs::Layouts::big_record))]
     pub fn write(&self, out: &mut [u8], at: usize)
         requires { at + size_of code_directory ≤ length out.old }
-        ensures written { out.new ≡ put at (spelling code_directory self.now) out.old }
-        ensures back { ReadsBack code_directory self.now }
+        ensures written { out.new ≡ put at (spelling code_directory_rows self.now) out.old }
+        ensures back { ReadsBack code_directory_rows self.now }
     {
         let r = *self;
         put_bigs(

@@ -4,8 +4,10 @@
 //! language data are filled in by relocations at 0, 16 and 24.
 ghost use Rattle.std.specs.Prelude.{◌≡◌, ◌+◌, ◌≤◌, length};
 ghost use Rattle.macho_bytes.specs.Texts.{put};
-ghost use Rattle.macho_bytes.specs.Layouts.{read_of, size_of, spelling, ReadsBack};
+ghost use Rattle.macho_bytes.specs.Layouts.{read_of, size_of};
 ghost use Rattle.macho_structs.specs.Layouts.{unwind_info_entry};
+ghost use Rattle.macho_bytes.specs.Spellings.{spelling, ReadsBack};
+ghost use Rattle.macho_structs.specs.Spellings.{unwind_info_entry_rows};
 
 use macho_numbers::{little_at, put_littles};
 
@@ -49,8 +51,8 @@ impl UnwindInfoEntry {
     #[tactic(auto, using(macho_bytes::proofs::Layouts::little_record))]
     pub fn write(&self, out: &mut [u8], at: usize)
         requires { at + size_of unwind_info_entry ≤ length out.old }
-        ensures written { out.new ≡ put at (spelling unwind_info_entry self.now) out.old }
-        ensures back { ReadsBack unwind_info_entry self.now }
+        ensures written { out.new ≡ put at (spelling unwind_info_entry_rows self.now) out.old }
+        ensures back { ReadsBack unwind_info_entry_rows self.now }
     {
         let r = *self;
         put_littles(out, at, &[r.start]);

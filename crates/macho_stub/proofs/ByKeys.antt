@@ -3,7 +3,7 @@
 -- The grammar says it by the entries that have one key: there is one, which says this, or none. So the entries with a key are
 -- one alone or none (`given`, `given_or`), and the other way, as none stands twice (`alone`, `alone_or`). Which key a
 -- text is, is a chain of tests, and each test answers yes where the chain ends at its key (`item_chain`, `top_chain`).
-use Rattle.std.proofs.Common.{◌≡◌, ◌≢◌, ◌⊎◌, ℕ, ◌<◌, ◌||◌, Bool, true, false, cond, List, [], ◌∷◌, Option, Some, None, refl, sym, ap, ◌∙◌, inl, inr, subst}
+use Rattle.std.proofs.Common.{◌≡◌, ◌⊎◌, ℕ, ◌<◌, ◌||◌, Bool, true, false, cond, List, [], ◌∷◌, Option, Some, None, refl, sym, ap, ◌∙◌, inl, inr, subst}
 use Rattle.std.specs.Prelude.{codes}
 use Rattle.std.specs.List.{AllByRecursion, filter, list_any}
 use Rattle.std.specs.Str.{bytes_eq}
@@ -17,7 +17,9 @@ use Rattle.macho_stub_lines.specs.Slices.{Slice}
 use Rattle.macho_stub_lines.specs.Spelling.{IsEntry, value_of, value_at}
 use Rattle.macho_stub_lines.specs.Keys.{top_key, item_key, names_key}
 use Rattle.macho_stub.specs.Documents.{ItemOf, DocumentOf}
-use Rattle.macho_stub.specs.Grammar.{SaysAlone, SaysNames, item_keys, ItemTree, column_of, entries_of, SaysItem, document_keys, no_text}
+use Rattle.macho_stub.specs.Grammar.{item_keys}
+use Rattle.macho_stub.specs.Places.{SaysAlone, document_keys}
+use Rattle.macho_stub.specs.Places.{SaysNames, ItemTree, column_of, entries_of, SaysItem, no_text}
 use Rattle.macho_stub.specs.steps.Trees.{IsSkipped, ItemEntry, item_value_at, is_deeper, IsSkippedUnder, TopEntry, SaysNumber, SaysScalar, SaysList, SaysItems, DocumentTree}
 use Rattle.macho_stub.specs.steps.Trees as grammar
 use Rattle.macho_stub.proofs.MappingsFields.{Given, GivenOr, NoneTwice, every}

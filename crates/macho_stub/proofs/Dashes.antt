@@ -6,7 +6,8 @@ use Rattle.std.proofs.Common.{◌≡◌, ℕ, ◌+◌, true, List, get_or, drop,
 use Rattle.std.specs.Str.{IsUtf8, IsCharBoundary}
 use Rattle.std.proofs.lemmas.Str.{IsUtf8-drop, IsCharBoundary-from_rest}
 use Rattle.std.proofs.lemmas.Bool.Decides.{nat_tests}
-use Rattle.macho_stub_lines.specs.Bytes.{is_space, indent, has_dash}
+use Rattle.macho_stub_lines.specs.Bytes.{indent, has_dash}
+use Rattle.macho_stub_lines.specs.steps.Bytes.{is_space}
 use Rattle.macho_stub.specs.steps.Reader.{key_column}
 use Rattle.macho_stub_lines.proofs.Cuts.{cut_behind, run_cut, space_ascii}
 

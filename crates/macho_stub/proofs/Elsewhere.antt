@@ -18,7 +18,8 @@ use Rattle.macho_stub.specs.Documents.{DocumentFields}
 use Rattle.macho_stub.specs.steps.Opened.{OpenDocumentFields, head_at}
 use Rattle.macho_stub.specs.steps.Reader.{ItemListFields, NameListFields, ModeFields, PlaceFields, Outside, Within, Keys, Skipped, Names, NoItem, StateFields, stays, names_line, first_line, key_line, belongs, inside_line, content_line, line_step, within}
 use Rattle.macho_stub.proofs.PutIn.{closing_bracket}
-use Rattle.macho_stub.specs.Order.{MayStand, IsWhy, unread_key, unread_item, in_column}
+use Rattle.macho_stub.specs.Order.{MayStand, IsWhy, in_column}
+use Rattle.macho_stub.specs.steps.Order.{unread_key, unread_item}
 use Rattle.macho_stub_lines.proofs.Bind.{chosen}
 use Rattle.macho_stub.proofs.Ruling.{same_err, ok_not_told}
 use Rattle.macho_stub.proofs.FineLines.{outside_at}

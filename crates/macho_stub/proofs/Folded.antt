@@ -14,7 +14,7 @@ use Rattle.macho_stub_lines.specs.FlowLists.{IsFlowList}
 use Rattle.macho_stub_lines.specs.Keys.{top_key, item_key}
 use Rattle.macho_stub.specs.Documents.{ItemOf, DocumentOf}
 use Rattle.macho_stub.specs.steps.Opened.{OpenItemOf, OpenDocumentOf, no_item, head_at, has_key, with_key, has_items, with_items}
-use Rattle.macho_stub.specs.Grammar.{ItemTree, column_of, no_text}
+use Rattle.macho_stub.specs.Places.{ItemTree, column_of, no_text}
 use Rattle.macho_stub.specs.steps.Trees.{IsSkipped, is_deeper, ItemEntry, item_value_at, Under, Lines, Listed, IsSkippedUnder, IsListUnder, TopEntry, DocumentTree}
 
 -- ---- items

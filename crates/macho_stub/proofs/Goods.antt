@@ -12,7 +12,8 @@ use Rattle.macho_stub_lines.specs.declared.keys.ItemKey.TheVariants as item
 use Rattle.macho_stub_lines.specs.declared.keys.TopKey.{TopKey}
 use Rattle.macho_stub_lines.specs.declared.keys.TopKey.TheVariants as top
 use Rattle.macho_stub_lines.specs.declared.fault.StubRule.TheVariants.{S1, S3}
-use Rattle.macho_stub_lines.specs.Bytes.{colon, is_key_byte, is_tail, is_passed, is_blank_or_comment, unspaced, indent, has_barred, is_barred, is_mark, is_plain_byte, has_late_control_after}
+use Rattle.macho_stub_lines.specs.Bytes.{colon, is_key_byte, is_tail, is_passed, is_blank_or_comment, unspaced, indent, has_barred, is_mark, is_plain_byte, has_late_control_after}
+use Rattle.macho_stub_lines.specs.steps.Bytes.{is_barred}
 use Rattle.macho_stub_lines.specs.Scalars.{scalar_front, plain_front}
 use Rattle.macho_stub_lines.specs.Lists.{list_part, token_front, behind}
 use Rattle.macho_stub_lines.specs.Faults.{Reading, ◌>>=◌, broken, outside}

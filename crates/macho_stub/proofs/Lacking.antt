@@ -18,7 +18,8 @@ use Rattle.macho_stub.specs.Documents.{ItemFields, DocumentFields}
 use Rattle.macho_stub.specs.steps.Opened.{OpenDocumentFields, no_item}
 use Rattle.macho_stub.specs.steps.Reader.{ItemListFields, StateFields, skipped_value, item_key_line, first_line, within, with_whole, items_with_last, item_line, line_step}
 use Rattle.macho_stub.proofs.PutIn.{IsNeeded}
-use Rattle.macho_stub.specs.Order.{MayStand, LacksInItem, LacksInDocument, IsNextItem, unread_key, unread_item, in_column}
+use Rattle.macho_stub.specs.Order.{MayStand, IsNextItem, in_column}
+use Rattle.macho_stub.specs.steps.Order.{LacksInItem, LacksInDocument, unread_key, unread_item}
 use Rattle.macho_stub_lines.proofs.Bind.{eq_true, not_below}
 use Rattle.macho_stub.proofs.OnlyLines.{DashLine, dash_line}
 use Rattle.macho_stub.proofs.Joined.{spaces_line}

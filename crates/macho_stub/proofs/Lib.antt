@@ -61,6 +61,8 @@ pub mod TreesStand
 pub mod Twice
 pub mod TwiceKeys
 pub mod Unders
+pub mod UnplacedItems
+pub mod UnplacedTexts
 pub mod Walk
 pub mod Whys
 pub mod NoNuls

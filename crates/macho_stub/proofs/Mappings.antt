@@ -15,7 +15,7 @@ use Rattle.macho_stub_lines.specs.Spelling.{value_of, value_at}
 use Rattle.macho_stub_lines.specs.Keys.{top_key}
 use Rattle.macho_stub.specs.Documents.{ItemOf, DocumentOf}
 use Rattle.macho_stub.specs.steps.Opened.{OpenDocumentOf, head_at, with_items}
-use Rattle.macho_stub.specs.Grammar.{no_text}
+use Rattle.macho_stub.specs.Places.{no_text}
 use Rattle.macho_stub.specs.steps.Trees.{Under, Lines, Listed, IsSkippedUnder, AreItemsUnder, TopEntry, SaysNumber, SaysScalar, SaysList, SaysItems, DocumentTree}
 use Rattle.macho_stub.specs.steps.Trees as grammar
 use Rattle.macho_stub.proofs.ByKeys.{IsTopValue, IsTopEntry, IsDocument, document_by_keys, document_of_keys}

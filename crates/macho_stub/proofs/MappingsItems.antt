@@ -16,7 +16,7 @@ use Rattle.macho_stub_lines.specs.Spelling.{value_of}
 use Rattle.macho_stub_lines.specs.Keys.{item_key}
 use Rattle.macho_stub.specs.Documents.{ItemOf}
 use Rattle.macho_stub.specs.steps.Opened.{OpenItemOf, no_item, with_key}
-use Rattle.macho_stub.specs.Grammar.{SaysNames, ItemTree, column_of, entries_of}
+use Rattle.macho_stub.specs.Places.{SaysNames, ItemTree, column_of, entries_of}
 use Rattle.macho_stub.specs.steps.Trees.{IsSkipped, ItemEntry, item_value_at, is_deeper}
 use Rattle.macho_stub.specs.steps.Trees as grammar
 use Rattle.macho_stub.proofs.ByKeys.{IsItemValue, IsItemEntry, AreNames, IsItem, item_by_keys, item_of_keys}

@@ -11,7 +11,8 @@ use Rattle.macho_stub_lines.specs.declared.keys.ItemKind.{ItemKind}
 use Rattle.macho_stub_lines.specs.declared.keys.ItemKind.TheVariants.{Libraries, Exports, Reexports}
 use Rattle.macho_stub_lines.specs.declared.keys.ItemKey.TheVariants as item
 use Rattle.macho_stub_lines.specs.declared.fault.StubRule.TheVariants.{S1, S3}
-use Rattle.macho_stub_lines.specs.Bytes.{is_space, indent, unspaced, is_passed, has_barred, is_blank_or_comment, is_key_byte, is_tail, has_dash, belongs_to_top}
+use Rattle.macho_stub_lines.specs.Bytes.{indent, unspaced, is_passed, has_barred, is_blank_or_comment, is_key_byte, is_tail, has_dash, belongs_to_top}
+use Rattle.macho_stub_lines.specs.steps.Bytes.{is_space}
 use Rattle.macho_stub_lines.specs.Faults.{Reading, broken, outside}
 use Rattle.macho_stub_lines.specs.Lists.{list_part, token_front, behind}
 use Rattle.macho_stub_lines.specs.Keys.{entry_at, item_key}
@@ -19,7 +20,9 @@ use Rattle.macho_stub.specs.Documents.{DocumentFields}
 use Rattle.macho_stub.specs.steps.Opened.{OpenDocumentFields, OpenItemFields, has_key, with_key}
 use Rattle.macho_stub.specs.steps.Reader.{ItemListFields, Keys, StateFields, stays, names_line, names_value, skipped_value, item_key_line, within, item_line, line_step}
 use Rattle.macho_stub.proofs.PutIn.{IsNeeded}
-use Rattle.macho_stub.specs.Order.{MayStand, LacksInItem, IsNextItem, unread_key, unread_item, in_column}
+use Rattle.macho_stub.specs.Grammar.{IsStubLines}
+use Rattle.macho_stub.specs.Order.{MayStand, IsNextItem, in_column}
+use Rattle.macho_stub.specs.steps.Order.{LacksInItem, unread_key, unread_item}
 use Rattle.macho_stub_lines.proofs.Bind.{not_broken_else, no_ok, same_ok, eq_false, chosen, one_way}
 use Rattle.macho_stub.proofs.OnlyLines.{top_indent, spelled_indent, spelled_rest, DashLine, dash_line}
 use Rattle.macho_stub.proofs.Joined.{IsLine, spaces_line}
@@ -193,14 +196,14 @@ key_steps before document list skipped line n next key needed nz e =
 
 -- what may stand behind a line shows that the line may
 line_stands : (first more : List (List ℕ)) (line other : List ℕ) → MayStand (first ++ line ∷ more) other → MayStand first line
-line_stands first more line other m = record {
-  text = m.text;
-  more = more ++ other ∷ m.more;
-  says = m.says;
-  begins = m.begins ∙ append_assoc (first ++ line ∷ more) (other ∷ []) m.more ∙ append_assoc first (line ∷ more) (other ∷ m.more)
-      ∙ sym (append_assoc first (line ∷ []) (more ++ other ∷ m.more));
-  in_grammar = m.in_grammar;
-}
+line_stands first more line other m =
+    let S : List (List ℕ) → Type 0 = λ t. IsStubLines t m.says in
+    record {
+      more = more ++ other ∷ m.more;
+      says = m.says;
+      in_grammar = subst S (append_assoc (first ++ line ∷ more) (other ∷ []) m.more ∙ append_assoc first (line ∷ more) (other ∷ m.more)
+          ∙ sym (append_assoc first (line ∷ []) (more ++ other ∷ m.more))) m.in_grammar;
+    }
 
 no_dash : (first : List (List ℕ)) (before : List DocumentFields) (document : OpenDocumentFields) (list : ItemListFields) (skipped : Bool)
     (n column : ℕ) (keys : List (List ℕ)) → Reached first (at_item before document list skipped) → n ≢ 0 → n ≢ list.dash

@@ -16,7 +16,8 @@ use Rattle.macho_stub_lines.specs.Slices.{Slice, StandsIn, texts_of, Line, lines
 use Rattle.macho_stub_lines.proofs.Runs.{all_append}
 use Rattle.macho_stub_lines.proofs.NoNuls.{plain_cons, unbarred}
 use Rattle.macho_stub.specs.Documents.{ItemOf, ItemFields, DocumentOf, DocumentFields, item_texts, document_texts, documents_texts}
-use Rattle.macho_stub.specs.Grammar.{IsStubText}
+use Rattle.macho_stub.specs.Places.{IsStubText}
+use Rattle.macho_stub.proofs.Trees.{in_places}
 use Rattle.macho_stub.specs.Library.{LibraryFields, gathered}
 use Rattle.macho_stub.specs.steps.Checks.{picked}
 use Rattle.macho_stub.proofs.Gathered.{is_wanted}
@@ -162,17 +163,20 @@ main_stands text (document ∷ documents) main others first s = (document, s.0, 
 -- THE library has no NUL.
 pub library_plain : (text : List ℕ) (library : LibraryFields) → IsStub text library → HasNoNul library
 library_plain text library stub =
-    let plain = text_plain text stub.says stub.in_grammar in
-    let stand = text_stands text stub.says stub.in_grammar in
+    let p = in_places text (stub.main ∷ stub.others) stub.in_grammar in
+    let plain = text_plain text p.0 p.1 in
+    let stand = text_stands text p.0 p.1 in
     let each : HasEach text Plain = λ slice s. slice_plain text slice plain s in
-    let main = main_stands text stub.says stub.makes.main stub.makes.others stub.makes.first stand in
+    let main = main_stands text p.0 stub.main stub.others p.2 stand in
+    let N : List DocumentFields → Type 0 = λ d. All (All (λ b. b ≢ 0)) (gathered (λ item. item.names) d) in
+    let W : List DocumentFields → Type 0 = λ d. All (All (λ b. b ≢ 0)) (gathered (λ item. item.weak_names) d) in
     record {
-      install_name = subst Plain (ap (λ (d : DocumentFields). d.install_name) main.2 ∙ sym stub.makes.install_name)
+      install_name = subst Plain (ap (λ (d : DocumentFields). d.install_name) main.2 ∙ sym stub.install_name)
           (each main.0.install_name main.1.install_name);
-      current_version = subst Plain (ap (λ (d : DocumentFields). d.current_version) main.2 ∙ sym stub.makes.current_version)
+      current_version = subst Plain (ap (λ (d : DocumentFields). d.current_version) main.2 ∙ sym stub.current_version)
           (each main.0.current_version main.1.current_version);
-      symbols = subst (All Plain) (sym stub.makes.symbols) (symbols_have text Plain each stub.says stand);
-      weak_symbols = subst (All Plain) (sym stub.makes.weak_symbols) (weak_symbols_have text Plain each stub.says stand);
+      symbols = subst (All Plain) (sym stub.symbols) (subst N p.2 (symbols_have text Plain each p.0 stand));
+      weak_symbols = subst (All Plain) (sym stub.weak_symbols) (subst W p.2 (weak_symbols_have text Plain each p.0 stand));
     }
 
 -- and so has one that is answered

@@ -3,16 +3,16 @@
 -- place, a line that ends what lacks a key has no second key.
 -- Of two places the earlier is among the lines before the later (`cuts`, `stands_before`), and the last head has one number
 -- (`one_last`).
-use Rattle.std.proofs.Common.{◌≡◌, ◌≢◌, ℕ, ◌+◌, List, [], ◌∷◌, ◌++◌, length, Ok, refl, sym, ap, ◌∙◌, inl, inr, subst, append_assoc}
+use Rattle.std.proofs.Common.{◌≡◌, ℕ, ◌+◌, List, [], ◌∷◌, ◌++◌, length, Ok, refl, sym, ap, ◌∙◌, inl, inr, subst, append_assoc}
 use Rattle.std.specs.Str.Lines.{lines}
 use Rattle.macho_stub_lines.specs.declared.fault.StubRule.{StubRule}
 use Rattle.macho_stub_lines.specs.declared.fault.StubRule.TheVariants.{S1, S2, S3}
 use Rattle.macho_stub_lines.specs.Bytes.{indent, unspaced, is_passed, is_blank_or_comment, is_key_byte, head, end}
 use Rattle.macho_stub_lines.specs.Keys.{Entry, entry_at}
-use Rattle.macho_stub.specs.Order.{MayBegin, MayStand, EndsWithout, StandsTwice, IsLastLine, IsWhy, StopsAt, StopsAtEnd, BreaksOff, unread_key, in_column}
-use Rattle.macho_stub.specs.Documents.{DocumentOf}
-use Rattle.macho_stub_lines.specs.Slices.{Slice}
-use Rattle.macho_stub.specs.Grammar.{IsStubText}
+use Rattle.macho_stub.specs.Order.{MayBegin, MayStand, EndsWithout, StandsTwice, IsLastLine, IsWhy, StopsAt, StopsAtEnd, in_column}
+use Rattle.macho_stub.specs.steps.Order.{BreaksOff, unread_key}
+use Rattle.macho_stub.specs.Documents.{DocumentFields}
+use Rattle.macho_stub.specs.Grammar.{IsStubLines}
 use Rattle.macho_stub_lines.proofs.Bind.{no_ok}
 use Rattle.macho_stub.proofs.Outsides.{dash_no_key}
 use Rattle.macho_stub.proofs.TwiceKeys.{said_of, second_key}
@@ -22,14 +22,14 @@ use Rattle.macho_stub.proofs.Lasts.{IsHead, Cuts, Same, Before, Behind, cuts, on
 
 -- the first lines of those that go on may stand
 pub stands_before : (all first rest : List (List ℕ)) (line : List ℕ) → all ≡ first ++ line ∷ rest → MayBegin all → MayStand first line
-stands_before all first rest line e g = record {
-  text = g.text;
-  more = rest ++ g.more;
-  says = g.says;
-  begins = g.begins ∙ ap (λ (l : List (List ℕ)). l ++ g.more) e ∙ append_assoc first (line ∷ rest) g.more
-      ∙ sym (append_assoc first (line ∷ []) (rest ++ g.more));
-  in_grammar = g.in_grammar;
-}
+stands_before all first rest line e g =
+    let S : List (List ℕ) → Type 0 = λ t. IsStubLines t g.says in
+    record {
+      more = rest ++ g.more;
+      says = g.says;
+      in_grammar = subst S (ap (λ (l : List (List ℕ)). l ++ g.more) e ∙ append_assoc first (line ∷ rest) g.more
+          ∙ sym (append_assoc first (line ∷ []) (rest ++ g.more))) g.in_grammar;
+    }
 
 -- ---- one reason
 
@@ -45,7 +45,7 @@ pub ends_no_key : (first : List (List ℕ)) (line : List ℕ) → EndsWithout fi
 unfolding is_passed unspaced indent is_blank_or_comment
 ends_no_key first line w t =
     let M : ℕ → Type 0 = λ n. MayStand first (in_column n unread_key) in
-    let said = said_of t.said in
+    let said = said_of first line t in
     let key = second_key first line t in
     let K : List ℕ → Type 0 = λ l. entry_at (length first + 1) (unspaced l) ≡ Ok said in
     elim w.lacks [
@@ -96,6 +96,12 @@ pub no_stop_and_end : (text : List ℕ) (l m : ℕ) (r s : StubRule) → StopsAt
 no_stop_and_end text l m r s a b = a.stuck (stands_before (lines text) a.first a.rest a.line a.parts b.go_on)
 
 -- a text that breaks off isn't in the grammar
-pub no_break : (text : List ℕ) (l : ℕ) (r : StubRule) → BreaksOff text l r → (says : List (DocumentOf Slice)) → IsStubText text says → ⊥
-no_break text l r (inl a) says is = a.stuck (record { text = text; more = a.rest; says = says; begins = a.parts ∙ sym (append_assoc a.first (a.line ∷ []) a.rest); in_grammar = is })
+pub no_break : (text : List ℕ) (l : ℕ) (r : StubRule) → BreaksOff text l r → (says : List DocumentFields) → IsStubLines (lines text) says → ⊥
+no_break text l r (inl a) says is =
+    let S : List (List ℕ) → Type 0 = λ t. IsStubLines t says in
+    a.stuck (record {
+      more = a.rest;
+      says = says;
+      in_grammar = subst S (a.parts ∙ sym (append_assoc a.first (a.line ∷ []) a.rest)) is;
+    })
 no_break text l r (inr a) says is = a.stuck says is

@@ -14,10 +14,11 @@ use Rattle.macho_stub_lines.specs.Bytes.{indent, unspaced, is_passed, has_barred
 use Rattle.macho_stub_lines.specs.Scalars.{scalar_front, plain_front}
 use Rattle.macho_stub_lines.specs.Faults.{outside}
 use Rattle.macho_stub_lines.specs.Lists.{list_part, token_front, behind}
-use Rattle.macho_stub.specs.Documents.{documents_texts, DocumentFields}
+use Rattle.macho_stub.specs.Documents.{DocumentFields}
 use Rattle.macho_stub.specs.steps.Opened.{OpenDocumentFields}
 use Rattle.macho_stub.specs.steps.Reader.{ItemListFields, NameListFields, ModeFields, Keys, Skipped, Names, NoItem, PlaceFields, Outside, Within, StateFields, stays, names_line, line_step, lines_from, start}
-use Rattle.macho_stub.specs.Order.{MayBegin, MayStand, EndsWithout, IsLastLine, IsWhyAtEnd, BreaksOff, unread_key, unread_item}
+use Rattle.macho_stub.specs.Order.{MayBegin, MayStand, EndsWithout, IsLastLine, IsWhyAtEnd}
+use Rattle.macho_stub.specs.steps.Order.{BreaksOff, unread_key, unread_item}
 use Rattle.macho_stub_lines.proofs.Bind.{bind_ok}
 use Rattle.macho_stub.proofs.Joined.{AreLines, lines_are_lines}
 use Rattle.macho_stub.proofs.Trees.{to_read}
@@ -85,10 +86,9 @@ walk first state (text ∷ texts) more says k l e =
 
 alone : (text : List ℕ) → MayBegin (lines text) → MayStand (lines text) closing_bracket → Alone (lines text)
 alone text g m =
-    let says = documents_texts g.says in
-    let e : lines_from start 1 (lines text ++ g.more) ≡ Ok says = ap (lines_from start 1) (sym g.begins)
-    ∙ lines_read (lines g.text) says (to_read g.text g.says g.in_grammar) in
-    let w = walk [] start (lines text) g.more says known_start (lines_are_lines text) e in
+    let e : lines_from start 1 (lines text ++ g.more) ≡ Ok g.says = lines_read (lines text ++ g.more) g.says
+    (to_read (lines text ++ g.more) g.says g.in_grammar) in
+    let w = walk [] start (lines text) g.more g.says known_start (lines_are_lines text) e in
     place_alone (lines text) w.0.documents w.0.place w.1.reached m
 
 -- ---- one reason

@@ -11,7 +11,8 @@ use Rattle.macho_stub_lines.specs.declared.keys.ItemKind.{ItemKind}
 use Rattle.macho_stub_lines.specs.declared.keys.ItemKey.{ItemKey}
 use Rattle.macho_stub_lines.specs.declared.keys.ItemKey.TheVariants as item
 use Rattle.macho_stub_lines.specs.declared.fault.StubRule.TheVariants.{S3}
-use Rattle.macho_stub_lines.specs.Bytes.{is_space, space, dash, indent, unspaced, has_dash}
+use Rattle.macho_stub_lines.specs.Bytes.{space, dash, indent, unspaced, has_dash}
+use Rattle.macho_stub_lines.specs.steps.Bytes.{is_space}
 use Rattle.macho_stub_lines.specs.Faults.{Reading, ◌>>=◌, outside, broken}
 use Rattle.macho_stub_lines.specs.Keys.{Entry, entry_at, item_key}
 use Rattle.macho_stub.specs.Documents.{ItemFields, DocumentFields}

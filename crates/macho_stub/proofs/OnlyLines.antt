@@ -11,7 +11,8 @@ use Rattle.std.proofs.lemmas.Bool.Decides.{nat_tests}
 use Rattle.std.proofs.Math.Numerals.{one-add}
 use Rattle.std.proofs.lemmas.List.{drop-drop}
 use Rattle.macho_stub_lines.specs.declared.fault.StubRule.TheVariants.{S1}
-use Rattle.macho_stub_lines.specs.Bytes.{is_space, space, dash, colon, is_key_byte, indent, unspaced, head, end, belongs_to_top, has_dash}
+use Rattle.macho_stub_lines.specs.Bytes.{space, dash, colon, is_key_byte, indent, unspaced, head, end, belongs_to_top, has_dash}
+use Rattle.macho_stub_lines.specs.steps.Bytes.{is_space}
 use Rattle.macho_stub_lines.specs.Keys.{Entry, entry_at, entry_behind}
 use Rattle.macho_stub.specs.steps.Reader.{key_column}
 use Rattle.macho_stub_lines.proofs.Bind.{not_broken, no_ok, bytes_differ}

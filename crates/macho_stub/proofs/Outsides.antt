@@ -14,7 +14,8 @@ use Rattle.macho_stub_lines.specs.Keys.{Entry, entry_at, top_key, item_key}
 use Rattle.macho_stub.specs.Documents.{DocumentFields}
 use Rattle.macho_stub.specs.steps.Opened.{OpenDocumentFields}
 use Rattle.macho_stub.specs.steps.Reader.{ItemListFields, top_entry, item_entry, top_line, line_step}
-use Rattle.macho_stub.specs.Order.{MayStand, LacksInItem, EndsWithout, StandsTwice, unread_key, in_column}
+use Rattle.macho_stub.specs.Order.{MayStand, EndsWithout, StandsTwice, in_column}
+use Rattle.macho_stub.specs.steps.Order.{LacksInItem, unread_key}
 use Rattle.macho_stub_lines.proofs.Bind.{no_ok, same_ok}
 use Rattle.macho_stub.proofs.OnlyLines.{entry_at_top}
 use Rattle.macho_stub.proofs.Joined.{IsLine}
@@ -53,7 +54,7 @@ ends_nothing first before document whole list skipped text r c h e w =
 -- a text with no key has no second one
 pub no_key_twice : (first : List (List ℕ)) (text : List ℕ) (at : ℕ) (rule : StubRule)
     → entry_at (length first + 1) (unspaced text) ≡ broken at rule → StandsTwice first text → ⊥
-no_key_twice first text at rule e t = no_ok at rule (said_of t.said) (sym e ∙ second_key first text t)
+no_key_twice first text at rule e t = no_ok at rule (said_of first text t) (sym e ∙ second_key first text t)
 
 -- a line at column 0 has no spaces in front
 pub flush : (text : List ℕ) → indent text ≡ 0 → unspaced text ≡ text
@@ -68,7 +69,7 @@ pub value_at_top : (first : List (List ℕ)) (before : List DocumentFields) (doc
 value_at_top first before document whole list skipped text said r c clean l e refused t =
     let n = length first + 1 in
     let z = no_spaces n text said e in
-    let is : said_of t.said ≡ said = same_ok _ _ (sym (second_key first text t) ∙ ap (entry_at n) z.1 ∙ e) in
+    let is : said_of first text t ≡ said = same_ok _ _ (sym (second_key first text t) ∙ ap (entry_at n) z.1 ∙ e) in
     let g = good_at_top first before document whole list skipped text said r c clean l e refused in
     let M : ℕ → List ℕ → Type 0 = λ k key. MayStand first (in_column k (key ++ colon ∷ g.0)) in
     let K : ℕ → Type 0 = λ k. M k said.key in
@@ -84,7 +85,7 @@ pub value_in_column : (first : List (List ℕ)) (before : List DocumentFields) (
     → StandsTwice first text → ⊥
 value_in_column first before document list skipped text said r below at clean l e refused t =
     let n = length first + 1 in
-    let is : said_of t.said ≡ said = same_ok _ _ (sym (second_key first text t) ∙ e) in
+    let is : said_of first text t ≡ said = same_ok _ _ (sym (second_key first text t) ∙ e) in
     let g = good_in_column first before document list skipped (unspaced text) said r below clean l e refused in
     let K : ℕ → Type 0 = λ k. MayStand first (in_column k (said.key ++ colon ∷ g.0)) in
     let E : Entry → Type 0 = λ x. MayStand first (in_column (indent text) (x.key ++ colon ∷ g.0)) in
@@ -94,7 +95,7 @@ value_in_column first before document list skipped text said r below at clean l 
 pub dash_no_key : (first : List (List ℕ)) (text : List ℕ) → has_dash text ≡ true → StandsTwice first text → ⊥
 unfolding has_dash belongs_to_top unspaced
 dash_no_key first text h t =
-    let out = entry_at_top (length first + 1) (unspaced text) (said_of t.said) (second_key first text t) in
+    let out = entry_at_top (length first + 1) (unspaced text) (said_of first text t) (second_key first text t) in
     let zero : get_or (drop (indent text) text) 0 0 ≡ get_or text (indent text) 0 = get_or-drop (indent text) text 0 0
     ∙ ap (λ k. get_or text k 0) (omega arith) in
     let one : get_or (drop (indent text) text) 1 0 ≡ get_or text (indent text + 1) 0 = get_or-drop (indent text) text 1 0 in

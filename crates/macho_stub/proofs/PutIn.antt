@@ -14,14 +14,15 @@ use Rattle.macho_stub_lines.specs.declared.keys.ItemKind.{ItemKind}
 use Rattle.macho_stub_lines.specs.declared.keys.ItemKind.TheVariants.{Libraries, Exports, Reexports}
 use Rattle.macho_stub_lines.specs.declared.list.Expect.{Expect}
 use Rattle.macho_stub_lines.specs.declared.list.Expect.TheVariants.{AfterOpen, AfterComma, AfterName, Closed}
-use Rattle.macho_stub_lines.specs.Bytes.{is_space, space, dash, indent, unspaced, is_passed, has_barred, is_blank_or_comment, is_key_byte, is_tail, is_mark, is_plain_byte, has_late_control_after, has_dash, belongs_to_top}
+use Rattle.macho_stub_lines.specs.Bytes.{space, dash, indent, unspaced, is_passed, has_barred, is_blank_or_comment, is_key_byte, is_tail, is_mark, is_plain_byte, has_late_control_after, has_dash, belongs_to_top}
+use Rattle.macho_stub_lines.specs.steps.Bytes.{is_space}
 use Rattle.macho_stub_lines.specs.Scalars.{scalar_front, plain_front}
 use Rattle.macho_stub_lines.specs.Lists.{list_part, token_front, behind}
 use Rattle.macho_stub_lines.specs.Keys.{entry_at, top_key, item_key, scalar_value, version_value, number_of}
 use Rattle.macho_stub.specs.Documents.{ItemFields, DocumentFields}
 use Rattle.macho_stub.specs.steps.Opened.{OpenDocumentFields, no_item, with_items}
 use Rattle.macho_stub.specs.steps.Reader.{ItemListFields, NameListFields, ModeFields, Keys, Skipped, Names, NoItem, Within, StateFields, stays, with_names, names_line, names_value, skipped_value, item_key_line, key_column, first_line, within, top_line, items_with_last, item_line, line_step}
-use Rattle.macho_stub.specs.Order.{unread_key, unread_item}
+use Rattle.macho_stub.specs.steps.Order.{unread_key, unread_item}
 
 -- ---- where keys may stand
 

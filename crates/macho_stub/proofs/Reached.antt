@@ -1,22 +1,19 @@
--- Lines that were read without a fault, and where they leave the reading. What may stand behind them in a text of the
--- grammar is what the next step doesn't refuse: if it doesn't, lines are there that finish the text, and what is read
--- is in the grammar; and what is in the grammar is read.
--- The lines that finish the text are those of `Finish`; with them all is read, so the text that is written of these
--- lines is in the grammar (`text_of`). What a step refuses, no text of the grammar goes on with, since it would be read
--- (`refused`).
-use Rattle.std.proofs.Common.{◌≡◌, ℕ, suc, ◌+◌, List, [], ◌∷◌, ◌++◌, length, Ok, refl, sym, ap, ◌∙◌, arith, append_assoc}
-use Rattle.std.specs.Str.Lines.{lines}
+-- Lines that were read without a fault, and where they leave the reading. What may stand behind them in lines of the grammar is what the
+-- next step doesn't refuse: if it doesn't, lines are there that finish the text, and what is read is in the grammar; and what is in
+-- the grammar is read.
+-- The lines that finish the text are those of `Finish`; with them all is read, so these lines are in the grammar (`lines_of`). What a
+-- step refuses, no lines of the grammar go on with, since they would be read (`refused`).
+use Rattle.std.proofs.Common.{◌≡◌, ℕ, suc, ◌+◌, List, [], ◌∷◌, ◌++◌, length, Ok, refl, sym, ap, ◌∙◌, subst, arith, append_assoc}
 use Rattle.macho_stub_lines.specs.Faults.{◌>>=◌, broken}
 use Rattle.macho_stub_lines.specs.declared.fault.StubRule.{StubRule}
-use Rattle.macho_stub_lines.specs.Slices.{Slice}
-use Rattle.macho_stub.specs.Documents.{DocumentOf, DocumentFields, documents_texts}
+use Rattle.macho_stub.specs.Documents.{DocumentFields}
 use Rattle.macho_stub.specs.steps.Reader.{StateFields, line_step, lines_from, start}
-use Rattle.macho_stub.specs.Grammar.{IsStubText}
+use Rattle.macho_stub.specs.Grammar.{IsStubLines}
 use Rattle.macho_stub.proofs.Trees.{to_read, of_read}
 use Rattle.macho_stub.specs.Order.{MayBegin, MayStand}
 use Rattle.macho_stub_lines.proofs.Bind.{bind_ok, no_ok}
 use Rattle.macho_stub.proofs.Fine.{GoodState, line_step_fine}
-use Rattle.macho_stub.proofs.Joined.{IsLine, AreLines, joined, lines_joined}
+use Rattle.macho_stub.proofs.Joined.{IsLine, AreLines}
 use Rattle.macho_stub.proofs.Found.{lines_found}
 use Rattle.macho_stub.proofs.Only.{lines_read}
 use Rattle.macho_stub.proofs.Finish.{finishes}
@@ -51,25 +48,15 @@ reached_more first state next text r l e = record {
   are = all_append IsLine first (text ∷ []) r.are (l, tt);
 }
 
--- the text of lines that are read is in the grammar
-text_of : (texts : List (List ℕ)) (says : List DocumentFields) → AreLines texts → lines_from start 1 texts ≡ Ok says
-    → (slices : List (DocumentOf Slice)) × IsStubText (joined texts) slices × (documents_texts slices ≡ says)
-text_of texts says are e = of_read (joined texts) says
-    (lines_found (lines (joined texts)) says (ap (lines_from start 1) (lines_joined texts are) ∙ e))
+-- lines that are read are in the grammar
+lines_of : (texts : List (List ℕ)) (says : List DocumentFields) → lines_from start 1 texts ≡ Ok says → IsStubLines texts says
+lines_of texts says e = of_read texts says (lines_found texts says e)
 
--- lines that were read without a fault begin a text of the grammar
+-- lines that were read without a fault begin lines of the grammar
 pub goes_on : (first : List (List ℕ)) (state : StateFields) → Reached first state → MayBegin first
 goes_on first state r =
     let f = finishes state (length first + 1) r.good in
-    let are = all_append IsLine first f.more r.are f.are in
-    let t = text_of (first ++ f.more) f.says are (r.leads f.more ∙ f.is) in
-    record {
-      text = joined (first ++ f.more);
-      more = f.more;
-      says = t.0;
-      begins = lines_joined (first ++ f.more) are;
-      in_grammar = t.1;
-    }
+    record { more = f.more; says = f.says; in_grammar = lines_of (first ++ f.more) f.says (r.leads f.more ∙ f.is) }
 
 -- and a line whose step doesn't fail may stand behind them
 pub may_stand : (first : List (List ℕ)) (state next : StateFields) (text : List ℕ) → Reached first state → IsLine text
@@ -78,15 +65,13 @@ unfolding lines_from
 may_stand first state next text r l e =
     let n = length first + 1 in
     let f = finishes next (n + 1) ((line_step_fine state n text r.good).ok next e) in
-    let are = all_append IsLine first (text ∷ f.more) r.are (l, f.are) in
     let is = ap (λ reading. reading >>= λ s. lines_from s (n + 1) f.more) e ∙ f.is in
-    let t = text_of (first ++ text ∷ f.more) f.says are (r.leads (text ∷ f.more) ∙ is) in
+    let S : List (List ℕ) → Type 0 = λ t. IsStubLines t f.says in
     record {
-      text = joined (first ++ text ∷ f.more);
       more = f.more;
-      says = t.0;
-      begins = lines_joined (first ++ text ∷ f.more) are ∙ sym (append_assoc first (text ∷ []) f.more);
-      in_grammar = t.1;
+      says = f.says;
+      in_grammar = subst S (sym (append_assoc first (text ∷ []) f.more))
+          (lines_of (first ++ text ∷ f.more) f.says (r.leads (text ∷ f.more) ∙ is));
     }
 
 -- what may stand is not refused
@@ -94,11 +79,10 @@ pub stands : (first : List (List ℕ)) (state : StateFields) (text : List ℕ) �
     → (next : StateFields) × (line_step state (length first + 1) text ≡ Ok next)
 unfolding lines_from
 stands first state text r m =
-    let says = documents_texts m.says in
-    let is : lines_from start 1 (first ++ text ∷ m.more) ≡ Ok says = ap (lines_from start 1)
-    (sym (append_assoc first (text ∷ []) m.more) ∙ sym m.begins)
-    ∙ lines_read (lines m.text) says (to_read m.text m.says m.in_grammar) in
-    let b = bind_ok (line_step state (length first + 1) text) (λ s. lines_from s (length first + 1 + 1) m.more) says
+    let is : lines_from start 1 (first ++ text ∷ m.more) ≡ Ok m.says = ap (lines_from start 1)
+    (sym (append_assoc first (text ∷ []) m.more))
+    ∙ lines_read ((first ++ text ∷ []) ++ m.more) m.says (to_read ((first ++ text ∷ []) ++ m.more) m.says m.in_grammar) in
+    let b = bind_ok (line_step state (length first + 1) text) (λ s. lines_from s (length first + 1 + 1) m.more) m.says
     (sym (r.leads (text ∷ m.more)) ∙ is) in
     (b.0, b.1)
 

@@ -1,6 +1,6 @@
 -- A stub text as it is read: trees of documents, entries and items, each with the lines that the reader takes for it.
 -- A tree is spelled in front of the lines that follow it, and `number` is a line's number, counted from 1. What stands
--- on a line is what the reading of that line gives. This lies between the grammar (`specs/Grammar`), whose trees go down
+-- on a line is what the reading of that line gives. This lies between the grammar with places (`specs/Places`), whose trees go down
 -- to the bytes, and the reader: `Found` and `Only` lead from one to the other, and `Trees` to the grammar.
 use Rattle.std.specs.Prelude.{◌≡◌, ◌≢◌, ℕ, ◌+◌, ◌<◌, ◌⊎◌, Bool, true, false, List, [], ◌∷◌, ◌++◌, length, replicate, Option, Some, None, Ok, is_some, nat_lt, slice_index, if◌then◌else◌}
 use Rattle.std.specs.List.{AllByRecursion}

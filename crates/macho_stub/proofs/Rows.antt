@@ -3,7 +3,7 @@
 -- tree is sound, by the tests of `RowTests`. What the item and the document say is given by their entries: for each key there
 -- is computed which entries have it, and that is one or none. So the text is in the
 -- grammar (`small_in_grammar`). That each text which it says stands at its place is computed besides (`small_stands`).
-use Rattle.std.proofs.Common.{◌≡◌, ℕ, List, [], ◌∷◌, ◌++◌, Some, None, false, refl, arith, inr}
+use Rattle.std.proofs.Common.{◌≡◌, ℕ, List, [], ◌∷◌, Some, None, false, refl, arith, inr, ◌++◌}
 use Rattle.std.specs.List.{AllByRecursion}
 use Rattle.std.specs.Prelude.{codes}
 use Rattle.macho_stub_lines.specs.declared.keys.ItemKind.TheVariants.{Exports}
@@ -14,7 +14,9 @@ use Rattle.macho_stub_lines.specs.FlowLists.{IsFlowList}
 use Rattle.macho_stub_lines.specs.steps.ListTrees.{Spaces, Turn}
 use Rattle.macho_stub_lines.proofs.ListDerived.{list_of_tree}
 use Rattle.macho_stub.specs.Documents.{ItemOf, DocumentOf}
-use Rattle.macho_stub.specs.Grammar.{Entry, IsEntryOf, item_keys, ItemTree, items_then, IsItem, document_keys, DocumentTree, IsDocument, documents_then, IsStubText}
+use Rattle.macho_stub.specs.Grammar.{item_keys}
+use Rattle.macho_stub.specs.Places.{document_keys}
+use Rattle.macho_stub.specs.Places.{Entry, IsEntryOf, ItemTree, items_then, IsItem, DocumentTree, IsDocument, documents_then, IsStubText}
 use Rattle.macho_stub_lines.proofs.Bind.{ne_at, other_bytes}
 use Rattle.macho_stub.proofs.RowTests.{slice, line, plain, single, valued, bare}
 

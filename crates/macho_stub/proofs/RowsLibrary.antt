@@ -7,6 +7,7 @@ use Rattle.std.specs.Prelude.{codes}
 use Rattle.macho_stub.specs.Documents.{document_texts}
 use Rattle.macho_stub.specs.Library.{LibraryFields, has_target}
 use Rattle.macho_stub.specs.Answer.{IsStub, DocumentStands}
+use Rattle.macho_stub.proofs.Trees.{in_grammar}
 use Rattle.macho_stub.proofs.TreesStand.{text_stands}
 use Rattle.macho_stub.proofs.Rows.{small, small_says, small_in_grammar}
 
@@ -17,27 +18,23 @@ small_library = record { install_name = codes "/l"; current_version = codes "1";
 pub small_is_stub : IsStub small small_library
 unfolding has_target
 small_is_stub = record {
-  says = small_says ∷ [];
-  in_grammar = small_in_grammar;
-  makes = record {
-    main = document_texts small_says;
-    others = [];
-    first = refl;
-    sound = (
+  main = document_texts small_says;
+  others = [];
+  in_grammar = in_grammar small (small_says ∷ []) small_in_grammar;
+  sound = (
+    λ e. absurd cc,
+    (
       λ e. absurd cc,
       (
-        λ e. absurd cc,
-        (
-          λ many. omega (arith, many),
-          (λ any. let some = any.2 in omega (arith, some), (λ other. other refl, (λ other. other.0 refl, tt))),
-        ),
+        λ many. omega (arith, many),
+        (λ any. let some = any.2 in omega (arith, some), (λ other. other refl, (λ other. other.0 refl, tt))),
       ),
-    );
-    install_name = refl;
-    current_version = refl;
-    symbols = refl;
-    weak_symbols = refl;
-  };
+    ),
+  );
+  install_name = refl;
+  current_version = refl;
+  symbols = refl;
+  weak_symbols = refl;
 }
 
 -- Each text of the document stands in it at its place.

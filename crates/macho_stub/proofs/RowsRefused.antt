@@ -5,13 +5,12 @@
 -- one that is in the grammar (`whole_is`) in one thing each.
 -- Of two rows the definition itself has the reason: a list over a line that ends the document (`no_list_over_end`), and an
 -- item with a key twice (`targets_twice`).
-use Rattle.std.proofs.Common.{◌≡◌, ◌≢◌, ℕ, List, [], ◌∷◌, ◌++◌, drop, slice_index, Some, Ok, refl, sym, ap, ◌∙◌}
+use Rattle.std.proofs.Common.{◌≡◌, ◌≢◌, ℕ, List, [], ◌∷◌, drop, slice_index, Some, Ok, refl, sym, ap, ◌∙◌, ◌++◌}
 use Rattle.std.specs.Prelude.{codes}
 use Rattle.macho_stub_lines.specs.declared.fault.StubRule.{StubRule}
-use Rattle.macho_stub_lines.specs.declared.fault.StubRule.TheVariants.{S1, S2, S3}
+use Rattle.macho_stub_lines.specs.declared.fault.StubRule.TheVariants.{S1, S3, S2}
 use Rattle.macho_stub_lines.specs.declared.keys.ItemKind.{ItemKind}
 use Rattle.macho_stub_lines.specs.declared.keys.ItemKind.TheVariants.{Libraries, Exports, Reexports}
-use Rattle.macho_stub_lines.specs.declared.keys.ItemKey.TheVariants as item
 use Rattle.macho_stub_lines.specs.declared.list.Expect.{Expect}
 use Rattle.macho_stub_lines.specs.declared.list.Expect.TheVariants.{AfterOpen, AfterComma, AfterName, Closed}
 use Rattle.macho_stub_lines.specs.Bytes.{open_bracket, is_key_byte, is_mark, is_plain_byte, has_late_control_after, indent, unspaced, is_blank_or_comment, is_passed, is_tail}
@@ -27,14 +26,16 @@ use Rattle.macho_stub_lines.proofs.ScalarTrees.{scalar_reads}
 use Rattle.macho_stub_lines.proofs.NumberTrees.{number_reads}
 use Rattle.macho_stub_lines.proofs.EntryTrees.{entry_reads}
 use Rattle.macho_stub_lines.proofs.ListTrees.{list_reads}
-use Rattle.macho_stub.specs.Documents.{ItemOf, ItemFields, DocumentOf, DocumentFields, documents_texts}
+use Rattle.macho_stub.specs.Documents.{ItemOf, DocumentFields, ItemFields}
 use Rattle.macho_stub.specs.steps.Reader.{documents_of}
-use Rattle.macho_stub.specs.Grammar.{Entry, SaysUnder, SaysNames, ItemTree, IsItem, entries_of, IsStubText}
-use Rattle.macho_stub.proofs.Trees.{of_read}
-use Rattle.macho_stub.proofs.Found.{documents_found}
+use Rattle.std.specs.Str.Lines.{lines}
+use Rattle.macho_stub.specs.Grammar.{IsStubLines}
+use Rattle.macho_stub.specs.Places.{Entry, SaysUnder, SaysNames, ItemTree, IsItem, entries_of}
 use Rattle.macho_stub.proofs.Answered.{in_grammar_read}
 use Rattle.macho_stub.proofs.RowTests.{line}
 use Rattle.macho_stub.proofs.RowsOpened.{documents_opened}
+use Rattle.macho_stub.proofs.Trees.{of_read}
+use Rattle.macho_stub.proofs.Found.{documents_found}
 
 -- ---- scalars
 
@@ -181,11 +182,11 @@ other_twice = refl
 
 -- ---- texts
 
-abbrev pub IsNoText : List ℕ → Type 0
-IsNoText text = (says : List (DocumentOf Slice)) → IsStubText text says → ⊥
+pub record IsNoText (text : List ℕ) : Type 0 where
+  pub none : (says : List DocumentFields) → IsStubLines (lines text) says → ⊥
 
 no_text : (text : List ℕ) (number : ℕ) (rule : StubRule) → documents_of text ≡ broken number rule → IsNoText text
-no_text text number rule e says is = no_ok number rule (documents_texts says) (sym e ∙ in_grammar_read text says is)
+no_text text number rule e = record { none = λ says is. no_ok number rule says (sym e ∙ in_grammar_read text says is) }
 
 -- a text with what a document must have
 abbrev pub front : List ℕ
@@ -194,12 +195,12 @@ front = codes "--- !tapi-tbd\n" ++ codes "tbd-version: 4\n" ++ codes "install-na
 abbrev pub whole : List ℕ
 whole = front ++ codes "targets: []\n"
 
--- The text is in the grammar, and says this but for places.
-abbrev pub IsTextOf : List ℕ → DocumentFields → Type 0
-IsTextOf text document = (says : List (DocumentOf Slice)) × IsStubText text says × (documents_texts says ≡ document ∷ [])
+-- The text is in the grammar, and says this.
+pub record IsTextOf (text : List ℕ) (document : DocumentFields) : Type 0 where
+  pub is : IsStubLines (lines text) (document ∷ [])
 
 is_text : (text : List ℕ) (document : DocumentFields) → documents_of text ≡ Ok (document ∷ []) → IsTextOf text document
-is_text text document e = of_read text (document ∷ []) (documents_found text (document ∷ []) e)
+is_text text document e = record { is = of_read (lines text) (document ∷ []) (documents_found text (document ∷ []) e) }
 
 abbrev pub whole_says : DocumentFields
 whole_says = record {

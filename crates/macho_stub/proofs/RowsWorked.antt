@@ -15,6 +15,9 @@ use Rattle.macho_stub_lines.proofs.Bind.{same_ok}
 use Rattle.macho_stub.specs.Library.{LibraryFields}
 use Rattle.macho_stub.specs.Answer.{IsStub, DocumentStands, IsToldOfText}
 use Rattle.macho_stub.specs.steps.Answer.{answer_of}
+use Rattle.macho_stub_lines.specs.Slices.{Slice}
+use Rattle.macho_stub.specs.Documents.{DocumentOf, documents_texts}
+use Rattle.macho_stub.proofs.Trees.{in_places}
 use Rattle.macho_stub.proofs.TreesStand.{text_stands}
 use Rattle.macho_stub.proofs.Answered.{answer_found, answer_only, answer_told}
 use Rattle.macho_stub.proofs.RowsOpened.{answer_opened}
@@ -25,15 +28,20 @@ use Rattle.macho_stub.proofs.RowsOpened.{answer_opened}
 pub record IsLibraryOf (text : List ℕ) (library : LibraryFields) : Type 0 where
   pub makes : IsStub text library
   pub alone : (other : LibraryFields) → IsStub text other → other ≡ library
-  pub stand : AllByRecursion (DocumentStands text) makes.says
+  pub slices : List (DocumentOf Slice)
+  pub are : documents_texts slices ≡ makes.main ∷ makes.others
+  pub stand : AllByRecursion (DocumentStands text) slices
 
 library_of_answer : (text : List ℕ) (library : LibraryFields) → answer_of text ≡ Ok library → IsLibraryOf text library
 library_of_answer text library e =
     let makes : IsStub text library = answer_found text library e in
+    let p = in_places text (makes.main ∷ makes.others) makes.in_grammar in
     record {
       makes = makes;
       alone = λ other is. same_ok other library (sym (answer_only text other is) ∙ e);
-      stand = text_stands text makes.says makes.in_grammar;
+      slices = p.0;
+      are = p.2;
+      stand = text_stands text p.0 p.1;
     }
 
 -- ---- a library with two that it reexports

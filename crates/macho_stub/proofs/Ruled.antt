@@ -11,7 +11,7 @@ use Rattle.std.specs.List.{list_any, Any}
 use Rattle.std.specs.Str.{bytes_eq}
 use Rattle.macho_stub.specs.Documents.{ItemFields, DocumentFields}
 use Rattle.macho_stub.specs.steps.Checks.{all_same, same_names, same_item, same_items, same_document, is_listed}
-use Rattle.macho_stub.specs.Rules.{SaySame}
+use Rattle.macho_stub.specs.steps.Rules.{SaySame}
 use Rattle.macho_stub_lines.proofs.Bind.{same_bytes, bytes_same}
 
 -- ---- tests

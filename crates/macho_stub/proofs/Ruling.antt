@@ -16,7 +16,10 @@ use Rattle.macho_stub_lines.specs.Faults.{Fault, Reading, ◌>>=◌, broken}
 use Rattle.macho_stub.specs.Documents.{ItemFields, DocumentFields}
 use Rattle.macho_stub.specs.Library.{has_target, LibraryFields}
 use Rattle.macho_stub.specs.steps.Checks.{same_document, is_listed, gathered_texts, checked_libraries, checked_main, checked_document, checked_documents, library_of}
-use Rattle.macho_stub.specs.Rules.{SaySame, Breaks, rules_of, KeepsAll, MakesLibrary, IsFirstBroken, IsTold}
+use Rattle.macho_stub.specs.Rules.{Breaks, rules_of}
+use Rattle.macho_stub.specs.steps.Rules.{KeepsAll}
+use Rattle.macho_stub.specs.steps.Rules.{IsFirstBroken, IsTold}
+use Rattle.macho_stub.specs.steps.Rules.{SaySame, MakesLibrary}
 use Rattle.macho_stub_lines.proofs.Bind.{bind_ok, no_ok, same_ok, same_bytes, bytes_same, eq_at, ne_at}
 use Rattle.macho_stub_lines.proofs.Runs.{all_append, all_behind}
 use Rattle.macho_stub.proofs.Gathered.{gathers, weak_gathers}

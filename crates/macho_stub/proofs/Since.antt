@@ -14,7 +14,8 @@ use Rattle.macho_stub_lines.specs.Keys.{entry_at}
 use Rattle.macho_stub.specs.Documents.{ItemFields, DocumentFields}
 use Rattle.macho_stub.specs.steps.Opened.{OpenDocumentFields, head_at, with_items}
 use Rattle.macho_stub.specs.steps.Reader.{ItemListFields, NameListFields, ModeFields, Keys, Skipped, Names, NoItem, InsideFields, PlaceFields, Outside, Within, StateFields, stays, first_line, top_line, items_with_last, content_line, line_step, start, names_line, within}
-use Rattle.macho_stub.specs.Order.{MayStand, IsLastLine, unread_key, unread_item}
+use Rattle.macho_stub.specs.Order.{MayStand, IsLastLine}
+use Rattle.macho_stub.specs.steps.Order.{unread_key, unread_item}
 use Rattle.macho_stub.proofs.Lasts.{IsHead, stays_last, is_last}
 use Rattle.macho_stub.proofs.PutIn.{closing_bracket, at_item, begun, close_steps, dash_steps}
 use Rattle.macho_stub.proofs.Joined.{IsLine}

@@ -10,7 +10,8 @@ use Rattle.std.proofs.lemmas.Bool.Decides.{nat_tests}
 use Rattle.std.proofs.lemmas.List.{get_or-drop, get_or_past, drop-drop}
 use Rattle.std.proofs.Math.Seq.{drop-cons}
 use Rattle.std.proofs.Math.Numerals.{one-add}
-use Rattle.macho_stub_lines.specs.Bytes.{is_space, space, dash, indent, unspaced, has_dash}
+use Rattle.macho_stub_lines.specs.Bytes.{space, dash, indent, unspaced, has_dash}
+use Rattle.macho_stub_lines.specs.steps.Bytes.{is_space}
 use Rattle.macho_stub.specs.steps.Reader.{key_column}
 use Rattle.macho_stub_lines.proofs.Bind.{eq_at}
 

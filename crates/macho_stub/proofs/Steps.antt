@@ -12,7 +12,7 @@ use Rattle.macho_stub_lines.specs.Keys.{entry_at, top_key}
 use Rattle.macho_stub.specs.Documents.{ItemFields, DocumentFields}
 use Rattle.macho_stub.specs.steps.Opened.{OpenDocumentFields, with_items}
 use Rattle.macho_stub.specs.steps.Reader.{ItemListFields, Within, StateFields, stays, skipped_value, with_whole, top_line, items_with_last, item_line, line_step}
-use Rattle.macho_stub.specs.Order.{unread_key}
+use Rattle.macho_stub.specs.steps.Order.{unread_key}
 use Rattle.macho_stub_lines.proofs.Bind.{not_below, one_way}
 use Rattle.macho_stub.proofs.OnlyLines.{top_indent, top_no_dash}
 use Rattle.macho_stub.proofs.PutIn.{mode_at, at_top, at_item}

@@ -10,10 +10,11 @@ use Rattle.macho_stub_lines.specs.declared.fault.StubRule.{StubRule}
 use Rattle.macho_stub_lines.specs.declared.fault.StubRule.TheVariants.{S1, S2}
 use Rattle.macho_stub_lines.specs.Bytes.{indent, unspaced, is_passed, has_barred, is_blank_or_comment, end}
 use Rattle.macho_stub_lines.specs.Faults.{Fault, broken}
-use Rattle.macho_stub.specs.Documents.{documents_texts, DocumentFields}
+use Rattle.macho_stub.specs.Documents.{DocumentFields}
 use Rattle.macho_stub.specs.steps.Opened.{OpenDocumentFields, with_items}
 use Rattle.macho_stub.specs.steps.Reader.{ItemListFields, ModeFields, Keys, Skipped, Names, NoItem, PlaceFields, Outside, Within, StateFields, stays, with_whole, items_with_last, line_step, ended, ended_document, ended_inside, lines_from, start, documents_of}
-use Rattle.macho_stub.specs.Order.{LacksInItem, LacksInDocument, EndsWithout, IsLastLine, IsWhyAtEnd, StopsAt, BreaksOff}
+use Rattle.macho_stub.specs.Order.{EndsWithout, IsLastLine, IsWhyAtEnd, StopsAt}
+use Rattle.macho_stub.specs.steps.Order.{LacksInItem, LacksInDocument, BreaksOff}
 use Rattle.macho_stub_lines.proofs.Bind.{no_ok}
 use Rattle.macho_stub.proofs.Ruling.{bind_err, same_err, ok_not_told}
 use Rattle.macho_stub.proofs.FineLines.{AnyOf, lacking_at}
@@ -131,8 +132,7 @@ breaks_off text line rule e =
       | inl s ↦ inl s
       | inr s ↦ inr (record {
         go_on = goes_on (lines text) s.state s.known.reached;
-        stuck = λ says is. no_ok line rule (documents_texts says)
-            (sym e ∙ documents_read text (documents_texts says) (to_read text says is));
+        stuck = λ says is. no_ok line rule says (sym e ∙ documents_read text says (to_read (lines text) says is));
         why = end_why (lines text) s.state.documents s.state.place line rule s.known s.fails;
       })
     ]

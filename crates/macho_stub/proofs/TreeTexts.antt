@@ -15,7 +15,7 @@ use Rattle.macho_stub_lines.specs.Slices.{Slice, texts_of}
 use Rattle.macho_stub.specs.Documents.{ItemOf, ItemFields, DocumentOf, DocumentFields, item_texts, document_texts}
 use Rattle.macho_stub.specs.steps.Opened.{OpenItemOf, OpenItemFields, OpenDocumentOf, OpenDocumentFields, has_key, with_key, has_items, with_items}
 use Rattle.macho_stub.specs.steps.Whole.{whole_item, whole_document, wanted, wanted_names}
-use Rattle.macho_stub.specs.Grammar.{no_text}
+use Rattle.macho_stub.specs.Places.{no_text}
 use Rattle.macho_stub.proofs.Folded.{IsWholeItem, AreNamesOf, IsWholeDocument}
 use Rattle.macho_stub_lines.proofs.Bind.{bind_ok, same_ok, no_ok, done}
 

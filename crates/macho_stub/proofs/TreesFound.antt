@@ -16,7 +16,7 @@ use Rattle.macho_stub_lines.specs.ReadLists.{ReadLine, read_line}
 use Rattle.macho_stub.specs.Documents.{ItemOf, ItemFields, item_texts}
 use Rattle.macho_stub.specs.steps.Opened.{OpenItemOf, OpenItemFields, no_item, with_key}
 use Rattle.macho_stub.specs.steps.Whole.{whole_item}
-use Rattle.macho_stub.specs.Grammar.{entries_then, ItemTree, item_then, items_then}
+use Rattle.macho_stub.specs.Places.{entries_then, ItemTree, item_then, items_then}
 use Rattle.macho_stub.specs.steps.Trees.{IsSkipped, ItemEntry, item_value_at, is_deeper}
 use Rattle.macho_stub.proofs.Folded.{GivesNames, ItemValue, IsItemEntry, ItemEntries, IsItem, AreItems}
 use Rattle.macho_stub.proofs.Readings as read

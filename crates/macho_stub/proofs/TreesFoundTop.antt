@@ -15,7 +15,7 @@ use Rattle.macho_stub.specs.Documents.{ItemOf, ItemFields, DocumentOf, DocumentF
 use Rattle.macho_stub.specs.steps.Opened.{OpenDocumentOf, OpenDocumentFields, head_at, with_items}
 use Rattle.macho_stub.specs.steps.Whole.{whole_document}
 use Rattle.macho_stub_lines.specs.Bytes.{head, end, belongs_to_top}
-use Rattle.macho_stub.specs.Grammar.{ItemTree, end_then}
+use Rattle.macho_stub.specs.Places.{ItemTree, end_then}
 use Rattle.macho_stub.specs.steps.Trees.{Under, Lines, Listed, under_then, TopEntry, top_entries_then, DocumentTree, documents_then}
 use Rattle.macho_stub.proofs.Folded.{AreItems, AreItemsUnder, TopValue, TopEntries, AreDocuments}
 use Rattle.macho_stub.proofs.Readings as read

@@ -16,7 +16,7 @@ use Rattle.macho_stub_lines.specs.Keys.{top_key, item_key}
 use Rattle.macho_stub_lines.specs.ReadLists.{ReadLine, read_line}
 use Rattle.macho_stub.specs.Documents.{ItemOf, DocumentOf, item_texts, documents_texts}
 use Rattle.macho_stub.specs.steps.Opened.{OpenItemOf, OpenDocumentOf, no_item, head_at}
-use Rattle.macho_stub.specs.Grammar.{entries_then, ItemTree, column_of, items_then, end_then}
+use Rattle.macho_stub.specs.Places.{entries_then, ItemTree, column_of, items_then, end_then}
 use Rattle.macho_stub.specs.steps.Trees.{IsSkipped, ItemEntry, is_deeper, item_value_at, Under, Lines, Listed, under_then, TopEntry, top_entries_then, IsSkippedUnder, IsListUnder, DocumentTree, documents_then}
 use Rattle.macho_stub.proofs.Folded.{GivesNames, ItemValue, IsItemEntry, ItemEntries, IsItem, AreItems, AreItemsUnder, TopValue, TopEntries, AreDocuments}
 use Rattle.macho_stub.proofs.Readings as read

@@ -20,7 +20,7 @@ use Rattle.macho_stub_lines.specs.Keys.{top_key, item_key}
 use Rattle.macho_stub.specs.Documents.{ItemOf, DocumentOf}
 use Rattle.macho_stub.specs.steps.Opened.{OpenItemOf, OpenDocumentOf, no_item, head_at, with_key, with_items}
 use Rattle.macho_stub.specs.Answer.{ItemStands, DocumentStands}
-use Rattle.macho_stub.specs.Grammar.{entries_then, ItemTree, column_of, item_then, items_then, end_then, no_text, IsStubText}
+use Rattle.macho_stub.specs.Places.{entries_then, ItemTree, column_of, item_then, items_then, end_then, no_text, IsStubText}
 use Rattle.macho_stub.specs.steps.Trees.{ItemEntry, item_value_at, Under, Lines, Listed, under_then, TopEntry, top_entries_then, IsListUnder, DocumentTree, documents_then}
 use Rattle.macho_stub.proofs.Folded.{GivesNames, ItemValue, ItemEntries, AreNamesOf, IsWholeItem, IsItem, AreItems, AreItemsUnder, TopValue, TopEntries, IsWholeDocument, AreDocuments}
 use Rattle.macho_stub.proofs.Mappings.{documents_fold}

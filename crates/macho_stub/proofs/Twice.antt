@@ -15,7 +15,8 @@ use Rattle.macho_stub_lines.specs.Keys.{Entry, entry_at, entry_behind, top_key, 
 use Rattle.macho_stub.specs.Documents.{DocumentFields}
 use Rattle.macho_stub.specs.steps.Opened.{OpenDocumentFields}
 use Rattle.macho_stub.specs.steps.Reader.{ItemListFields, InsideFields, StateFields, skipped_value, top_entry, item_entry, item_key_line, within, top_line, line_step}
-use Rattle.macho_stub.specs.Order.{MayStand, StandsTwice, unread_key, in_column}
+use Rattle.macho_stub.specs.Order.{MayStand, StandsTwice, in_column}
+use Rattle.macho_stub.specs.steps.Order.{unread_key}
 use Rattle.macho_stub.proofs.OnlyLines.{entry_unspaced}
 use Rattle.macho_stub.proofs.Joined.{spaces_line}
 use Rattle.macho_stub.proofs.PutIn.{at_top, at_item, item_text_barred, item_text_steps}

@@ -4,7 +4,7 @@
 -- to a skipped value by one test for all columns, or by a test for column 0 and one for those of items; the tests answer alike
 -- (`deeper`, `at_top`). And an entry of a document has what stands under it as a tree: from the lines to the tree by what the
 -- entry's key says (`old_of`), and back by its lines (`new_entry`).
-use Rattle.std.proofs.Common.{◌≡◌, ◌⊎◌, ℕ, ◌+◌, ◌<◌, ◌&&◌, ◌||◌, Bool, true, false, cond, eqb, ltb, List, [], ◌∷◌, ◌++◌, length, map, replicate, slice_index, Option, Some, None, refl, sym, ap, ◌∙◌, arith, inl, inr, subst, append_assoc}
+use Rattle.std.proofs.Common.{◌≡◌, ℕ, ◌+◌, ◌<◌, ◌&&◌, ◌||◌, Bool, true, false, cond, eqb, ltb, List, [], ◌∷◌, ◌++◌, length, map, replicate, slice_index, Option, Some, None, refl, sym, ap, ◌∙◌, arith, inl, inr, subst, append_assoc}
 use Rattle.std.specs.Prelude.{codes}
 use Rattle.std.specs.List.{AllByRecursion, AllZip, filter, prefix_len}
 use Rattle.std.proofs.lemmas.Bool.Decides.{nat_tests}
@@ -13,13 +13,16 @@ use Rattle.macho_stub_lines.specs.declared.keys.ItemKind.{ItemKind}
 use Rattle.macho_stub_lines.specs.declared.keys.ItemKind.TheVariants.{Libraries, Exports, Reexports}
 use Rattle.macho_stub_lines.specs.declared.keys.TopKey.{TopKey}
 use Rattle.macho_stub_lines.specs.declared.keys.TopKey.TheVariants as top
-use Rattle.macho_stub_lines.specs.Bytes.{is_space, space, dash, indent, head, has_dash, belongs_to_top}
+use Rattle.macho_stub_lines.specs.Bytes.{space, dash, indent, head, has_dash, belongs_to_top}
+use Rattle.macho_stub_lines.specs.steps.Bytes.{is_space}
 use Rattle.macho_stub_lines.specs.Slices.{Slice, Line}
 use Rattle.macho_stub_lines.specs.Spelling.{IsEntry, entry_bytes, value_of, value_at, IsNumberValue, IsScalarValue}
 use Rattle.macho_stub_lines.specs.FlowLists.{IsFlowList}
 use Rattle.macho_stub_lines.specs.Keys.{top_key}
 use Rattle.macho_stub.specs.Documents.{ItemOf, DocumentOf}
-use Rattle.macho_stub.specs.Grammar.{Entry, entries_then, belongs, IsSkipped, IsEntryOf, SaysAlone, SaysNames, item_keys, ItemTree, column_of, items_then, entries_of, IsItem, SaysNumber, SaysScalar, SaysItems, document_keys, DocumentTree, end_then, documents_then, no_text, IsDocument}
+use Rattle.macho_stub.specs.Grammar.{item_keys}
+use Rattle.macho_stub.specs.Places.{belongs, SaysAlone, document_keys}
+use Rattle.macho_stub.specs.Places.{Entry, entries_then, IsSkipped, IsEntryOf, SaysNames, ItemTree, column_of, items_then, entries_of, IsItem, SaysNumber, SaysScalar, SaysItems, DocumentTree, end_then, documents_then, no_text, IsDocument}
 use Rattle.macho_stub.specs.steps.Trees as trees
 use Rattle.macho_stub.specs.steps.Trees.{is_deeper, item_value_at, IsItemEntry, Under, Lines, Listed, under_then, TopEntry, top_entries_then, IsSkippedUnder, IsListUnder, AreItemsUnder, SaysList, IsTopEntry}
 use Rattle.macho_stub.proofs.ByKeys.{few, few_behind, none_pass, none_left, each_says, all_both, all_keys, Fails, top_test, top_forth, top_back, no_top_key, no_top_key_back}
@@ -145,7 +148,7 @@ items_new kind dash_column (tree ∷ all) (item ∷ items) z =
     (item_new kind dash_column tree item z.0, items_new kind dash_column all items z.1)
 
 -- the lines of items in front of others
-entries_front : (column : ℕ) (entries : List Entry) (front rest : List Line) → entries_then column entries (front ++ rest)
+pub entries_front : (column : ℕ) (entries : List Entry) (front rest : List Line) → entries_then column entries (front ++ rest)
     ≡ entries_then column entries front ++ rest
 entries_front column [] front rest = refl
 entries_front column (one ∷ others) front rest =

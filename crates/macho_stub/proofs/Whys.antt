@@ -10,13 +10,15 @@ use Rattle.macho_stub_lines.specs.declared.keys.ItemKey.{ItemKey}
 use Rattle.macho_stub_lines.specs.declared.keys.ItemKey.TheVariants as item
 use Rattle.macho_stub_lines.specs.declared.fault.StubRule.{StubRule}
 use Rattle.macho_stub_lines.specs.declared.fault.StubRule.TheVariants.{S1, S2, S3}
-use Rattle.macho_stub_lines.specs.Bytes.{indent, unspaced, is_passed, is_barred, has_barred, is_blank_or_comment, has_dash, belongs_to_top}
+use Rattle.macho_stub_lines.specs.Bytes.{indent, unspaced, is_passed, has_barred, is_blank_or_comment, has_dash, belongs_to_top}
+use Rattle.macho_stub_lines.specs.steps.Bytes.{is_barred}
 use Rattle.macho_stub_lines.specs.Faults.{Fault, Reading, ◌>>=◌, broken, outside}
 use Rattle.macho_stub_lines.specs.Keys.{Entry, entry_at, top_key, item_key}
 use Rattle.macho_stub.specs.Documents.{ItemFields, DocumentFields}
 use Rattle.macho_stub.specs.steps.Opened.{OpenDocumentFields, with_items, has_key, no_item}
 use Rattle.macho_stub.specs.steps.Reader.{ItemListFields, InsideFields, StateFields, names_value, top_entry, item_entry, item_key_line, key_column, first_line, with_whole, items_with_last, key_line, belongs}
-use Rattle.macho_stub.specs.Order.{MayStand, EndsWithout, IsLastLine, IsWhy, unread_key, in_column}
+use Rattle.macho_stub.specs.Order.{MayStand, EndsWithout, IsLastLine, IsWhy, in_column}
+use Rattle.macho_stub.specs.steps.Order.{unread_key}
 use Rattle.macho_stub_lines.proofs.Bind.{eq_false, chosen}
 use Rattle.macho_stub.proofs.Ruling.{bind_err, same_err}
 use Rattle.macho_stub.proofs.OnlyLines.{top_indent}

@@ -1,20 +1,27 @@
 -- What the reading of a stub text answers.
-use Rattle.std.specs.Prelude.{◌≢◌, ◌⊎◌, ℕ, List, All}
+use Rattle.std.specs.Prelude.{◌≡◌, ◌≢◌, ◌⊎◌, ℕ, List, ◌∷◌, All}
 use Rattle.std.specs.List.{AllByRecursion}
 use Rattle.macho_stub_lines.specs.declared.fault.StubFault.{StubFault}
 use Rattle.macho_stub_lines.specs.declared.fault.StubFault.TheVariants.{Rule, OutOfMemory}
 use Rattle.macho_stub_lines.specs.Slices.{Slice, StandsIn}
-use Rattle.macho_stub.specs.Documents.{ItemOf, DocumentOf, documents_texts}
-use Rattle.macho_stub.specs.Grammar.{IsStubText}
-use Rattle.macho_stub.specs.Library.{LibraryFields}
-use Rattle.macho_stub.specs.Rules.{MakesLibrary, IsTold}
-use Rattle.macho_stub.specs.Order.{BreaksOff}
+use Rattle.std.specs.Str.Lines.{lines}
+use Rattle.macho_stub.specs.Documents.{ItemOf, DocumentOf, DocumentFields, documents_texts}
+use Rattle.macho_stub.specs.Grammar.{IsStubLines}
+use Rattle.macho_stub.specs.Places.{IsStubText}
+use Rattle.macho_stub.specs.Library.{LibraryFields, gathered}
+use Rattle.macho_stub.specs.Rules.{Breaks, rules_of, IsTold}
+use Rattle.macho_stub.specs.Order.{StopsAt, StopsAtEnd}
 
--- The text is in the grammar, its documents keep the rules, and they make this library.
+-- The text is in the grammar, its documents keep the rules, the first is the main library, and the library is what they say.
 pub record IsStub (text : List ℕ) (library : LibraryFields) : Type 0 where
-  pub says : List (DocumentOf Slice)
-  pub in_grammar : IsStubText text says
-  pub makes : MakesLibrary (documents_texts says) library
+  pub main : DocumentFields
+  pub others : List DocumentFields
+  pub in_grammar : IsStubLines (lines text) (main ∷ others)
+  pub sound : AllByRecursion (λ rule. Breaks rule.0 main rule.1 → ⊥) (rules_of main (main ∷ others))
+  pub install_name : library.install_name ≡ main.install_name
+  pub current_version : library.current_version ≡ main.current_version
+  pub symbols : library.symbols ≡ gathered (λ item. item.names) (main ∷ others)
+  pub weak_symbols : library.weak_symbols ≡ gathered (λ item. item.weak_names) (main ∷ others)
 
 -- The texts of an item stand in the text at their places, and so do those of a document.
 pub record ItemStands (text : List ℕ) (item : ItemOf Slice) : Type 0 where
@@ -31,9 +38,13 @@ pub record DocumentStands (text : List ℕ) (document : DocumentOf Slice) : Type
   pub exports : AllByRecursion (ItemStands text) document.exports
   pub reexports : AllByRecursion (ItemStands text) document.reexports
 
--- What the grammar says of the text are slices of it.
-abbrev pub SaysSlices : List ℕ → Type 0
-SaysSlices text = (says : List (DocumentOf Slice)) → IsStubText text says → AllByRecursion (DocumentStands text) says
+-- Each text that `IsStubLines` says of a text is a slice of it: the text is in the grammar with places (`IsStubText`) exactly where it is in
+-- the grammar without, it says the same, and each slice stands at its place.
+pub record SaysSlices (text : List ℕ) : Type 0 where
+  pub has : (says : List DocumentFields) → IsStubLines (lines text) says
+      → (slices : List (DocumentOf Slice)) × IsStubText text slices × (documents_texts slices ≡ says)
+  pub in_grammar : (slices : List (DocumentOf Slice)) → IsStubText text slices → IsStubLines (lines text) (documents_texts slices)
+  pub stand : (slices : List (DocumentOf Slice)) → IsStubText text slices → AllByRecursion (DocumentStands text) slices
 
 -- The texts of a library hold no NUL.
 pub record HasNoNul (library : LibraryFields) : Type 0 where
@@ -43,9 +54,9 @@ pub record HasNoNul (library : LibraryFields) : Type 0 where
   pub weak_symbols : All (All (λ b. b ≢ 0)) library.weak_symbols
 
 -- A fault that is told: memory ran out; or the text is in the grammar, and the rule is the one that is told of its
--- documents; or the reading of the text breaks off.
+-- documents; or the text breaks off, at a line or at its end.
 abbrev pub IsToldOfText : List ℕ → StubFault → Type 0
 IsToldOfText text OutOfMemory = Unit {0}
 IsToldOfText text (Rule line rule) =
-    ((says : List (DocumentOf Slice)) × IsStubText text says × IsTold rule line (documents_texts says))
-    ⊎ BreaksOff text line rule
+    ((says : List DocumentFields) × IsStubLines (lines text) says × IsTold rule line says)
+    ⊎ (StopsAt (lines text) line rule ⊎ StopsAtEnd text line rule)

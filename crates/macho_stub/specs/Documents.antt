@@ -1,9 +1,9 @@
--- What items and documents say, in slices of the input and in texts alone.
+-- What items and documents say, in texts alone and in slices of the input.
 use Rattle.std.specs.Prelude.{ℕ, List, map}
 use Rattle.macho_stub_lines.specs.Slices.{Slice, texts_of}
 
--- What an item says: its targets, its libraries or symbols, and its weak symbols. The texts are of a type T: slices of
--- the input in the grammar, bytes alone in the reader.
+-- What an item says: its targets, its libraries or symbols, and its weak symbols. The texts are of a type T: bytes alone in `Grammar` and
+-- in the reader, slices of the input in `Places`.
 pub record ItemOf (T : Type 0) : Type 0 where
   pub targets : List T
   pub names : List T
@@ -26,7 +26,7 @@ ItemFields = ItemOf (List ℕ)
 abbrev pub DocumentFields : Type 0
 DocumentFields = DocumentOf (List ℕ)
 
--- the texts alone of what the grammar says in slices
+-- the texts alone of what `Places` says in slices
 abbrev pub item_texts : ItemOf Slice → ItemFields
 item_texts item = record {
   targets = texts_of item.targets;

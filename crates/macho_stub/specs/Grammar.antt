@@ -1,71 +1,69 @@
--- The grammar of a stub text: documents, mappings and items as trees, each with the lines that it stands on. A tree is
--- spelled in front of the lines that follow it, and what it says are slices of the input.
-use Rattle.std.specs.Prelude.{◌≡◌, ◌≢◌, ℕ, ◌+◌, ◌<◌, ◌⊎◌, Bool, true, false, ◌&&◌, ◌||◌, List, [], ◌∷◌, ◌++◌, length, replicate}
-use Rattle.std.specs.Prelude.{Option, Some, None, nat_lt, ◌==◌, slice_index, codes}
-use Rattle.std.specs.List.{AllByRecursion, AllZip, filter, list_any}
+-- The grammar of a stub text: which lines are documents, and what these say.
+use Rattle.std.specs.Prelude.{◌≡◌, ◌≢◌, ℕ, ◌+◌, ◌<◌, ◌⊎◌, Bool, true, false, ◌&&◌, ◌||◌, not, List, [], ◌∷◌, ◌++◌, length, map, replicate}
+use Rattle.std.specs.Prelude.{Option, Some, None, nat_lt, ◌==◌, slice_index, codes, if◌then◌else◌, take, drop}
+use Rattle.std.specs.List.{AllByRecursion, AllZip, filter, flat_map, list_any, enumerate_from}
 use Rattle.std.specs.Str.{bytes_eq}
+use Rattle.std.specs.Char.{is_ascii_alphanumeric}
 use Rattle.macho_stub_lines.specs.declared.keys.ItemKind.{ItemKind}
 use Rattle.macho_stub_lines.specs.declared.keys.ItemKind.TheVariants.{Libraries, Exports, Reexports}
-use Rattle.macho_stub_lines.specs.Bytes.{space, dash, open_bracket, indent, has_dash, has_barred, head, end}
-use Rattle.macho_stub_lines.specs.Slices.{Slice, Line, lines_of, content_of}
-use Rattle.macho_stub_lines.specs.Spelling.{EntryTree, IsEntry, entry_bytes, value_of, value_at, IsScalarValue}
-use Rattle.macho_stub_lines.specs.Spelling.{IsNumberValue}
-use Rattle.macho_stub_lines.specs.FlowLists.{IsFlowList}
-use Rattle.macho_stub.specs.Documents.{ItemOf, DocumentOf}
+use Rattle.macho_stub_lines.specs.Bytes.{space, indent, unspaced, is_passed, is_tail, has_dash, has_barred, head, end}
+use Rattle.macho_stub_lines.specs.Values.{IsScalar, IsNumber, IsGap, AreScalars}
+use Rattle.macho_stub.specs.Documents.{ItemFields, DocumentFields}
 
 -- ---- mappings
 
--- An entry of a mapping: the number and place of its line, its key and value, and the lines under it.
+-- The key of an entry has a byte or more: letters, digits and dashes (45). Behind its colon stands nothing, or a space first.
+pub record IsEntry (key behind : List ℕ) : Type 0 where
+  pub some : 0 < length key
+  pub bytes : AllByRecursion (λ b. (is_ascii_alphanumeric b || b == 45) ≡ true) key
+  pub spaced : (behind ≡ []) ⊎ (slice_index behind 0 ≡ space)
+
+-- An entry of a mapping: its key, what stands behind the colon on its line, and the lines under it.
 pub record Entry : Type 0 where
-  pub number : ℕ
-  pub at : ℕ
-  pub entry : EntryTree
-  pub more : List Line
+  pub key : List ℕ
+  pub behind : List ℕ
+  pub under : List (List ℕ)
 
--- its lines, with the key in this column, in front of others
-abbrev pub entry_then : ℕ → Entry → List Line → List Line
-entry_then column one rest =
-    record { number = one.number; at = one.at; text = replicate column space ++ entry_bytes one.entry }
-    ∷ (one.more ++ rest)
+-- its lines, with these bytes in front of the key
+abbrev pub entry_lines : List ℕ → Entry → List (List ℕ)
+entry_lines front entry = (front ++ (entry.key ++ (codes ":" ++ entry.behind))) ∷ entry.under
 
-abbrev pub entries_then : ℕ → List Entry → List Line → List Line
-entries_then column [] rest = rest
-entries_then column (one ∷ others) rest = entry_then column one (entries_then column others rest)
+-- the line from its value on; empty where nothing but spaces and a comment stands
+abbrev pub value_of : Entry → List ℕ
+value_of entry = if is_passed entry.behind then [] else unspaced entry.behind
 
--- the place of the value of an entry with its key in this column
-abbrev pub place_of : ℕ → Entry → ℕ
-place_of column one = value_at (one.at + column) one.entry
+-- An entry has a flow list of these scalars: in brackets, with nothing behind the closing one but spaces and a comment. A line `...` ends
+-- the document, so none is of the list.
+pub record IsFlowList (entry : Entry) (texts : List (List ℕ)) : Type 0 where
+  pub opened : List ℕ
+  pub bracket : value_of entry ≡ codes "[" ++ opened
+  pub scalars : List (List ℕ)
+  pub gap : IsGap (opened ∷ entry.under) scalars
+  pub tail : List ℕ
+  pub are : AreScalars scalars texts ((codes "]" ++ tail) ∷ [])
+  pub ends : is_tail tail ≡ true
+  pub inside : AllByRecursion (λ line. line ≢ end) entry.under
 
--- A line is skipped with the value of a key in this column: it begins with more spaces than that; or, for column 0, it is an
--- item with its dash there.
-abbrev pub belongs : ℕ → List ℕ → Bool
-belongs column text = nat_lt column (indent text) || ((column == 0) && has_dash text)
+-- An entry says this text, spelled as `Spells` has it (a number or a scalar), with nothing behind it but spaces and a comment, and nothing
+-- under it.
+abbrev pub SaysText : (List ℕ → List ℕ → Type 0) → Entry → List ℕ → Type 0
+SaysText Spells entry text = (entry.under ≡ [])
+    × (bytes : List ℕ) × (tail : List ℕ) × (value_of entry ≡ bytes ++ tail) × Spells bytes text × (is_tail tail ≡ true)
 
--- The value and the lines under it are skipped: a flow list, or a value that doesn't begin with a bracket and the lines
--- that belong to it.
-abbrev pub IsSkipped : ℕ → Entry → Type 0
-IsSkipped column one =
-    ((names : List Slice) × IsFlowList (place_of column one) (value_of one.entry) one.more names)
-    ⊎ ((slice_index (value_of one.entry) 0 ≢ open_bracket) × AllByRecursion (λ line. belongs column line.text ≡ true) one.more)
+-- An entry whose key is in this column. If its key isn't among those that are read, it is skipped with the lines under it: it has a flow
+-- list, or its value doesn't begin with an opening bracket (91). In the latter case each of the lines begins with more spaces than the key's
+-- column, or, if the key is in column 0, with a dash and a space.
+pub record IsEntryOf (read : List (List ℕ)) (column : ℕ) (entry : Entry) : Type 0 where
+  pub is : IsEntry entry.key entry.behind
+  pub skipped : list_any (bytes_eq entry.key) read ≡ false → ((texts : List (List ℕ)) × IsFlowList entry texts)
+      ⊎ ((slice_index (value_of entry) 0 ≢ 91)
+      × AllByRecursion (λ line. (nat_lt column (indent line) || ((column == 0) && has_dash line)) ≡ true) entry.under)
 
--- an entry with its key in this column: it is skipped where its key isn't among those that are read
-pub record IsEntryOf (read : List (List ℕ)) (column : ℕ) (one : Entry) : Type 0 where
-  pub entry : IsEntry one.entry
-  pub skipped : list_any (bytes_eq one.entry.key) read ≡ false → IsSkipped column one
-
--- The entries that have a key say this: there is one, and it says so; or there is none, and this is what is said otherwise.
--- Where nothing is said otherwise, the key must stand.
-abbrev pub SaysAlone : {E X : Type 0} → Option X → (E → X → Type 0) → List E → X → Type 0
-SaysAlone otherwise says [] x = otherwise ≡ Some x
-SaysAlone otherwise says (one ∷ []) x = says one x
-SaysAlone otherwise says (one ∷ other ∷ more) x = ⊥
-
+-- The entries that have a key say this: there is none, and this is what is said where the key is lacking; or there is one, and it says so.
+-- Where nothing is said of a lacking key, it must stand.
 abbrev pub SaysUnder : {X : Type 0} → List ℕ → Option X → (Entry → X → Type 0) → List Entry → X → Type 0
-SaysUnder key otherwise says entries x = SaysAlone otherwise says (filter (λ one. bytes_eq one.entry.key key) entries) x
-
--- an entry with its key in this column has a flow list of these names
-abbrev pub SaysNames : ℕ → Entry → List Slice → Type 0
-SaysNames column one names = IsFlowList (place_of column one) (value_of one.entry) one.more names
+SaysUnder key lacking says entries x = ((filter (λ one. bytes_eq one.key key) entries ≡ []) × (lacking ≡ Some x))
+    ⊎ ((one : Entry) × (filter (λ one. bytes_eq one.key key) entries ≡ one ∷ []) × says one x)
 
 -- ---- items
 
@@ -74,105 +72,53 @@ abbrev pub item_keys : ItemKind → List (List ℕ)
 item_keys Libraries = codes "targets" ∷ codes "libraries" ∷ []
 item_keys kind = codes "targets" ∷ codes "symbols" ∷ codes "weak-symbols" ∷ []
 
--- An item: a dash, spaces, the first entry, and the other entries in the column of the first one's key.
-pub record ItemTree : Type 0 where
+-- What an item says beside its targets: an item of libraries says their names; an item of symbols may lack names of both kinds.
+abbrev pub SaysNames : ItemKind → List Entry → ItemFields → Type 0
+SaysNames Libraries entries item = SaysUnder (codes "libraries") None IsFlowList entries item.names × (item.weak_names ≡ [])
+SaysNames kind entries item = SaysUnder (codes "symbols") (Some []) IsFlowList entries item.names
+    × SaysUnder (codes "weak-symbols") (Some []) IsFlowList entries item.weak_names
+
+-- An item that says this: a dash, spaces, the first entry, and the other entries in the column of the first one's key.
+pub record IsItem (kind : ItemKind) (dash_column : ℕ) (lines : List (List ℕ)) (item : ItemFields) : Type 0 where
   pub gap : ℕ
+  pub spaced : 0 < gap
   pub first : Entry
   pub others : List Entry
+  pub spelled : lines ≡ entry_lines (replicate dash_column space ++ (codes "-" ++ replicate gap space)) first
+      ++ flat_map (entry_lines (replicate (dash_column + 1 + gap) space)) others
+  pub each : AllByRecursion (IsEntryOf (item_keys kind) (dash_column + 1 + gap)) (first ∷ others)
+  pub targets : SaysUnder (codes "targets") None IsFlowList (first ∷ others) item.targets
+  pub names : SaysNames kind (first ∷ others) item
 
--- the column of its keys, where its dash is in this column
-abbrev pub column_of : ℕ → ItemTree → ℕ
-column_of dash_column tree = dash_column + 1 + tree.gap
-
--- its lines, with the dash in this column, in front of others
-abbrev pub item_then : ℕ → ItemTree → List Line → List Line
-item_then dash_column tree rest =
-    record {
-      number = tree.first.number;
-      at = tree.first.at;
-      text = replicate dash_column space ++ dash ∷ (replicate tree.gap space ++ entry_bytes tree.first.entry);
-    }
-    ∷ (tree.first.more ++ entries_then (column_of dash_column tree) tree.others rest)
-
-abbrev pub items_then : ℕ → List ItemTree → List Line → List Line
-items_then dash_column [] rest = rest
-items_then dash_column (tree ∷ trees) rest = item_then dash_column tree (items_then dash_column trees rest)
-
-abbrev pub entries_of : ItemTree → List Entry
-entries_of tree = tree.first ∷ tree.others
-
--- What an item says: it must have targets, and an item of libraries their names; an item of symbols may lack names of both kinds.
-abbrev pub SaysItem : ItemKind → ℕ → List Entry → ItemOf Slice → Type 0
-SaysItem Libraries column entries item = SaysUnder (codes "targets") None (SaysNames column) entries item.targets
-    × SaysUnder (codes "libraries") None (SaysNames column) entries item.names × (item.weak_names ≡ [])
-SaysItem kind column entries item = SaysUnder (codes "targets") None (SaysNames column) entries item.targets
-    × SaysUnder (codes "symbols") (Some []) (SaysNames column) entries item.names
-    × SaysUnder (codes "weak-symbols") (Some []) (SaysNames column) entries item.weak_names
-
--- an item that says this
-pub record IsItem (kind : ItemKind) (dash_column : ℕ) (tree : ItemTree) (item : ItemOf Slice) : Type 0 where
-  pub spaced : 0 < tree.gap
-  pub each : AllByRecursion (IsEntryOf (item_keys kind) (column_of dash_column tree)) (entries_of tree)
-  pub says : SaysItem kind (column_of dash_column tree) (entries_of tree) item
+-- under a key with no value stand items, one or more, with their dashes in one column
+abbrev pub SaysItems : ItemKind → Entry → List ItemFields → Type 0
+SaysItems kind entry items =
+    (value_of entry ≡ []) × (0 < length items) × (dash_column : ℕ) × (parts : List (List (List ℕ)))
+    × (entry.under ≡ flat_map (λ part. part) parts) × AllZip (IsItem kind dash_column) parts items
 
 -- ---- documents
 
--- What an entry of a document says: a number or a scalar, under which nothing stands; a flow list (`SaysNames`); or items,
--- one or more, with their dashes in one column, under a key with no value.
-abbrev pub SaysNumber : Entry → Slice → Type 0
-SaysNumber one number = (one.more ≡ []) × IsNumberValue (place_of 0 one) (value_of one.entry) number
-
-abbrev pub SaysScalar : Entry → Slice → Type 0
-SaysScalar one text = (one.more ≡ []) × IsScalarValue (place_of 0 one) (value_of one.entry) text
-
-abbrev pub SaysItems : ItemKind → Entry → List (ItemOf Slice) → Type 0
-SaysItems kind one items =
-    (value_of one.entry ≡ []) × (0 < length items) × (dash_column : ℕ) × (trees : List ItemTree)
-    × (one.more ≡ items_then dash_column trees []) × AllZip (IsItem kind dash_column) trees items
-
--- the keys of a document that are read
-abbrev pub document_keys : List (List ℕ)
-document_keys = codes "tbd-version" ∷ codes "targets" ∷ codes "install-name" ∷ codes "current-version"
-    ∷ codes "reexported-libraries" ∷ codes "exports" ∷ codes "reexports" ∷ []
-
--- A document: number and place of its head's line, its entries, and number and place of the line that ends it, if one
--- does.
-pub record DocumentTree : Type 0 where
-  pub number : ℕ
-  pub at : ℕ
+-- A document that says this, by its lines with their numbers: its head, its entries, and the line that ends it, if one does.
+pub record IsDocument (lines : List (ℕ × List ℕ)) (says : DocumentFields) : Type 0 where
+  pub begins : take 1 lines ≡ (says.line, head) ∷ []
   pub entries : List Entry
-  pub ended : Option (ℕ × ℕ)
+  pub ended : Bool
+  pub spelled : map (λ line. line.1) (drop 1 lines) ≡ flat_map (entry_lines []) entries ++ (if ended then end ∷ [] else [])
+  pub each : AllByRecursion (IsEntryOf (codes "tbd-version" ∷ codes "targets" ∷ codes "install-name" ∷ codes "current-version"
+      ∷ codes "reexported-libraries" ∷ codes "exports" ∷ codes "reexports" ∷ []) 0) entries
+  pub version : SaysUnder (codes "tbd-version") None (SaysText IsNumber) entries says.version
+  pub targets : SaysUnder (codes "targets") None IsFlowList entries says.targets
+  pub install_name : SaysUnder (codes "install-name") None (SaysText IsScalar) entries says.install_name
+  pub current_version : SaysUnder (codes "current-version") (Some []) (SaysText IsScalar) entries says.current_version
+  pub libraries : SaysUnder (codes "reexported-libraries") (Some []) (SaysItems Libraries) entries says.libraries
+  pub exports : SaysUnder (codes "exports") (Some []) (SaysItems Exports) entries says.exports
+  pub reexports : SaysUnder (codes "reexports") (Some []) (SaysItems Reexports) entries says.reexports
 
-abbrev pub end_then : Option (ℕ × ℕ) → List Line → List Line
-end_then None rest = rest
-end_then (Some line) rest = record { number = line.0; at = line.1; text = end } ∷ rest
-
-abbrev pub documents_then : List DocumentTree → List Line
-documents_then [] = []
-documents_then (tree ∷ trees) = record { number = tree.number; at = tree.at; text = head }
-    ∷ entries_then 0 tree.entries (end_then tree.ended (documents_then trees))
-
--- the current version of a document where none stands
-abbrev pub no_text : Slice
-no_text = record { at = 0; text = [] }
-
--- a document that says this
-pub record IsDocument (tree : DocumentTree) (says : DocumentOf Slice) : Type 0 where
-  pub line : says.line ≡ tree.number
-  pub each : AllByRecursion (IsEntryOf document_keys 0) tree.entries
-  pub version : SaysUnder (codes "tbd-version") None SaysNumber tree.entries says.version
-  pub targets : SaysUnder (codes "targets") None (SaysNames 0) tree.entries says.targets
-  pub install_name : SaysUnder (codes "install-name") None SaysScalar tree.entries says.install_name
-  pub current_version : SaysUnder (codes "current-version") (Some no_text) SaysScalar tree.entries says.current_version
-  pub libraries : SaysUnder (codes "reexported-libraries") (Some []) (SaysItems Libraries) tree.entries says.libraries
-  pub exports : SaysUnder (codes "exports") (Some []) (SaysItems Exports) tree.entries says.exports
-  pub reexports : SaysUnder (codes "reexports") (Some []) (SaysItems Reexports) tree.entries says.reexports
-
--- The text is documents that say this, and passed-over lines: no line has a byte that may stand nowhere, and the lines
--- with content are those of the documents. No key is lacking that must stand, and none that is read stands twice. (That
--- the bytes are UTF-8 is said by the type of the input.)
-pub record IsStubText (text : List ℕ) (says : List (DocumentOf Slice)) : Type 0 where
-  pub clean : AllByRecursion (λ line. has_barred line.text ≡ false) (lines_of text)
-  pub trees : List DocumentTree
-  pub lines : content_of (lines_of text) ≡ documents_then trees
-  pub documents : AllZip IsDocument trees says
+-- The lines are documents that say this, and passed-over lines: no line has a byte that may stand nowhere, and the lines with content are
+-- those of the documents. No key is lacking that must stand, and none that is read stands twice. (That a text is UTF-8 is said elsewhere: by
+-- the type of the call's input, and by `IsStubInput`.)
+pub record IsStubLines (lines : List (List ℕ)) (says : List DocumentFields) : Type 0 where
+  pub clean : AllByRecursion (λ line. has_barred line ≡ false) lines
+  pub parts : List (List (ℕ × List ℕ))
+  pub content : filter (λ line. not (is_passed line.1)) (enumerate_from 1 lines) ≡ flat_map (λ part. part) parts
+  pub documents : AllZip IsDocument parts says

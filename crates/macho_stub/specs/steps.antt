@@ -2,6 +2,8 @@
 pub mod Answer
 pub mod Checks
 pub mod Opened
+pub mod Order
 pub mod Reader
+pub mod Rules
 pub mod Trees
 pub mod Whole

@@ -54,7 +54,7 @@ pub fn parse_defined_library<'data>(
 ) -> Result<DefinedStubLibrary<'data>, StubFault>
     // What is read is in the grammar and keeps the rules, and the four fields are what it says.
     ensures found { IfOk result (λ library. IsStub input.now (library_fields library)) }
-    // What it says are slices of the input, each at the place where the grammar has it.
+    // What it says are slices of the input, each at the place where `Places` has it.
     ensures slices { SaysSlices input.now }
     // No text of the answer holds a NUL.
     ensures plain { IfOk result (λ library. HasNoNul (library_fields library)) }

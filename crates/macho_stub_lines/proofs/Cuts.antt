@@ -13,7 +13,8 @@ use Rattle.std.proofs.lemmas.Bool.Decides.{nat_tests}
 use Rattle.std.proofs.lemmas.List.Sums.{prefix_len_stops, prefix_len_passes, prefix_len-le-length}
 use Rattle.std.specs.Char.{is_ascii_digit}
 use Rattle.macho_stub_lines.specs.Keys.{is_zero}
-use Rattle.macho_stub_lines.specs.Bytes.{is_space, is_plain_byte, is_mark}
+use Rattle.macho_stub_lines.specs.Bytes.{is_plain_byte, is_mark}
+use Rattle.macho_stub_lines.specs.steps.Bytes.{is_space}
 
 -- a byte past ASCII is plain
 plain_past_ascii : (b : ℕ) → is_plain_byte b ≡ false → b < 128

@@ -9,7 +9,8 @@ use Rattle.std.proofs.lemmas.Bool.Decides.{nat_tests}
 use Rattle.std.proofs.lemmas.List.{length-replicate}
 use Rattle.std.proofs.Math.Seq.{take-append_seam, drop-append_seam, drop-append-add}
 use Rattle.macho_stub_lines.specs.declared.fault.StubRule.TheVariants.{S1}
-use Rattle.macho_stub_lines.specs.Bytes.{space, colon, number_sign, is_space, is_key_byte, indent, unspaced, is_blank_or_comment, is_passed, is_tail}
+use Rattle.macho_stub_lines.specs.Bytes.{space, colon, number_sign, is_key_byte, indent, unspaced, is_blank_or_comment, is_passed, is_tail}
+use Rattle.macho_stub_lines.specs.steps.Bytes.{is_space}
 use Rattle.macho_stub_lines.specs.Faults.{Reading, outside}
 use Rattle.macho_stub_lines.specs.Keys.{Entry, entry_behind, entry_at}
 use Rattle.macho_stub_lines.specs.Spelling.{Behind, NoValue, Value, EntryTree, behind_bytes, entry_bytes, value_in, value_of, IsValue, IsBehind, IsEntry}
@@ -30,18 +31,18 @@ unfolding is_tail is_passed
 tail_is [] rest some passes stops = absurd (omega arith)
 tail_is (b ∷ spaces) rest some passes stops = rw (passes.0, unspaced_is spaces rest passes.1 stops) refl
 
-spaces_pass : (gap : ℕ) → Passes is_space (replicate gap space)
+pub spaces_pass : (gap : ℕ) → Passes is_space (replicate gap space)
 spaces_pass gap = all_replicate (λ b. is_space b ≡ true) gap space refl
 
 -- ---- what stands behind the colon
 
-value_at_stop : (rest : List ℕ) → Stops is_space rest → is_blank_or_comment rest ≡ false → IsValue rest
+pub value_at_stop : (rest : List ℕ) → Stops is_space rest → is_blank_or_comment rest ≡ false → IsValue rest
 unfolding is_blank_or_comment
 value_at_stop [] stops e = absurd cc
 value_at_stop (b ∷ rest) stops e = (ne_at b space stops, ne_at b number_sign e)
 
 -- a value ends the spaces before it, and it isn't nothing, and no comment
-value_stops : (value : List ℕ) → IsValue value → Stops is_space value × (is_blank_or_comment value ≡ false)
+pub value_stops : (value : List ℕ) → IsValue value → Stops is_space value × (is_blank_or_comment value ≡ false)
 unfolding is_blank_or_comment
 value_stops [] v = absurd v
 value_stops (b ∷ value) v = (eq_false b space v.0, eq_false b number_sign v.1)

@@ -16,3 +16,4 @@ pub mod Places
 pub mod Runs
 pub mod ScalarTrees
 pub mod NoNuls
+pub mod Unplaced

@@ -5,7 +5,8 @@
 -- tail, and so does a space in front of a comment (`tail_spaced`, `tail_comment`).
 use Rattle.std.proofs.Common.{◌≡◌, ℕ, Bool, true, false, List, [], ◌∷◌, ◌&&◌, eqb, one-add, refl, sym, ap, ◌∙◌, ◌⊎◌, inl, inr}
 use Rattle.std.specs.List.{prefix_len}
-use Rattle.macho_stub_lines.specs.Bytes.{is_space, space, number_sign, indent, unspaced, is_blank_or_comment, is_passed, is_tail}
+use Rattle.macho_stub_lines.specs.Bytes.{space, number_sign, indent, unspaced, is_blank_or_comment, is_passed, is_tail}
+use Rattle.macho_stub_lines.specs.steps.Bytes.{is_space}
 use Rattle.macho_stub_lines.proofs.Bind.{eq_at}
 
 -- a tail with a byte begins with a space

@@ -4,7 +4,8 @@
 use Rattle.std.proofs.Common.{◌≡◌, ◌≢◌, ℕ, zero, suc, ◌==◌, ◌||◌, Bool, true, false, List, [], ◌∷◌, refl, arith}
 use Rattle.std.specs.List.{All}
 use Rattle.std.proofs.lemmas.Bool.Decides.{nat_tests}
-use Rattle.macho_stub_lines.specs.Bytes.{is_barred, has_barred}
+use Rattle.macho_stub_lines.specs.Bytes.{has_barred}
+use Rattle.macho_stub_lines.specs.steps.Bytes.{is_barred}
 use Rattle.macho_stub_lines.specs.Laws.{UnbarredIsPlain}
 
 -- one byte more without a NUL

@@ -1,4 +1,5 @@
--- The bytes that a stub text (the `.tbd` format, version 4) is made of.
+-- The bytes that a stub text (the `.tbd` format, version 4) is made of. In the files on text stubs a thing stands behind another where it
+-- comes after it in the text.
 use Rattle.std.specs.Prelude.{ℕ, ◌+◌, Bool, true, false, ◌&&◌, ◌||◌, not, List, [], ◌∷◌, drop, slice_index, codes, ◌==◌}
 use Rattle.std.specs.Prelude.{nat_lt}
 use Rattle.std.specs.List.{prefix_len, list_any}
@@ -40,9 +41,6 @@ backslash = 92
 abbrev pub close_bracket : ℕ
 close_bracket = 93
 
-abbrev pub is_space : ℕ → Bool
-is_space b = b == space
-
 -- a byte of a key: a letter, a digit or a dash
 unfoldable pub is_key_byte : ℕ → Bool
 is_key_byte b = is_ascii_alphanumeric b || b == dash
@@ -70,16 +68,16 @@ has_late_control bytes = has_late_control_after 0 bytes
 
 -- how many spaces the bytes begin with
 unfoldable pub indent : List ℕ → ℕ
-indent bytes = prefix_len is_space bytes
+indent bytes = prefix_len (λ b. b == space) bytes
 
 -- the bytes from the first that is no space
 unfoldable pub unspaced : List ℕ → List ℕ
 unspaced bytes = drop (indent bytes) bytes
 
--- Nothing, or a number sign and what follows it.
+-- Nothing, or a number sign (35) and what follows it.
 unfoldable pub is_blank_or_comment : List ℕ → Bool
 is_blank_or_comment [] = true
-is_blank_or_comment (b ∷ bytes) = b == number_sign
+is_blank_or_comment (b ∷ bytes) = b == 35
 
 -- A line that is passed over: it is blank, or its first byte past spaces is a number sign.
 unfoldable pub is_passed : List ℕ → Bool
@@ -90,13 +88,9 @@ unfoldable pub is_tail : List ℕ → Bool
 is_tail [] = true
 is_tail (b ∷ bytes) = b == space && is_passed bytes
 
--- a byte that may stand nowhere in a text: NUL (0) or a tab (9)
-abbrev pub is_barred : ℕ → Bool
-is_barred b = b == 0 || b == 9
-
--- one of the bytes is NUL or a tab
+-- one of the bytes may stand nowhere in a text: it is NUL (0) or a tab (9)
 unfoldable pub has_barred : List ℕ → Bool
-has_barred bytes = list_any is_barred bytes
+has_barred bytes = list_any (λ b. b == 0 || b == 9) bytes
 
 -- ---- lines of their own
 
@@ -108,9 +102,9 @@ head = codes "--- !tapi-tbd"
 abbrev pub end : List ℕ
 end = codes "..."
 
--- A dash and a space behind the line's first spaces.
+-- A dash (45) and a space behind the line's first spaces.
 unfoldable pub has_dash : List ℕ → Bool
-has_dash line = slice_index line (indent line) == dash && slice_index line (indent line + 1) == space
+has_dash line = slice_index line (indent line) == 45 && slice_index line (indent line + 1) == space
 
 -- The line is skipped with the value of a key in column 0: it is further in, or an item with its dash in column 0.
 unfoldable pub belongs_to_top : List ℕ → Bool

@@ -1,4 +1,4 @@
--- Flow lists: scalars in brackets, parted by commas, that may go on over lines.
+-- Flow lists with places: scalars in brackets, parted by commas, that may go on over lines. `Values` has the same by the lines alone.
 use Rattle.std.specs.Prelude.{◌≡◌, ◌≢◌, ℕ, ◌+◌, true, List, [], ◌∷◌, ◌++◌, length, replicate}
 use Rattle.std.specs.List.{AllByRecursion}
 use Rattle.macho_stub_lines.specs.Bytes.{space, comma, open_bracket, close_bracket, end, is_tail}

@@ -2,6 +2,7 @@ pub mod Bytes
 pub mod Slices
 pub mod Spelling
 pub mod FlowLists
+pub mod Values
 pub mod Faults
 pub mod Scalars
 pub mod Lists

@@ -1,4 +1,4 @@
--- Flow lists as they are read: line by line, each with the tokens on it. This is what lies between a list of the grammar
+-- Flow lists as they are read: line by line, each with the tokens on it. This is what lies between a list with places
 -- (`specs/FlowLists`) and the reading of one line (`list_part`).
 -- A line adds its scalars to those before and leaves what may come next; the list goes on until the bracket has closed
 -- it, and the line with the bracket is the last (`GoesOn`). No line of it is the end of a document. Places are left out

@@ -1,5 +1,5 @@
--- What stands on a line as a tree, how it is spelled, and when it is sound: scalars, numbers, and keys with their
--- values. In these files a thing stands behind another where it comes after it in the text.
+-- What stands on a line as a tree with places, how it is spelled, and when it is sound: scalars, numbers, and keys with their
+-- values. `Values` has scalars and numbers by their bytes alone.
 use Rattle.std.specs.Prelude.{◌≡◌, ◌≢◌, ℕ, ◌+◌, ◌<◌, true, false, List, [], ◌∷◌, ◌++◌, length, replicate}
 use Rattle.std.specs.List.{AllByRecursion}
 use Rattle.std.specs.Char.{is_ascii_digit}

@@ -2,3 +2,5 @@
 pub mod Lists
 pub mod Spelling
 pub mod ListTrees
+pub mod Bytes
+pub mod Values

@@ -15,7 +15,8 @@ use Rattle.macho_model.specs.Objects.{num_sections}
 use Rattle.macho_model.specs.Grammar.{IsObject}
 use Rattle.macho_model.proofs.ObjectLaws.{object_keeps}
 use Rattle.macho_model.specs.Links.{Link, SectionId, object_of, header_at, carried_of}
-use Rattle.macho_model.specs.Needs.{Use, ByRelocation, relocation_in, relocations_of}
+use Rattle.macho_model.specs.Needs.{relocation_in, relocations_of}
+use Rattle.macho_model.specs.Uses.{Use, ByRelocation}
 use Rattle.macho_model.specs.Targets.{target_of_relocation, is_import}
 use Rattle.macho_model.specs.Fields.{field_of, content_of, fields_of, is_prefix_type, addend_of}
 use Rattle.macho_model.specs.Segments.{may_hold_pointers, DATA, DATA_CONST}

@@ -4,7 +4,7 @@ use Rattle.std.proofs.Common.{subst}
 use Rattle.std.proofs.lemmas.List.Elements.{All-push}
 use Rattle.macho_model.specs.Objects.{num_sections, section_at}
 use Rattle.macho_model.specs.Links.{Link, SectionId, object_of, is_carried, carried_of}
-use Rattle.macho_model.specs.Needs.{Use}
+use Rattle.macho_model.specs.Uses.{Use}
 use Rattle.macho_needs.specs.declared.needs.Needs.{Needs}
 use Rattle.macho_survey.specs.declared.findings.Findings.{Findings}
 use Rattle.macho_survey.specs.declared.section.Section.{Section}

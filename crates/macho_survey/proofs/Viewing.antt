@@ -8,8 +8,10 @@ use Rattle.std.proofs.lemmas.List.FromFn.{length-enumerate_from}
 use Rattle.std.proofs.lemmas.List.Elements.{All-nil}
 use Rattle.macho_model.specs.Links.{Input, Object, Dylib, Stub, Link, SectionId, no_input, header_at, sections_of, sections_of_file}
 use Rattle.macho_model.specs.Links.{carried_of}
-use Rattle.macho_model.specs.Needs.{Use, ByRelocation, ByName, uses_of, initializer_uses, initializer_sections, personality_uses}
-use Rattle.macho_model.specs.Needs.{unwind_sections, is_imported, carried_uses, relocation_in, relocations_of}
+use Rattle.macho_model.specs.Needs.{initializer_sections}
+use Rattle.macho_model.specs.Uses.{Use, ByRelocation, ByName, uses_of, initializer_uses, personality_uses}
+use Rattle.macho_model.specs.Needs.{unwind_sections, is_imported, relocation_in, relocations_of}
+use Rattle.macho_model.specs.Uses.{carried_uses}
 use Rattle.macho_model.specs.ExportLists.{plain_entries}
 use Rattle.macho_model.specs.Fields.{Field, field_of, fields_of, is_prefix_type}
 use Rattle.macho_model.specs.Values.{needs_fixup, is_pointer, fits_signed}

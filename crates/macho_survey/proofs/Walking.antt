@@ -11,7 +11,8 @@ use Rattle.std.proofs.lemmas.List.FromFn.{length-range_with_len, get_or-map-rang
 use Rattle.macho_model.specs.Objects.{num_sections, section_at}
 use Rattle.macho_model.specs.Links.{Input, Object, Link, SectionId, section_id, no_input, object_of, object_bytes, header_at, is_carried}
 use Rattle.macho_model.specs.Links.{sections_of_file, sections_of, carried_of}
-use Rattle.macho_model.specs.Needs.{Use, ByRelocation, uses_of, carried_uses, relocations_of}
+use Rattle.macho_model.specs.Needs.{relocations_of}
+use Rattle.macho_model.specs.Uses.{Use, ByRelocation, uses_of, carried_uses}
 use Rattle.macho_names.specs.Kept.{FileRows, Keeps}
 use Rattle.macho_parts.specs.Noted.{BeginsWith}
 use Rattle.macho_needs.specs.declared.needs.Needs.{Needs}

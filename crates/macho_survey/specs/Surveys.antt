@@ -3,7 +3,7 @@ use Rattle.std.specs.Prelude.{◌≡◌, ℕ, ◌<◌, ◌⊎◌, true, false, L
 use Rattle.macho_records.specs.Sections.{segment_name_of}
 use Rattle.macho_model.specs.Links.{Input, Link, SectionId, header_at}
 use Rattle.macho_model.specs.Fields.{field_of}
-use Rattle.macho_model.specs.Needs.{Use, ByRelocation, ByInitializer, ByPersonality, ByName}
+use Rattle.macho_model.specs.Uses.{Use, ByRelocation, ByInitializer, ByPersonality, ByName}
 use Rattle.macho_model.specs.Targets.{is_import}
 use Rattle.macho_model.specs.Rows.{is_supported, share_byte, are_pair}
 use Rattle.macho_model.specs.Segments.{may_hold_pointers}

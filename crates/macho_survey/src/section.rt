@@ -8,7 +8,7 @@ ghost use Rattle.macho_structs.specs.Relocations.{BitsFit};
 ghost use Rattle.macho_model.specs.declared.placed.Counts.{Counts};
 ghost use Rattle.macho_model.specs.Objects.{num_sections, section_at, section_bytes, relocation_at};
 ghost use Rattle.macho_model.specs.Links.{Input, Link, SectionId, object_of, carried_of};
-ghost use Rattle.macho_model.specs.Needs.{Use, ByRelocation, uses_of, carried_uses};
+ghost use Rattle.macho_model.specs.Uses.{Use, ByRelocation, uses_of, carried_uses};
 ghost use Rattle.macho_model.specs.Values.{fits_signed};
 ghost use Rattle.macho_names.specs.Kept.{Keeps};
 ghost use Rattle.macho_symbols.specs.Kept.{IsResolved};

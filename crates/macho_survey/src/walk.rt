@@ -5,7 +5,7 @@ ghost use Rattle.macho_bytes.specs.Texts.{name_of};
 ghost use Rattle.macho_model.specs.declared.placed.Counts.{Counts};
 ghost use Rattle.macho_model.specs.Objects.{num_sections};
 ghost use Rattle.macho_model.specs.Links.{Input, Object, Link, SectionId, section_id, no_input, sections_of_file};
-ghost use Rattle.macho_model.specs.Needs.{Use};
+ghost use Rattle.macho_model.specs.Uses.{Use};
 ghost use Rattle.macho_names.specs.Kept.{Keeps};
 ghost use Rattle.macho_faults.specs.Standing.{Stands};
 ghost use Rattle.macho_parts.specs.Noted.{BeginsWith, uses_of_carried};

@@ -11,7 +11,8 @@ use Rattle.macho_records.specs.declared.constants.TheConstants.{N_ABS, N_EXT, N_
 use Rattle.macho_records.specs.Flags.{has_any}
 use Rattle.macho_model.specs.Links.{Link, object_of, is_carried}
 use Rattle.macho_model.specs.Objects.{section_at}
-use Rattle.macho_model.specs.Resolution.{SymbolId, symbols_of, strong_of, weak_of, commons_of, is_strong, is_weak, has_name, entry_at, name_at}
+use Rattle.macho_model.specs.Resolution.{SymbolId, symbols_of, strong_of, commons_of, has_name, entry_at, name_at}
+use Rattle.macho_model.specs.steps.Resolved.{weak_of, is_strong, is_weak}
 use Rattle.macho_names.specs.declared.notes.Sort.{Sort}
 use Rattle.macho_names.specs.declared.notes.Sort.TheVariants.{Section, Absolute, Common, Nowhere}
 use Rattle.macho_names.specs.Kept.{Row, kept_of, row_of_symbol, in_carried}

@@ -4,7 +4,8 @@
 use Rattle.std.proofs.Common.{◌≡◌, ℕ, ◌<◌, Bool, true, false, ◌&&◌, ◌==◌, Option, Some, None, List, [], ◌∷◌, map, filter, All, refl, ap, sym, ◌∙◌, arith, suc}
 use Rattle.std.proofs.lemmas.Bool.{false≢true}
 use Rattle.macho_model.specs.Links.{Link}
-use Rattle.macho_model.specs.Resolution.{SymbolId, Definition, Symbol, Library, first_or, definition_of, strong_of, weak_of, commons_of, greatest_of, libraries_with}
+use Rattle.macho_model.specs.Resolution.{SymbolId, Definition, Symbol, Library, definition_of, strong_of, commons_of, greatest_of, libraries_with}
+use Rattle.macho_model.specs.steps.Resolved.{first_or, weak_of}
 use Rattle.macho_names.specs.declared.notes.Sort.{Sort}
 use Rattle.macho_names.specs.declared.notes.Sort.TheVariants.{Section, Absolute, Common, Offered, Nowhere}
 use Rattle.macho_names.specs.Kept.{kept_of}
@@ -18,6 +19,8 @@ use Rattle.macho_symbols.proofs.Classes.{strong_class, weak_class, common_class}
 use Rattle.macho_names.proofs.KnowingBetter.{filter_same_test}
 use Rattle.macho_symbols.proofs.Greatest.{greatest_first}
 use Rattle.macho_symbols.proofs.Offering.{libraries_empty, libraries_first}
+use Rattle.macho_model.proofs.Resolved.{definition_is_first}
+use Rattle.macho_model.specs.steps.Resolved.{first_definition}
 
 abbrev of_class : ℕ → List ℕ → Event → Bool
 of_class c name e = (strength e.row == c) && is_of name e
@@ -81,8 +84,8 @@ greatest_empty l name e = let none : commons_of l name ≡ [] = no_symbols l (co
 
 -- THE definition of a name.
 pub definition_is : (l : Link) (name : List ℕ) → definition_of l name ≡ definition_by name (best_of name (events (map kept_of l.inputs)))
-unfolding definition_of
-definition_is l name = of (best_of name (events (map kept_of l.inputs))) refl
+unfolding first_definition
+definition_is l name = definition_is_first l name ∙ of (best_of name (events (map kept_of l.inputs))) refl
   where
     strong : (b : Event) → IsBest name (events (map kept_of l.inputs)) b → strength b.row ≡ 4
         → first_or (map Symbol (strong_of l name))

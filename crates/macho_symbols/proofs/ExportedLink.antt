@@ -15,7 +15,8 @@ use Rattle.macho_model.specs.declared.targets.Target.TheVariants as target
 use Rattle.macho_model.specs.ExportLists.{plain_entries, all_entries}
 use Rattle.macho_model.specs.Exports.{has_lists, is_listed}
 use Rattle.macho_model.specs.Links.{Link}
-use Rattle.macho_model.specs.Resolution.{SymbolId, Symbol, Library, ImageBase, DSO_HANDLE, definition_of, entry_at}
+use Rattle.macho_model.specs.Resolution.{SymbolId, Symbol, Library, ImageBase, definition_of, entry_at}
+use Rattle.macho_model.specs.steps.Resolved.{DSO_HANDLE}
 use Rattle.macho_exports.specs.Entries.{ListEntries}
 use Rattle.macho_exports.proofs.Listed.{listed_is}
 use Rattle.macho_symbols.specs.declared.exports.ExportName.{ExportName}

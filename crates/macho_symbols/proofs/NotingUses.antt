@@ -8,7 +8,8 @@ use Rattle.std.proofs.lemmas.List.Folds.{position_or_len_push}
 use Rattle.std.specs.List.{position_or_len}
 use Rattle.macho_stub_lines.proofs.Bind.{bytes_same, bytes_differ}
 use Rattle.macho_model.specs.declared.targets.Target.TheVariants as target
-use Rattle.macho_model.specs.Resolution.{Library, DSO_HANDLE}
+use Rattle.macho_model.specs.Resolution.{Library}
+use Rattle.macho_model.specs.steps.Resolved.{DSO_HANDLE}
 use Rattle.macho_names.specs.declared.notes.Sort.{Sort}
 use Rattle.macho_names.specs.declared.notes.Sort.TheVariants.{Section, Absolute, Common as CommonSort, Offered, Nowhere}
 use Rattle.macho_symbols.specs.declared.solved.Solved.{Solved}

@@ -1,7 +1,7 @@
 -- Where names and symbols lead by the model, and by the rows. The definition of a name is what its best event gives it. A
 -- best event of an object is a symbol of the link with its row, and a symbol leads by itself where its row does: into its
 -- section, to its value, or to its number among the commons that define their names.
-use Rattle.std.proofs.Common.{◌≡◌, ℕ, ◌-◌, ◌<◌, ◌≤◌, Bool, true, false, ◌&&◌, ◌||◌, ◌==◌, if◌then◌else◌, Option, Some, None, List, [], ◌∷◌, length, map, filter, get_or, All, is_none, suc, refl, ap, sym, ◌∙◌, arith}
+use Rattle.std.proofs.Common.{◌≡◌, ℕ, ◌<◌, ◌≤◌, Bool, true, false, ◌&&◌, ◌==◌, if◌then◌else◌, Option, Some, None, List, [], ◌∷◌, length, map, filter, get_or, All, is_none, suc, refl, ap, sym, ◌∙◌, arith}
 use Rattle.std.proofs.lemmas.List.{length-map}
 use Rattle.std.proofs.lemmas.List.Elements.{filter_passes}
 use Rattle.std.specs.List.{position_or_len}
@@ -11,12 +11,14 @@ use Rattle.macho_records.specs.Symbols.{is_common_of, is_weak_of, has_type, is_g
 use Rattle.macho_records.specs.declared.constants.TheConstants.{N_ABS}
 use Rattle.macho_model.specs.declared.targets.Target.TheVariants as target
 use Rattle.macho_model.specs.Links.{Link, Input, Object, Dylib, Stub, no_input, object_of}
-use Rattle.macho_model.specs.Resolution.{SymbolId, ImageBase, DSO_HANDLE, symbols_of, entry_at, name_at, same_symbol, is_symbol, defines, definition_of, chosen_commons, strong_of}
+use Rattle.macho_model.specs.Resolution.{SymbolId, ImageBase, symbols_of, entry_at, name_at, same_symbol, is_symbol, defines, definition_of, chosen_commons, strong_of}
+use Rattle.macho_model.specs.steps.Resolved.{DSO_HANDLE}
 use Rattle.macho_model.specs.Faults.{IsDuplicate}
 use Rattle.macho_names.specs.declared.fault.SymbolFault.{SymbolFault}
 use Rattle.macho_names.specs.declared.fault.SymbolFault.TheVariants.{DuplicateSymbol, UndefinedSymbol, ExportListMissing, OutOfMemory}
 use Rattle.macho_names.specs.Tables.{IsClash}
-use Rattle.macho_model.specs.Targets.{own_target, definition_target, target_with}
+use Rattle.macho_model.specs.Targets.{own_target, definition_target}
+use Rattle.macho_model.specs.Uses.{target_with}
 use Rattle.macho_names.specs.declared.notes.Sort.{Sort}
 use Rattle.macho_names.specs.declared.notes.Sort.TheVariants.{Section, Absolute, Common, Offered, Nowhere}
 use Rattle.macho_names.specs.Kept.{kept_of, row_of_symbol, sort_of, in_carried, kept_name, no_file}

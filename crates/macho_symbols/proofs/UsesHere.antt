@@ -11,8 +11,11 @@ use Rattle.std.proofs.lemmas.Bool.Decides.{nat_tests}
 use Rattle.macho_records.specs.Symbols.{is_global}
 use Rattle.macho_model.specs.declared.targets.Target.TheVariants as target
 use Rattle.macho_model.specs.Links.{Link, Input, Object, Dylib, Stub, no_input, object_of}
-use Rattle.macho_model.specs.Resolution.{SymbolId, ImageBase, DSO_HANDLE, entry_at, name_at, definition_of, library_name, library_of_input}
-use Rattle.macho_model.specs.Needs.{is_library, is_imported}
+use Rattle.macho_model.specs.Resolution.{SymbolId, ImageBase, entry_at, name_at, definition_of, library_of_input}
+use Rattle.macho_model.specs.steps.Resolved.{DSO_HANDLE}
+use Rattle.macho_model.specs.Resolution.{library_name}
+use Rattle.macho_model.specs.Needs.{is_imported}
+use Rattle.macho_model.specs.steps.Resolved.{is_library}
 use Rattle.macho_names.specs.declared.notes.Sort.{Sort}
 use Rattle.macho_names.specs.declared.notes.Sort.TheVariants.{Section, Absolute, Common, Offered, Nowhere}
 use Rattle.macho_names.specs.declared.fault.SymbolFault.{SymbolFault}

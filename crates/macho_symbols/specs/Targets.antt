@@ -1,11 +1,11 @@
 -- What the rows of all files say of names and symbols: the definition of a name, and where it leads. The definition is that of the best
 -- row with the name; a name that has none leads nowhere, but for that of the image's first byte.
-use Rattle.std.specs.Prelude.{ℕ, ◌==◌, ◌&&◌, if◌then◌else◌, Bool, List, filter, map, Option, Some, None}
+use Rattle.std.specs.Prelude.{ℕ, ◌==◌, ◌&&◌, if◌then◌else◌, Bool, List, filter, map, Option, Some, None, codes}
 use Rattle.std.specs.List.{position_or_len}
 use Rattle.std.specs.Str.{bytes_eq}
 use Rattle.macho_model.specs.declared.targets.Target.{Target}
 use Rattle.macho_model.specs.declared.targets.Target.TheVariants as target
-use Rattle.macho_model.specs.Resolution.{SymbolId, Definition, Symbol, Library, ImageBase, DSO_HANDLE, same_symbol, is_symbol}
+use Rattle.macho_model.specs.Resolution.{SymbolId, Definition, Symbol, Library, ImageBase, same_symbol, is_symbol}
 use Rattle.macho_names.specs.declared.notes.Sort.{Sort}
 use Rattle.macho_names.specs.declared.notes.Sort.TheVariants.{Section, Absolute, Common, Offered, Nowhere}
 use Rattle.macho_names.specs.Kept.{FileRows}
@@ -16,7 +16,7 @@ id_of e = record { file = e.file; symbol = e.at }
 
 -- what a name is that nothing but the image may define
 abbrev pub image_base : List ℕ → Option Definition
-image_base name = if bytes_eq name DSO_HANDLE then Some ImageBase else None
+image_base name = if bytes_eq name (codes "___dso_handle") then Some ImageBase else None
 
 -- the definition that the best event of a name gives it
 abbrev pub defined_as : List ℕ → Sort → Event → Option Definition
@@ -47,7 +47,7 @@ own_in files e Offered = target.None
 own_in files e Nowhere = target.None
 
 abbrev pub base_target : List ℕ → Target
-base_target name = if bytes_eq name DSO_HANDLE then target.Base else target.None
+base_target name = if bytes_eq name (codes "___dso_handle") then target.Base else target.None
 
 -- where the best event of a name leads
 abbrev pub lead_in : List FileRows → List (List ℕ) → List ℕ → Event → Sort → Target

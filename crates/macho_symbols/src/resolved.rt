@@ -3,7 +3,8 @@ ghost use Rattle.std.specs.Prelude.{◌≡◌, ℕ, List, true, length, map, IfO
 ghost use Rattle.std.specs.List.{filter_map};
 ghost use Rattle.macho_model.specs.Links.{Link};
 ghost use Rattle.macho_model.specs.Resolution.{definition_of, defines, entry_at, library_of_input, name_at};
-ghost use Rattle.macho_model.specs.Targets.{target_with, definition_target};
+ghost use Rattle.macho_model.specs.Targets.{definition_target};
+ghost use Rattle.macho_model.specs.Uses.{target_with};
 ghost use Rattle.macho_model.specs.ExportLists.{plain_entries};
 ghost use Rattle.std.specs.Option.{option_copied};
 ghost use Rattle.macho_records.specs.Symbols.{is_global};

@@ -9,13 +9,18 @@ use Rattle.macho_records.specs.declared.constants.TheConstants.{N_ABS}
 use Rattle.macho_model.specs.declared.targets.Target.TheVariants as target
 use Rattle.macho_model.specs.Links.{Link}
 use Rattle.macho_model.specs.Resolution.{SymbolId, Definition, Symbol, Library, ImageBase, entry_at, symbols_of, stands_in_carried}
-use Rattle.macho_model.specs.Resolution.{same_symbol, is_definition, is_strong, is_weak, has_name, strong_of, weak_of, commons_of}
-use Rattle.macho_model.specs.Resolution.{greatest_of, libraries_with, first_or, definition_of, chosen_commons, DSO_HANDLE}
+use Rattle.macho_model.specs.Resolution.{same_symbol, is_definition, has_name, strong_of, commons_of}
+use Rattle.macho_model.specs.steps.Resolved.{is_strong, is_weak, weak_of}
+use Rattle.macho_model.specs.Resolution.{greatest_of, libraries_with, definition_of, chosen_commons}
+use Rattle.macho_model.specs.steps.Resolved.{first_or, DSO_HANDLE}
 use Rattle.macho_model.specs.Targets.{own_target}
 use Rattle.macho_model.specs.Rows.{is_none}
 use Rattle.macho_model.proofs.EachBelow.{and_left, and_right}
 use Rattle.macho_model.proofs.Words.{place_of_symbol}
 use Rattle.macho_lists.proofs.Members.{contains_first, filter_contains}
+use Rattle.macho_model.proofs.Resolved.{definition_is_first}
+use Rattle.macho_model.specs.steps.Resolved.{first_definition}
+use Rattle.std.proofs.Common.{◌∙◌}
 
 -- a symbol leads somewhere
 abbrev pub leads : Link → SymbolId → Bool
@@ -47,9 +52,9 @@ common_leads l t is = by (stands_in_carried l t || has_type N_ABS (entry_at l t)
     by false b e = e
 
 pub defined_leads : (l : Link) (name : List ℕ) (t : SymbolId) → definition_of l name ≡ Some (Symbol t) → leads l t ≡ true
-unfolding definition_of strong_of weak_of greatest_of commons_of
+unfolding first_definition strong_of weak_of greatest_of commons_of
 defined_leads l name t h =
-    elim (among_first (strong_of l name) _ t h) [
+    elim (among_first (strong_of l name) _ t (sym (definition_is_first l name) ∙ h)) [
       | inl strong ↦
           let f = filter_contains (λ (s : SymbolId). is_strong l s && has_name l name s) (symbols_of l) t strong in
           definition_leads l t (and_left (is_definition l t) (not (is_weak_of (entry_at l t)))

@@ -9,7 +9,9 @@ use Rattle.std.specs.Str.{bytes_eq}
 use Rattle.std.proofs.lemmas.Bool.{true≢false}
 use Rattle.macho_model.specs.declared.targets.Target.TheVariants as target
 use Rattle.macho_model.specs.Links.{Link, object_of}
-use Rattle.macho_model.specs.Needs.{uses_of, name_used, is_imported, is_library, imports_of}
+use Rattle.macho_model.specs.Needs.{is_imported, imports_of}
+use Rattle.macho_model.specs.steps.Resolved.{is_library}
+use Rattle.macho_model.specs.Uses.{uses_of, name_used}
 use Rattle.macho_model.specs.Resolution.{Definition, Symbol, Library, ImageBase, definition_of}
 use Rattle.macho_model.specs.Targets.{own_target, target_of_name, definition_target}
 use Rattle.macho_model.specs.Told.{ToldExport, IsToldExport, from_object, from_library}
@@ -29,6 +31,7 @@ use Rattle.macho_tables.proofs.Lists.{map_map, of_distinct}
 use Rattle.macho_tables.proofs.Plain.{symbol_plain}
 use Rattle.macho_tables.proofs.Rising.{Rises, names_rise, told_rise}
 use Rattle.macho_tables.proofs.Imported.{IsImported, imported}
+use Rattle.macho_model.proofs.Uses.{imports_are}
 
 -- an exported name of a link, in one of two ways
 abbrev pub IsExportedName : Link → ExportName → Type 0
@@ -42,9 +45,9 @@ pub record IsToldName (l : Link) (e : ExportName) : Type 0 where
 -- a name of an import leads to its number: a library defines it
 leads_on : (l : Link) (name : List ℕ) → Contains (imports_of l) name
     → target_of_name l name ≡ target.Import (position_or_len (bytes_eq name) (imports_of l))
-unfolding imports_of
 leads_on l name among =
-    let used = of_distinct bytes_eq (filter (is_imported l) (filter_map (name_used l) (uses_of l))) name among in
+    let used = of_distinct bytes_eq (filter (is_imported l) (filter_map (name_used l) (uses_of l))) name
+    (subst (λ (ns : List (List ℕ)). Contains ns name) (imports_are l) among) in
     by (definition_of l name) (filter_contains (is_imported l) (filter_map (name_used l) (uses_of l)) name used).1
   where
     by : (d : Option Definition) → is_library d ≡ true

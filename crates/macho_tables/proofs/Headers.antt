@@ -18,10 +18,10 @@ use Rattle.macho_model.specs.declared.targets.Target.{Target}
 use Rattle.macho_model.specs.Links.{Link}
 use Rattle.macho_model.specs.Targets.{slots_of}
 use Rattle.macho_model.specs.Segments.{TEXT, DATA_CONST, OutputKey, same_key, key_of, output_keys_of}
-use Rattle.macho_model.specs.OutputSections.{OutputSection, Merged, InitOffsets, UnwindInfo, Stubs, Slots, output_sections_in}
-use Rattle.macho_model.specs.OutputSections.{output_sections_of, output_header}
+use Rattle.macho_model.specs.steps.Outputs.{OutputSection, Merged, InitOffsets, UnwindInfo, Stubs, Slots, output_sections_in}
+use Rattle.macho_model.specs.steps.Outputs.{output_sections_of, output_header}
 use Rattle.macho_model.specs.Placement.{Placed}
-use Rattle.macho_model.specs.SymbolEntries.{is_merged}
+use Rattle.macho_model.specs.steps.Outputs.{is_merged}
 use Rattle.macho_placing.specs.Laws.{IsWhollyPlaced}
 use Rattle.macho_layout.proofs.Named.{name_in_field}
 use Rattle.macho_lists.proofs.Members.{all_contains}

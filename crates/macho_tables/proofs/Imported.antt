@@ -7,8 +7,10 @@ use Rattle.std.proofs.lemmas.List.Sums.{passes_at_first}
 use Rattle.std.proofs.lemmas.Slice.Eq.{bytes_eq-Decides}
 use Rattle.std.specs.List.{position_or_len}
 use Rattle.macho_model.specs.Links.{Link}
-use Rattle.macho_model.specs.Needs.{imports_of, import_library, library_file}
-use Rattle.macho_model.specs.Resolution.{Definition, Library, definition_of, library_name}
+use Rattle.macho_model.specs.Needs.{imports_of, import_library}
+use Rattle.macho_model.specs.steps.Resolved.{library_file}
+use Rattle.macho_model.specs.Resolution.{Definition, Library, definition_of}
+use Rattle.macho_model.specs.Resolution.{library_name}
 use Rattle.macho_symbols.specs.declared.solved.Import.{Import}
 use Rattle.macho_symbols.specs.Told.{ImportsAre}
 use Rattle.macho_targets.proofs.Named.{position_below}

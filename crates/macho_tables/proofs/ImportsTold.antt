@@ -3,8 +3,10 @@ use Rattle.std.proofs.Common.{◌≡◌, ℕ, ◌<◌, List, [], ◌∷◌, map,
 use Rattle.std.specs.Prelude.{Option, Some}
 use Rattle.std.proofs.lemmas.List.{ext_get_or, get_or-map, length-map}
 use Rattle.macho_model.specs.Links.{Link}
-use Rattle.macho_model.specs.Needs.{imports_of, import_library, library_file, libraries_needed}
-use Rattle.macho_model.specs.Resolution.{Definition, Library, library_name, definition_of}
+use Rattle.macho_model.specs.Needs.{imports_of, import_library, libraries_needed}
+use Rattle.macho_model.specs.steps.Resolved.{library_file}
+use Rattle.macho_model.specs.Resolution.{Definition, Library, definition_of}
+use Rattle.macho_model.specs.Resolution.{library_name}
 use Rattle.macho_model.specs.Exports.{library_number}
 use Rattle.macho_model.specs.Told.{ToldImport, imports_told}
 use Rattle.macho_symbols.specs.declared.solved.Import.{Import}

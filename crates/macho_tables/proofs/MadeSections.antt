@@ -21,12 +21,16 @@ use Rattle.macho_model.specs.Resolution.{chosen_commons}
 use Rattle.macho_model.specs.Targets.{slots_of, stubs_of}
 use Rattle.macho_model.specs.Segments.{PAGEZERO, TEXT, DATA_CONST, DATA, LINKEDIT, OutputKey, same_key, key_of, common_key, output_keys_of}
 use Rattle.macho_model.specs.Segments.{segment_names_of, other_segments, has_section_in, list_if}
-use Rattle.macho_model.specs.OutputSections.{OutputSection, Merged, InitOffsets, UnwindInfo, Stubs, Slots, Piece, piece, pieces_of}
-use Rattle.macho_model.specs.OutputSections.{extent_of, around, flags_of_key, is_zeros, is_code, merged_in, output_sections_in}
-use Rattle.macho_model.specs.OutputSections.{output_sections_of, output_header, POINTER_EXPONENT}
-use Rattle.macho_model.specs.Order.{row_of, sections_in}
+use Rattle.macho_model.specs.steps.Outputs.{OutputSection, Merged, InitOffsets, UnwindInfo, Stubs, Slots, pieces_of}
+use Rattle.macho_model.specs.Placement.{Piece}
+use Rattle.macho_model.specs.Spans.{piece}
+use Rattle.macho_model.specs.OutputSections.{around, flags_of_key, is_zeros, is_code}
+use Rattle.macho_model.specs.steps.Outputs.{extent_of, merged_in, output_sections_in}
+use Rattle.macho_model.specs.steps.Outputs.{output_sections_of, output_header, POINTER_EXPONENT}
+use Rattle.macho_model.specs.steps.Least.{row_of, sections_in}
 use Rattle.macho_model.proofs.Least.{EndsBefore, rows_in_order, pieces_in_order}
-use Rattle.macho_model.specs.Placement.{Placed, slot_span, range_span}
+use Rattle.macho_model.specs.Placement.{Placed}
+use Rattle.macho_model.specs.Spans.{slot_span, range_span}
 use Rattle.macho_placing.specs.Laws.{IsWhollyPlaced}
 use Rattle.macho_placing.proofs.Names.{name_twice}
 use Rattle.macho_layout.proofs.Named.{name_in_field}
@@ -36,6 +40,7 @@ use Rattle.macho_lists.proofs.Orders.{later_pairs}
 use Rattle.macho_standing.proofs.Members.{one_or_pair}
 use Rattle.macho_standing.proofs.LowByte.{type_is}
 use Rattle.macho_tables.proofs.Lists.{of_distinct}
+use Rattle.macho_model.proofs.Outputs.{least_of}
 
 -- An output section stands in a segment of the placement, with those of the same segment.
 pub record IsOutput (l : Link) (counts : Counts) (p : Placed) (o : OutputSection) : Type 0 where
@@ -65,7 +70,7 @@ ends_before : (l : Link) (counts : Counts) (p : Placed) (s : PlacedSegment) (o m
 unfolding row_of
 ends_before l counts p s o m placed one in_o in_m =
     let pairs = all_contains (λ (t : PlacedSegment). AllPairs EndsBefore (row_of l counts p t (sections_in l counts t))) p.segments s
-    (rows_in_order l counts p placed.least) one in
+    (rows_in_order l counts p (least_of placed.least)) one in
     let behind : AllPairs EndsBefore (map (extent_of l p) (sections_in l counts s)) =
     λ i j d lt within. pairs (suc i) (suc j) d (omega arith) (omega (arith, within)) in
     one_or_pair (λ x y. EndsBefore (extent_of l p x) (extent_of l p y)) (sections_in l counts s) o m (mapped behind) in_o in_m
@@ -184,7 +189,7 @@ unfolding pieces_of
 slots_begin l counts p s rest placed are there =
     let pairs = subst (λ (slots : List Slot). AllPairs EndsBefore (map slot_piece slots)) are
     (all_contains (λ (o : OutputSection). AllPairs EndsBefore (pieces_of l p o)) (output_sections_of l counts) Slots
-    (pieces_in_order l counts p placed.least) there) in
+    (pieces_in_order l counts p (least_of placed.least)) there) in
     let b = subst
     (λ (slots : List Slot). ((around (map slot_piece slots)).start ≡ s.address) × (1 ≤ (around (map slot_piece slots)).size)) (sym are)
     (around_slots s rest pairs) in

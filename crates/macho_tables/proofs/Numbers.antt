@@ -22,10 +22,13 @@ use Rattle.macho_model.specs.Links.{Link, SectionId, header_at, carried_of}
 use Rattle.macho_model.specs.Resolution.{chosen_commons}
 use Rattle.macho_model.specs.Segments.{DATA, OutputKey, same_key, key_of, common_key, output_keys_of, segment_names_of}
 use Rattle.macho_model.specs.Segments.{list_if}
-use Rattle.macho_model.specs.OutputSections.{OutputSection, Merged, output_sections_in, output_sections_of, output_sections_for}
-use Rattle.macho_model.specs.OutputSections.{output_header}
-use Rattle.macho_model.specs.Placement.{Placed, id_of, is_segment_named, SectionLies, LiesInNamed, common_span}
-use Rattle.macho_model.specs.SymbolEntries.{is_merged, section_number}
+use Rattle.macho_model.specs.steps.Outputs.{OutputSection, Merged, output_sections_in, output_sections_of, output_sections_for}
+use Rattle.macho_model.specs.steps.Outputs.{output_header}
+use Rattle.macho_model.specs.Placement.{Placed, id_of, is_segment_named}
+use Rattle.macho_model.specs.steps.Parts.{SectionLies, LiesInNamed}
+use Rattle.macho_model.specs.Spans.{common_span}
+use Rattle.macho_model.specs.SymbolEntries.{section_number}
+use Rattle.macho_model.specs.steps.Outputs.{is_merged}
 use Rattle.macho_placing.specs.Laws.{IsWhollyPlaced}
 use Rattle.macho_lists.proofs.Members.{contains_first, contains_map, map_contains, contains_flat_map, contains_range, all_contains}
 use Rattle.macho_lists.proofs.Members.{contains_all}
@@ -35,6 +38,8 @@ use Rattle.macho_targets.proofs.Named.{position_below}
 use Rattle.macho_tables.specs.steps.Sections.{is_of, number_or_none, number_told}
 use Rattle.macho_tables.proofs.Outputs.{merged_in_segment}
 use Rattle.macho_tables.proofs.Headers.{header_agrees}
+use Rattle.macho_model.proofs.Parts.{in_segment_of}
+use Rattle.macho_model.proofs.Outputs.{headers_same, number_same}
 
 -- the first place of tests that agree
 same_place : {X Y : Type 0} (f : X → Y) (p : Y → Bool) (q : X → Bool) (xs : List X) → All (λ x. p (f x) ≡ q x) xs
@@ -54,7 +59,7 @@ same_place {X} {Y} f p q (x ∷ xs) each =
 headers_are : (l : Link) (counts : Counts) (p : Placed) → IsWhollyPlaced l counts p
     → p.output_sections ≡ map (output_header l p) (output_sections_of l counts)
 unfolding output_sections_for
-headers_are l counts p placed = placed.sections
+headers_are l counts p placed = placed.sections ∙ headers_same l counts p
 
 -- a key whose output section is there
 numbers_agree : (l : Link) (counts : Counts) (p : Placed) (key : OutputKey) → IsWhollyPlaced l counts p
@@ -65,7 +70,7 @@ numbers_agree l counts p key placed there =
     ap (λ (hs : List SectionHeader). number_or_none (position_or_len (is_of p key) hs) (length hs)) headers
     ∙ ap (λ (n : ℕ). number_or_none n (length (map (output_header l p) all))) first
     ∙ ap (number_or_none place) (length-map all (output_header l p))
-    ∙ by (nat_lt place (length all)) (lt-ltb place (length all) below)
+    ∙ by (nat_lt place (length all)) (lt-ltb place (length all) below) ∙ sym (number_same l counts key)
   where
     all : List OutputSection
     all = output_sections_of l counts
@@ -110,7 +115,7 @@ pub section_agrees : (l : Link) (counts : Counts) (p : Placed) (s : SectionId) �
 unfolding output_keys_of
 section_agrees l counts p s placed carried =
     let q = map_contains id_of p.sections s (subst (λ (ids : List SectionId). Contains ids s) (sym placed.order.sections) carried) in
-    let lies = all_contains (SectionLies l p) p.sections q.0 placed.placed.in_segment.sections q.1 in
+    let lies = all_contains (SectionLies l p) p.sections q.0 (in_segment_of placed.placed).sections q.1 in
     let named = name_there l counts p lies.0 (segment_name_of (header_at l s)) placed (q.0.segment, lies.1.0, lies.1.1)
     (subst (λ (t : SectionId). is_segment_named (segment_name_of (header_at l t)) lies.0 ≡ true) q.2 lies.2) in
     numbers_agree l counts p (key_of (header_at l s)) placed
@@ -130,7 +135,7 @@ commons_agree l counts p placed some =
     let c = map_contains (λ (d : PlacedCommon). d.id) p.commons 0
     (subst (λ (ids : List ℕ). Contains ids 0) (sym placed.order.commons) (contains_range (length (chosen_commons l)) 0 some)) in
     let lies = all_contains (λ (d : PlacedCommon). LiesInNamed p DATA false (common_span l d)) p.commons c.0
-    placed.placed.in_segment.commons c.1 in
+    (in_segment_of placed.placed).commons c.1 in
     numbers_agree l counts p common_key placed
     (output_there l counts common_key (name_there l counts p lies.0 DATA placed lies.1 lies.2)
     (in_distinct same_key same_is (map (λ (t : SectionId). key_of (header_at l t)) (carried_of l)

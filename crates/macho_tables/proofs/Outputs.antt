@@ -15,8 +15,9 @@ use Rattle.macho_model.specs.declared.placed.Counts.{Counts}
 use Rattle.macho_model.specs.Links.{Link}
 use Rattle.macho_model.specs.Targets.{slots_of, stubs_of}
 use Rattle.macho_model.specs.Segments.{TEXT, DATA, DATA_CONST, OutputKey, same_key, common_key, output_keys_of, list_if}
-use Rattle.macho_model.specs.OutputSections.{OutputSection, Merged, InitOffsets, UnwindInfo, Stubs, Slots, is_zeros, is_code, merged_in}
-use Rattle.macho_model.specs.OutputSections.{sections_of_text, sections_of_data, sections_of_other, output_sections_in}
+use Rattle.macho_model.specs.OutputSections.{is_zeros, is_code}
+use Rattle.macho_model.specs.steps.Outputs.{OutputSection, Merged, InitOffsets, UnwindInfo, Stubs, Slots, merged_in}
+use Rattle.macho_model.specs.steps.Outputs.{sections_of_text, sections_of_data, sections_of_other, output_sections_in}
 use Rattle.macho_lists.proofs.Members.{contains_map, map_contains, contains_filter, filter_contains, contains_all}
 
 -- What is known of an output section of a segment.

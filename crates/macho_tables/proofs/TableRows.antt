@@ -17,10 +17,12 @@ use Rattle.macho_model.specs.Objects.{num_sections, section_at, symbol_at}
 use Rattle.macho_model.specs.Links.{Link, SectionId, object_of, header_at, sections_of, carried_of, is_carried}
 use Rattle.macho_model.specs.Needs.{imports_of}
 use Rattle.macho_model.specs.Resolution.{SymbolId, Definition, Symbol, Library, ImageBase, entry_at, name_at, symbols_of, stands_in_carried}
-use Rattle.macho_model.specs.Resolution.{section_of_symbol, is_symbol, defines, is_chosen, chosen_commons, definition_of}
-use Rattle.macho_model.specs.Targets.{own_target, target_of, target_with, definition_target}
+use Rattle.macho_model.specs.Resolution.{section_of_symbol, is_symbol, defines, chosen_commons, definition_of}
+use Rattle.macho_model.specs.LinkLaws.{is_chosen}
+use Rattle.macho_model.specs.Targets.{own_target, target_of, definition_target}
+use Rattle.macho_model.specs.Uses.{target_with}
 use Rattle.macho_model.specs.Segments.{key_of, common_key}
-use Rattle.macho_model.specs.SymbolTable.{is_named_definition, is_in_table, table_symbols}
+use Rattle.macho_model.specs.SymbolTable.{table_symbols}
 use Rattle.macho_model.specs.SymbolEntries.{section_number, entry_section}
 use Rattle.macho_model.specs.Placement.{Placed}
 use Rattle.macho_placing.specs.Laws.{IsWhollyPlaced}
@@ -33,6 +35,7 @@ use Rattle.macho_records.specs.declared.header.SectionHeader.{SectionHeader}
 use Rattle.macho_records.specs.Flags.{has_any}
 use Rattle.macho_tables.specs.steps.Sections.{header_with, number_with, number_told, section_told}
 use Rattle.macho_tables.proofs.Numbers.{section_agrees, commons_agree}
+use Rattle.macho_model.specs.steps.SymbolTable.{is_named_definition, is_in_table}
 
 -- What is known of a symbol of the table.
 pub record IsInTable (l : Link) (s : SymbolId) : Type 0 where

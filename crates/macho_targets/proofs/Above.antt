@@ -25,8 +25,11 @@ use Rattle.macho_targets.specs.Laws.{TargetsStandAbove}
 use Rattle.macho_targets.proofs.Places.{section_place, common_place}
 use Rattle.macho_model.specs.Links.{Link, SectionId, section_id, header_at, is_carried, sections_of, carried_of}
 use Rattle.macho_model.specs.Segments.{PAGEZERO, TEXT, DATA, base_of_link, segment_rank}
-use Rattle.macho_model.specs.Placement.{Placed, IsPlaced, IsInOrder, Follows, is_segment_named, SectionLies, LiesInNamed, common_span}
+use Rattle.macho_model.specs.Placement.{Placed, IsPlaced, Follows, is_segment_named}
+use Rattle.macho_model.specs.Spans.{IsInOrder, common_span}
+use Rattle.macho_model.specs.steps.Parts.{SectionLies, LiesInNamed}
 use Rattle.macho_model.specs.Placement.{id_of}
+use Rattle.macho_model.proofs.Parts.{in_order_of, in_segment_of}
 
 -- neighbours by their numbers
 pub next_follows : (l : Link) (segments : List PlacedSegment) (d : PlacedSegment) → EachNext (Follows l) segments → (k : ℕ)
@@ -123,8 +126,8 @@ section_above : (l : Link) (counts : Counts) (p : Placed) (q : PlacedSection) �
     → Contains (carried_of l) (id_of q)
     → p.base ≤ q.address
 section_above l counts p q placed has carried =
-    let lies : SectionLies l p q = all_contains (SectionLies l p) p.sections q placed.in_segment.sections has in
-    let up = segment_above l p q.segment lies.0 placed.in_order placed.base lies.1
+    let lies : SectionLies l p q = all_contains (SectionLies l p) p.sections q (in_segment_of placed).sections has in
+    let up = segment_above l p q.segment lies.0 (in_order_of placed) placed.base lies.1
     (named_differs (segment_name_of (header_at l (id_of q))) PAGEZERO lies.0 lies.2 (carried_elsewhere l (id_of q) carried)) in
     omega (arith, up, lies.3.from)
 
@@ -132,10 +135,10 @@ common_above : (l : Link) (counts : Counts) (p : Placed) (c : PlacedCommon) → 
     → p.base ≤ c.address
 common_above l counts p c placed has =
     let lies : LiesInNamed p DATA false (common_span l c) =
-    all_contains (λ d. LiesInNamed p DATA false (common_span l d)) p.commons c placed.in_segment.commons has in
+    all_contains (λ d. LiesInNamed p DATA false (common_span l d)) p.commons c (in_segment_of placed).commons has in
     let s : PlacedSegment = lies.0 in
     let number : IsNumber p.segments lies.1.0 s = (lies.1.1, lies.1.2) in
-    let up = segment_above l p lies.1.0 s placed.in_order placed.base number (named_differs DATA PAGEZERO s lies.2 refl) in
+    let up = segment_above l p lies.1.0 s (in_order_of placed) placed.base number (named_differs DATA PAGEZERO s lies.2 refl) in
     omega (arith, up, lies.3.from)
 
 -- THE targets stand above the base

@@ -4,7 +4,7 @@
 -- global, with this name. So where it is a common, it is chosen. What a symbol leads to by itself is then the section that it
 -- stands in, or its
 -- number among the chosen commons; what it leads to by its name is that of the definition.
-use Rattle.std.proofs.Common.{◌≡◌, ℕ, ◌<◌, ◌⊎◌, inl, inr, ◌==◌, ◌&&◌, ◌||◌, not, nat_le, Bool, true, false, List, [], ◌∷◌, map, length}
+use Rattle.std.proofs.Common.{◌≡◌, ℕ, ◌<◌, ◌⊎◌, inl, inr, ◌==◌, ◌&&◌, not, nat_le, Bool, true, false, List, [], ◌∷◌, map, length}
 use Rattle.std.proofs.Common.{refl, sym, ap, subst, ◌∙◌, arith, eq-eqb}
 use Rattle.std.specs.Prelude.{Contains, Option, Some, None, if◌then◌else◌}
 use Rattle.std.specs.List.{position_or_len, list_all}
@@ -18,13 +18,19 @@ use Rattle.macho_records.specs.declared.constants.TheConstants.{N_ABS, N_UNDF, N
 use Rattle.macho_records.specs.Flags.{has_any}
 use Rattle.macho_model.specs.Links.{Link}
 use Rattle.macho_model.specs.Resolution.{SymbolId, Definition, Symbol, Library, ImageBase, symbols_of, entry_at, name_at}
-use Rattle.macho_model.specs.Resolution.{stands_in_carried, same_symbol, strong_of, weak_of, commons_of, greatest_of, libraries_with}
-use Rattle.macho_model.specs.Resolution.{first_or, definition_of, is_symbol, is_chosen, chosen_commons, has_name, is_strong, is_weak}
-use Rattle.macho_model.specs.Resolution.{DSO_HANDLE}
-use Rattle.macho_model.specs.Targets.{own_target, definition_target, target_with, is_defined}
+use Rattle.macho_model.specs.Resolution.{stands_in_carried, same_symbol, strong_of, commons_of, greatest_of, libraries_with}
+use Rattle.macho_model.specs.steps.Resolved.{weak_of}
+use Rattle.macho_model.specs.Resolution.{definition_of, is_symbol, chosen_commons, has_name}
+use Rattle.macho_model.specs.steps.Resolved.{first_or, is_strong, is_weak}
+use Rattle.macho_model.specs.LinkLaws.{is_chosen}
+use Rattle.macho_model.specs.steps.Resolved.{DSO_HANDLE}
+use Rattle.macho_model.specs.Targets.{own_target, definition_target, is_defined}
+use Rattle.macho_model.specs.Uses.{target_with}
 use Rattle.macho_targets.specs.Laws.{IsOfLink, SymbolTargetsAreOfLink, NameTargetsAreOfLink}
 use Rattle.macho_model.specs.Grammar.{ObjectsAreRead}
 use Rattle.macho_targets.proofs.OfLink.{carried_symbol}
+use Rattle.macho_model.proofs.Resolved.{definition_is_first}
+use Rattle.macho_model.specs.steps.Resolved.{first_definition}
 
 -- the first of a list of symbols is one of them
 symbol_found : (xs : List SymbolId) (other : Option Definition) (s : SymbolId) → first_or (map Symbol xs) other ≡ Some (Symbol s)
@@ -92,8 +98,8 @@ common_defines l name s has =
 
 -- THE definition of a name, where it is a symbol
 pub defined_by : (l : Link) (name : List ℕ) (s : SymbolId) → definition_of l name ≡ Some (Symbol s) → Defines l name s
-unfolding definition_of
-defined_by l name s e = strong (symbol_found (strong_of l name) _ s e)
+unfolding first_definition
+defined_by l name s e = strong (symbol_found (strong_of l name) _ s (sym (definition_is_first l name) ∙ e))
   where
     image : first_or (map Library (libraries_with l name)) (if bytes_eq name DSO_HANDLE then Some ImageBase else None) ≡ Some (Symbol s)
         → Defines l name s

@@ -22,8 +22,12 @@ use Rattle.macho_model.specs.declared.targets.Target.TheVariants as target
 use Rattle.macho_model.specs.Objects.{num_sections}
 use Rattle.macho_model.specs.Links.{Link, Input, Object, Dylib, Stub, SectionId, section_id, sections_of_file, sections_of, carried_of, header_at}
 use Rattle.macho_model.specs.Links.{is_carried}
-use Rattle.macho_model.specs.Needs.{distinct, uses_of}
-use Rattle.macho_model.specs.Targets.{same_target, slots_of, slot_of_use}
+use Rattle.macho_model.specs.Needs.{distinct}
+use Rattle.macho_model.specs.Uses.{uses_of}
+use Rattle.macho_model.specs.Targets.{same_target, slots_of}
+use Rattle.macho_model.specs.Uses.{slot_of_use}
+use Rattle.macho_model.proofs.Uses.{slots_are}
+use Rattle.std.proofs.Common.{subst}
 
 -- a section stands before another one of the list: in an earlier file, or earlier in the same one
 abbrev pub Before : SectionId → SectionId → Type 0
@@ -135,8 +139,8 @@ same_target_is (target.Absolute value) = eq-eqb value value refl
 same_target_is target.None = refl
 
 pub slots_differ : (l : Link) → EachLater (λ t u. same_target t u ≡ false) (slots_of l)
-unfolding slots_of
-slots_differ l = distinct_later same_target (filter_map (slot_of_use l) (uses_of l))
+slots_differ l =
+    subst (EachLater (λ t u. same_target t u ≡ false)) (sym (slots_are l)) (distinct_later same_target (filter_map (slot_of_use l) (uses_of l)))
 
 -- targets that pass the test are one
 pub same_targets : (t u : Target) → same_target t u ≡ true → t ≡ u

@@ -9,7 +9,8 @@ use Rattle.macho_model.specs.Grammar.{ObjectsAreRead}
 use Rattle.macho_model.specs.Links.{Link, SectionId, section_id, header_at, sections_of, carried_of}
 use Rattle.macho_model.specs.Resolution.{SymbolId, symbols_of, definition_of, chosen_commons}
 use Rattle.macho_model.specs.Needs.{relocation_in}
-use Rattle.macho_model.specs.Targets.{target_with, definition_target, target_of_relocation, is_defined, slots_of}
+use Rattle.macho_model.specs.Targets.{definition_target, target_of_relocation, is_defined, slots_of}
+use Rattle.macho_model.specs.Uses.{target_with}
 use Rattle.macho_model.specs.Placement.{Placed, IsPlaced, id_of}
 use Rattle.macho_model.specs.Addresses.{address_of, slot_address}
 use Rattle.macho_model.specs.Memory.{Choice}

@@ -3,14 +3,15 @@
 -- The plan says of an offset what its entry says, and all bytes that begin with its text say what the plan says. The other way round: where
 -- look-up finds something, some row starts at the offset or before it, so some entry does, and the greatest of these is the
 -- offset's entry; look-up finds it, and finds one thing at most.
-use Rattle.std.proofs.Common.{◌≡◌, ℕ, ◌+◌, ◌<◌, ◌≤◌, List, [], ◌∷◌, length, get_or, None, refl, ap, subst, ◌∙◌, arith}
+use Rattle.std.proofs.Common.{◌≡◌, ℕ, ◌+◌, ◌<◌, ◌≤◌, List, [], ◌∷◌, length, get_or, None, ap, subst, ◌∙◌, arith}
 use Rattle.macho_bytes.specs.Texts.{Stands}
 use Rattle.macho_bytes.proofs.Puts.{stands_by_bytes}
 use Rattle.macho_unwind_pages.specs.declared.entries.ResolvedUnwindInfo.{ResolvedUnwindInfo}
 use Rattle.macho_unwind_pages.specs.Entries.{AreEntries, inputs_of, ids_of, named_ids}
 use Rattle.macho_unwind_pages.specs.declared.paging.Row.{Row}
-use Rattle.macho_unwind_pages.specs.Plans.{PlanList, IsPlan, IsPlanOf}
-use Rattle.macho_unwind.specs.Entries.{found_for, IsEntryOf, BeginsWith, FindsEntries, FindsOnlyEntries, FindsNothing}
+use Rattle.macho_unwind_pages.specs.Plans.{PlanList}
+use Rattle.macho_unwind.specs.Entries.{found_for, IsEntryOf, BeginsWith, FindsEntries, FindsOnlyEntries, FindsNothing, IsSectionOf}
+use Rattle.macho_unwind.specs.Laws.{SectionsAreRead}
 use Rattle.macho_unwind.specs.Texts.{HasPlaces, section_text}
 use Rattle.macho_unwind.proofs.Uniqueness.{finds-unique}
 use Rattle.macho_unwind.proofs.Standing.{section-parts}
@@ -38,10 +39,10 @@ pub record IsWritten (text : ℕ) (entries : List ResolvedUnwindInfo) (section :
   pub places : HasPlaces plan
   pub is : section ≡ section_text plan
 
-pub written : (text : ℕ) (entries : List ResolvedUnwindInfo) (plan : PlanList) → AreEntries text entries → IsPlanOf text entries plan
-    → IsPlan plan → HasPlaces plan → IsWritten text entries (section_text plan)
-written text entries plan are a formed places =
-    record { plan = plan; made = made_of text entries plan are a formed; places = places; is = refl }
+pub written : (text : ℕ) (entries : List ResolvedUnwindInfo) (section : List ℕ) → AreEntries text entries
+    → IsSectionOf text entries section → IsWritten text entries section
+written text entries section are s =
+    record { plan = s.plan; made = made_of text entries s.plan are s.of_entries s.formed; places = s.places; is = s.is }
 
 -- a plan of an entry or more has a page or more
 pub some-page : (text : ℕ) (entries : List ResolvedUnwindInfo) (plan : PlanList) → IsMadeOf text entries plan
@@ -85,6 +86,12 @@ finds-only-entries text entries section are s bytes begins offset x finds =
       of_offset = of;
       is = finds-unique bytes offset x (found_for text top.item) finds (finds-entries text entries section are s bytes begins offset top.item of);
     }
+
+-- THE law
+pub sections_are_read : SectionsAreRead
+sections_are_read text entries section are s =
+    let w = written text entries section are s in
+    (finds-entries text entries section are w, finds-only-entries text entries section are w)
 
 -- no bytes say anything
 pub nothing-finds : (bytes : List ℕ) → bytes ≡ [] → FindsNothing bytes

@@ -17,16 +17,18 @@ use Rattle.macho_unwind_pages.specs.declared.entries.Personality.{Personality}
 use Rattle.macho_unwind_pages.specs.declared.plans.Lsda.{Lsda}
 use Rattle.macho_unwind_pages.specs.Entries.{AreEntries, inputs_of, ids_of, place_in, number_in, IsLast}
 use Rattle.macho_unwind_pages.specs.declared.paging.Row.{Row}
-use Rattle.macho_unwind_pages.specs.Plans.{PlanList, IsPlan, IsPlanOf, row_from, HasSlot}
+use Rattle.macho_unwind_pages.specs.Plans.{PlanList, IsPlan, IsPlanOf}
 use Rattle.macho_unwind_pages.specs.steps.Words.{rows_of}
 use Rattle.macho_unwind_pages.specs.steps.Planning.{lsda_at, lsda_list}
 use Rattle.macho_unwind_pages.proofs.Divided.{rows_are}
 use Rattle.macho_unwind_pages.proofs.Planned.{lsdas_told}
-use Rattle.macho_unwind.specs.Sections.{personality_in, without_personality}
+use Rattle.macho_unwind.specs.Sections.{personality_in}
 use Rattle.macho_unwind.specs.steps.Says.{NamesSlot, IsLsdaOf, PlanSays}
 use Rattle.macho_unwind.specs.Entries.{found_for, IsEntryOf}
 use Rattle.macho_unwind.proofs.Members.{found_in, found_from}
 use Rattle.macho_unwind.proofs.Greatest.{top-of}
+use Rattle.macho_unwind_pages.specs.steps.Plans.{row_from, HasSlot}
+use Rattle.macho_unwind.specs.steps.Sections.{without_personality}
 
 -- A plan of entries that can be written, by the functions that its words tell.
 pub record IsMadeOf (text : ℕ) (entries : List ResolvedUnwindInfo) (plan : PlanList) : Type 0 where

@@ -9,43 +9,44 @@ use Rattle.std.proofs.lemmas.List.Sums.{sum_by-cons}
 use Rattle.macho_bytes.proofs.Tables.{length-table}
 use Rattle.std.proofs.lemmas.List.{length-append}
 use Rattle.macho_bytes.specs.Numbers.{little, row_bytes}
-use Rattle.macho_bytes.specs.Layouts.{spelling}
 use Rattle.macho_bytes.proofs.Numbers.{little_is_sound, length-row_little}
 use Rattle.macho_bytes.proofs.Layouts.{length-spelling}
 use Rattle.macho_unwind_pages.specs.declared.plans.Lsda.{Lsda}
 use Rattle.macho_unwind_pages.specs.Plans.{PageList, PlanList, page_size, size_of}
-use Rattle.macho_unwind.specs.Layouts.{compact_unwind_info_header, page_entry, compressed_page, lsda_entry}
-use Rattle.macho_unwind.specs.Texts.{header_for, entry_for, last_entry_for, lsda_for, head_for, page_text, section_text}
+use Rattle.macho_unwind.specs.Texts.{page_text, section_text}
 use Rattle.macho_unwind.specs.steps.Tables.{entry_text, lsda_text}
+use Rattle.macho_bytes.specs.Spellings.{spelling}
+use Rattle.macho_unwind.specs.Spellings.{compact_unwind_info_header_rows, page_entry_rows, compressed_page_rows, lsda_entry_rows}
+use Rattle.macho_unwind.specs.steps.Records.{header_for, entry_for, last_entry_for, lsda_for, head_for}
 
 -- the header has 28 bytes
-pub length-header_text : (plan : PlanList) → length (spelling compact_unwind_info_header (header_for plan)) ≡ 28
-length-header_text plan = length-spelling compact_unwind_info_header (header_for plan) little_is_sound (refl, tt)
+pub length-header_text : (plan : PlanList) → length (spelling compact_unwind_info_header_rows (header_for plan)) ≡ 28
+length-header_text plan = length-spelling compact_unwind_info_header_rows (header_for plan) little_is_sound (refl, tt)
 
 -- the entry of a page has 12 bytes
 pub length-entry_text : (plan : PlanList) (k : ℕ) → length (entry_text plan k) ≡ 12
-length-entry_text plan k = length-spelling page_entry (entry_for plan k) little_is_sound (refl, tt)
+length-entry_text plan k = length-spelling page_entry_rows (entry_for plan k) little_is_sound (refl, tt)
 
 -- the last entry has 12 bytes
-pub length-last_entry_text : (plan : PlanList) → length (spelling page_entry (last_entry_for plan)) ≡ 12
-length-last_entry_text plan = length-spelling page_entry (last_entry_for plan) little_is_sound (refl, tt)
+pub length-last_entry_text : (plan : PlanList) → length (spelling page_entry_rows (last_entry_for plan)) ≡ 12
+length-last_entry_text plan = length-spelling page_entry_rows (last_entry_for plan) little_is_sound (refl, tt)
 
 -- an LSDA entry has 8 bytes
 pub length-lsda_text : (l : Lsda) → length (lsda_text l) ≡ 8
-length-lsda_text l = length-spelling lsda_entry (lsda_for l) little_is_sound (refl, tt)
+length-lsda_text l = length-spelling lsda_entry_rows (lsda_for l) little_is_sound (refl, tt)
 
 -- the head of a page has 12 bytes
-pub length-head_text : (page : PageList) → length (spelling compressed_page (head_for page)) ≡ 12
-length-head_text page = length-spelling compressed_page (head_for page) little_is_sound (refl, (refl, tt))
+pub length-head_text : (page : PageList) → length (spelling compressed_page_rows (head_for page)) ≡ 12
+length-head_text page = length-spelling compressed_page_rows (head_for page) little_is_sound (refl, (refl, tt))
 
 -- a page's text is as long as its size says
 pub length-page_text : (page : PageList) → length (page_text page) ≡ page_size page
-unfolding page_text
+unfolding page_text spelling
 length-page_text page =
     let words = length-row_little 4 page.words in
     let locals = length-row_little 4 page.locals in
-    let front = length-append (spelling compressed_page (head_for page)) (row_bytes little 4 page.words) in
-    let whole = length-append (spelling compressed_page (head_for page) ++ row_bytes little 4 page.words)
+    let front = length-append (spelling compressed_page_rows (head_for page)) (row_bytes little 4 page.words) in
+    let whole = length-append (spelling compressed_page_rows (head_for page) ++ row_bytes little 4 page.words)
     (row_bytes little 4 page.locals) in
     omega (arith, words, locals, front, whole, length-head_text page)
 
@@ -74,13 +75,13 @@ length-pages (p ∷ pages) =
 
 -- the section has the bytes that its plan says
 pub length-section : (plan : PlanList) → length (section_text plan) ≡ size_of plan
-unfolding section_text
+unfolding section_text spelling
 length-section plan =
-    let a = spelling compact_unwind_info_header (header_for plan) in
+    let a = spelling compact_unwind_info_header_rows (header_for plan) in
     let b = row_bytes little 4 plan.globals in
     let c = row_bytes little 4 plan.personalities in
     let d = flat_map (entry_text plan) (range_with_len 0 (length plan.pages)) in
-    let e = spelling page_entry (last_entry_for plan) in
+    let e = spelling page_entry_rows (last_entry_for plan) in
     let f = flat_map lsda_text plan.lsdas in
     let g = flat_map page_text plan.pages in
     let long_a = length-header_text plan in

@@ -15,13 +15,15 @@ use Rattle.macho_unwind.specs.declared.records.PageEntry.{PageEntry}
 use Rattle.macho_unwind.specs.declared.records.CompressedPage.{CompressedPage}
 use Rattle.macho_unwind.specs.Layouts.{lsda_entry}
 use Rattle.macho_unwind.specs.Sections.{entry_at, page_at, lsda_count, lsda_at, IsWholePage}
-use Rattle.macho_unwind.specs.Texts.{HasPlaces, lsdas_place, page_of, entry_for, lsda_for, head_for}
+use Rattle.macho_unwind.specs.Texts.{HasPlaces, lsdas_place, page_of}
 use Rattle.macho_unwind.specs.steps.Tables.{lsda_place, lsda_text}
 use Rattle.macho_unwind.proofs.Lengths.{length-lsda_text}
 use Rattle.macho_unwind.proofs.Counting.{count-rising}
 use Rattle.macho_unwind.proofs.Standing.{PlanStands}
 use Rattle.macho_unwind.proofs.Readback.{lsda_place-within, entry-read, last-read, head-read, page-here}
 use Rattle.macho_unwind.specs.steps.Parts.{HasPage}
+use Rattle.macho_unwind.specs.Spellings.{lsda_entry_rows}
+use Rattle.macho_unwind.specs.steps.Records.{entry_for, lsda_for, head_for}
 
 -- an item that isn't there
 abbrev pub no_lsda : Lsda
@@ -111,7 +113,7 @@ lsda-read bytes plan k from to j formed s range lt =
     let fits = formed.lsdas (from + j) no_lsda lt in
     let place : (entry_at bytes k).lsda_index_offset + 8 * j ≡ lsdas_place plan + 8 * (from + j) = omega (arith, range.begins) in
     ap (λ (at : ℕ). reading lsda_entry bytes at) place
-    ∙ reading-stands_little lsda_entry (lsda_for (get_or plan.lsdas (from + j) no_lsda)) bytes (lsdas_place plan + 8 * (from + j)) refl
+    ∙ reading-stands_little lsda_entry_rows (lsda_for (get_or plan.lsdas (from + j) no_lsda)) bytes (lsdas_place plan + 8 * (from + j)) refl
     (((fits.0, (fits.1, tt)), refl), tt) refl
     (table-stands lsda_text 8 plan.lsdas (lsdas_place plan) (from + j) no_lsda bytes
     (record { long = λ i d h. length-lsda_text (get_or plan.lsdas i d) }) lt s.lsdas)

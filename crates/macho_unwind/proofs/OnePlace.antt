@@ -14,14 +14,16 @@ use Rattle.macho_unwind_pages.specs.declared.paging.Row.{Row}
 use Rattle.macho_unwind_pages.specs.Entries.{inputs_of, ids_of, codes_of}
 use Rattle.macho_unwind_pages.specs.steps.Ranks.{ranked}
 use Rattle.macho_unwind_pages.specs.Bounds.{MOST_GLOBALS}
-use Rattle.macho_unwind_pages.specs.Plans.{PageList, PlanList, IsPlanOf, page_for, page_size, row_from, lsda_from}
+use Rattle.macho_unwind_pages.specs.Plans.{PageList, PlanList, IsPlanOf, page_for, page_size}
 use Rattle.macho_unwind_pages.proofs.OneDivision.{IsUsed, all}
 use Rattle.macho_unwind_pages.proofs.OnePlan.{plans_are_one}
 use Rattle.macho_unwind_pages.proofs.PlansShort.{plans_short}
-use Rattle.macho_unwind.specs.Texts.{HasPlaces, last_place}
+use Rattle.macho_unwind.specs.Texts.{HasPlaces}
 use Rattle.macho_unwind.specs.Entries.{IsSectionOf, HasFarPage}
 use Rattle.macho_unwind.specs.Laws.{FarPageNeedsRoom}
 use Rattle.macho_unwind.proofs.EntryLookup.{no-ids}
+use Rattle.macho_unwind_pages.specs.steps.Plans.{row_from, lsda_from}
+use Rattle.macho_unwind.specs.steps.Texts.{last_place}
 
 -- it is the section of no other plan
 pub section_plan : (text : ℕ) (entries : List ResolvedUnwindInfo) (bytes : List ℕ) → 0 < length entries

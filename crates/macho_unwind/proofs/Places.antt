@@ -11,7 +11,8 @@ use Rattle.macho_unwind_pages.specs.declared.plans.Page.{Page}
 use Rattle.macho_unwind_pages.specs.declared.plans.Plan.{Plan}
 use Rattle.macho_unwind_pages.specs.Plans.{PageList, PlanList, IsPlan, IsPage, plan_list, page_list, page_size}
 use Rattle.macho_unwind.specs.declared.records.PageEntry.{PageEntry}
-use Rattle.macho_unwind.specs.Texts.{page_place, lsdas_place, page_of, entry_for, page_text}
+use Rattle.macho_unwind.specs.Texts.{page_place, lsdas_place, page_of, page_text}
+use Rattle.macho_unwind.specs.steps.Records.{entry_for}
 
 -- an entry by its numbers
 abbrev pub entry_of : ℕ → ℕ → ℕ → PageEntry

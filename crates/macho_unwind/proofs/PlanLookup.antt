@@ -18,15 +18,17 @@ use Rattle.macho_unwind.specs.declared.records.PageEntry.{PageEntry}
 use Rattle.macho_unwind.specs.declared.records.CompressedPage.{CompressedPage}
 use Rattle.macho_unwind.specs.declared.records.LsdaEntry.{LsdaEntry}
 use Rattle.macho_unwind.specs.declared.lookup.Found.{Found}
-use Rattle.macho_unwind.specs.Sections.{last_entry, first_at, page_at, word_at, start_at, offset_in, index_in, encoding_at, personality_in, lsda_count, lsda_at}
+use Rattle.macho_unwind.specs.Sections.{last_entry, first_at, page_at, word_at, start_at, encoding_at, personality_in, lsda_count, lsda_at}
 use Rattle.macho_unwind.specs.Lookup.{IsGreatestUpTo, IsLsda, HasLsda, UnwindFinds}
-use Rattle.macho_unwind.specs.Texts.{HasPlaces, page_of, lsda_for}
+use Rattle.macho_unwind.specs.Texts.{HasPlaces, page_of}
 use Rattle.macho_unwind.specs.steps.Says.{NamesSlot, IsLsdaOf, PlanSays}
 use Rattle.macho_unwind.proofs.Standing.{PlanStands}
 use Rattle.macho_unwind.proofs.Readback.{formed_at, header-read, entry-read, last-read, head-read, word-read, encoding-read, personality-read, tables-read}
 use Rattle.macho_unwind.proofs.LsdaReadback.{no_lsda, HasRange, range-of, lsda-read, page-whole}
 use Rattle.macho_unwind.proofs.PlanRows.{row_for, start_of, word_of, row_there, row_in, at_row, words_rise, pages_rise, first_start, firsts_rise}
 use Rattle.macho_unwind.specs.steps.Parts.{IsFunctionOf, NamesPersonality}
+use Rattle.macho_unwind.specs.steps.Records.{lsda_for}
+use Rattle.macho_unwind.specs.steps.Sections.{index_in, offset_in}
 
 -- A plan whose bytes are given, and what is known of it.
 pub record IsGiven (bytes : List ℕ) (plan : PlanList) : Type 0 where

@@ -8,10 +8,10 @@ use Rattle.std.proofs.lemmas.List.{get_or-map, length-map}
 use Rattle.macho_unwind_pages.specs.declared.paging.Row.{Row}
 use Rattle.macho_unwind_pages.specs.Plans.{PageList, PlanList, IsPlan}
 use Rattle.macho_unwind_pages.specs.steps.Words.{row_of, page_rows, rows_of}
-use Rattle.macho_unwind.specs.Sections.{offset_in}
 use Rattle.macho_unwind.specs.Texts.{page_of}
 use Rattle.macho_unwind.proofs.Members.{found_in, found_from}
 use Rattle.macho_unwind.proofs.Readback.{formed_at}
+use Rattle.macho_unwind.specs.steps.Sections.{offset_in}
 
 -- an item past the end
 abbrev pub no_page : PageList

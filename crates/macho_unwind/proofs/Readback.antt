@@ -21,13 +21,15 @@ use Rattle.macho_unwind_pages.proofs.Implied.{word_fits}
 use Rattle.macho_unwind.specs.declared.records.CompactUnwindInfoHeader.{CompactUnwindInfoHeader}
 use Rattle.macho_unwind.specs.declared.records.PageEntry.{PageEntry}
 use Rattle.macho_unwind.specs.declared.records.CompressedPage.{CompressedPage}
-use Rattle.macho_unwind.specs.Layouts.{compact_unwind_info_header, page_entry, compressed_page}
+use Rattle.macho_unwind.specs.Layouts.{page_entry, compressed_page}
 use Rattle.macho_unwind.specs.Sections.{header_of, entry_at, page_at, word_at, encoding_at, personality_at, HasTables}
-use Rattle.macho_unwind.specs.Texts.{HasPlaces, header_for, personalities_place, entries_place, pages_place, page_place, page_of, entry_for, last_entry_for, head_for}
+use Rattle.macho_unwind.specs.Texts.{HasPlaces, personalities_place, entries_place, pages_place, page_place, page_of}
 use Rattle.macho_unwind.specs.steps.Tables.{lsda_place, entry_text}
 use Rattle.macho_unwind.proofs.Lengths.{length-entry_text}
 use Rattle.macho_unwind.proofs.Places.{place-grows}
 use Rattle.macho_unwind.proofs.Standing.{PlanStands, PageStands, word-stands, page-stands, page-parts}
+use Rattle.macho_unwind.specs.Spellings.{compact_unwind_info_header_rows, page_entry_rows, compressed_page_rows}
+use Rattle.macho_unwind.specs.steps.Records.{header_for, entry_for, last_entry_for, head_for}
 
 -- a page of a plan
 pub formed_at : (plan : PlanList) (k : ℕ) → IsPlan plan → k < length plan.pages → IsPage plan.globals (page_of plan k)
@@ -48,7 +50,7 @@ lsda_place-within plan start = omega (arith, count_by-le-length (λ (l : Lsda). 
 pub header-read : (bytes : List ℕ) (plan : PlanList) → HasPlaces plan → PlanStands bytes plan → header_of bytes ≡ header_for plan
 header-read bytes plan places s =
     let fits = tables-fit plan places in
-    reading-stands_little compact_unwind_info_header (header_for plan) bytes 0 refl
+    reading-stands_little compact_unwind_info_header_rows (header_for plan) bytes 0 refl
     (((omega arith, (omega arith, (omega arith, (omega arith, (omega arith, (omega arith, (omega arith, tt))))))), refl), tt) refl s.header
 
 -- what is read at a place of the page entries
@@ -72,7 +74,7 @@ entry-read bytes plan k formed places s lt =
     let lsda = lsda_place-within plan (page_of plan k).first in
     let start = (formed_at plan k formed lt).start in
     entry-place bytes plan k (header-read bytes plan places s)
-    ∙ reading-stands_little page_entry (entry_for plan k) bytes (entries_place plan + 12 * k) refl
+    ∙ reading-stands_little page_entry_rows (entry_for plan k) bytes (entries_place plan + 12 * k) refl
     (((omega arith, (omega arith, (omega arith, tt))), refl), tt) refl here
 
 -- the last entry is read back, behind those of the pages
@@ -81,7 +83,7 @@ pub last-read : (bytes : List ℕ) (plan : PlanList) → IsPlan plan → HasPlac
 last-read bytes plan formed places s =
     let fits = tables-fit plan places in
     entry-place bytes plan (length plan.pages) (header-read bytes plan places s)
-    ∙ reading-stands_little page_entry (last_entry_for plan) bytes (entries_place plan + 12 * length plan.pages) refl
+    ∙ reading-stands_little page_entry_rows (last_entry_for plan) bytes (entries_place plan + 12 * length plan.pages) refl
     (((omega (arith, formed.end), (omega arith, (omega arith, tt))), refl), tt) refl s.last
 
 -- the parts of a page
@@ -98,7 +100,7 @@ unfolding page_at
 head-read bytes plan k formed places s lt =
     let room = (formed_at plan k formed lt).room in
     ap (λ (e : PageEntry). reading compressed_page bytes e.page_offset) (entry-read bytes plan k formed places s lt)
-    ∙ reading-stands_little compressed_page (head_for (page_of plan k)) bytes (page_place plan k) refl
+    ∙ reading-stands_little compressed_page_rows (head_for (page_of plan k)) bytes (page_place plan k) refl
     (((omega arith, tt), refl), (((omega arith, (omega arith, (omega arith, (omega arith, tt)))), refl), tt)) refl
     (page-here bytes plan k s lt).head
 

@@ -2,13 +2,15 @@
 -- length and the page entries of a section of two pages.
 use Rattle.std.proofs.Common.{◌≡◌, ℕ, zero, suc, ◌<◌, ◌≤◌, List, [], ◌∷◌, length, replicate, None, refl, arith}
 use Rattle.macho_bytes.specs.Numbers.{le_at, le_bytes, row_bytes}
-use Rattle.macho_bytes.specs.Layouts.{reading, spelling}
+use Rattle.macho_bytes.specs.Layouts.{reading}
 use Rattle.macho_unwind_pages.specs.Plans.{PlanList}
 use Rattle.macho_unwind.specs.declared.lookup.Found.{Found}
 use Rattle.macho_unwind.specs.Sections.{last_entry, entry_at, first_at, page_at, word_at, start_at, encoding_at, HasTables, IsWholePage}
 use Rattle.macho_unwind.specs.Lookup.{IsGreatestUpTo, UnwindFinds}
-use Rattle.macho_unwind.specs.Texts.{page_text, section_text, page_place, last_place}
+use Rattle.macho_unwind.specs.Texts.{page_text, section_text, page_place}
 use Rattle.macho_unwind.specs.steps.Tables.{lsda_place}
+use Rattle.macho_bytes.specs.Spellings.{spelling}
+use Rattle.macho_unwind.specs.steps.Texts.{last_place}
 
 -- a function at 0x1000 of 0x20 bytes with encoding 0x02000000 (no frame)
 abbrev one_plan : PlanList

@@ -8,14 +8,15 @@ use Rattle.std.proofs.lemmas.List.{length-append}
 use Rattle.std.proofs.lemmas.List.Sums.{sum_by-cons}
 use Rattle.macho_bytes.specs.Numbers.{little, row_bytes, le_at, le_bytes}
 use Rattle.macho_bytes.specs.Texts.{Stands}
-use Rattle.macho_bytes.specs.Layouts.{spelling}
 use Rattle.macho_bytes.proofs.Numbers.{little_is_sound, number-stands, stands-front, stands-back, length-row_little}
 use Rattle.macho_bytes.proofs.Tables.{table-stands}
 use Rattle.macho_unwind_pages.specs.Plans.{PageList, PlanList, page_size, size_of}
-use Rattle.macho_unwind.specs.Layouts.{compact_unwind_info_header, page_entry, compressed_page}
-use Rattle.macho_unwind.specs.Texts.{header_for, personalities_place, entries_place, lsdas_place, pages_place, last_entry_for, head_for, page_text, section_text}
+use Rattle.macho_unwind.specs.Texts.{personalities_place, entries_place, lsdas_place, pages_place, page_text, section_text}
 use Rattle.macho_unwind.specs.steps.Tables.{entry_text, lsda_text}
 use Rattle.macho_unwind.proofs.Lengths.{length-header_text, length-entries, length-last_entry_text, length-lsdas, length-pages, length-head_text, length-page_text}
+use Rattle.macho_bytes.specs.Spellings.{spelling}
+use Rattle.macho_unwind.specs.Spellings.{compact_unwind_info_header_rows, page_entry_rows, compressed_page_rows}
+use Rattle.macho_unwind.specs.steps.Records.{header_for, last_entry_for, head_for}
 
 -- number k of a row of words that stands
 pub word-stands : (ns bytes : List ℕ) (at k : ℕ) → k < length ns → slice_index ns k < 2 ^ 32
@@ -41,7 +42,7 @@ page-stands (p ∷ pages) bytes at (suc k) d lt s =
 
 -- The parts of a page, each where it stands.
 pub record PageStands (bytes : List ℕ) (at : ℕ) (page : PageList) : Type 0 where
-  pub head : Stands bytes (record { at = at; text = spelling compressed_page (head_for page) })
+  pub head : Stands bytes (record { at = at; text = spelling compressed_page_rows (head_for page) })
   pub words : Stands bytes (record { at = at + 12; text = row_bytes little 4 page.words })
   pub locals : Stands bytes (record { at = at + (12 + 4 * length page.words); text = row_bytes little 4 page.locals })
   pub whole : at + page_size page ≤ length bytes
@@ -49,9 +50,9 @@ pub record PageStands (bytes : List ℕ) (at : ℕ) (page : PageList) : Type 0 w
 -- where a page's text stands, each part of the page stands at its place
 pub page-parts : (bytes : List ℕ) (at : ℕ) (page : PageList) → Stands bytes (record { at = at; text = page_text page })
     → PageStands bytes at page
-unfolding page_text
+unfolding page_text spelling
 page-parts bytes at page s =
-    let head = spelling compressed_page (head_for page) in
+    let head = spelling compressed_page_rows (head_for page) in
     let words = row_bytes little 4 page.words in
     let locals = row_bytes little 4 page.locals in
     let front = stands-front bytes at (head ++ words) locals s in record {
@@ -64,24 +65,24 @@ page-parts bytes at page s =
 
 -- The parts of a section, each where it stands.
 pub record PlanStands (bytes : List ℕ) (plan : PlanList) : Type 0 where
-  pub header : Stands bytes (record { at = 0; text = spelling compact_unwind_info_header (header_for plan) })
+  pub header : Stands bytes (record { at = 0; text = spelling compact_unwind_info_header_rows (header_for plan) })
   pub globals : Stands bytes (record { at = 28; text = row_bytes little 4 plan.globals })
   pub personalities : Stands bytes (record { at = personalities_place plan; text = row_bytes little 4 plan.personalities })
   pub entries : Stands bytes (record { at = entries_place plan; text = flat_map (entry_text plan) (range_with_len 0 (length plan.pages)) })
-  pub last : Stands bytes (record { at = entries_place plan + 12 * length plan.pages; text = spelling page_entry (last_entry_for plan) })
+  pub last : Stands bytes (record { at = entries_place plan + 12 * length plan.pages; text = spelling page_entry_rows (last_entry_for plan) })
   pub lsdas : Stands bytes (record { at = lsdas_place plan; text = flat_map lsda_text plan.lsdas })
   pub pages : Stands bytes (record { at = pages_place plan; text = flat_map page_text plan.pages })
   pub whole : size_of plan ≤ length bytes
 
 -- where the text of a section stands at 0, each part of the section stands at its place
 pub section-parts : (bytes : List ℕ) (plan : PlanList) → Stands bytes (record { at = 0; text = section_text plan }) → PlanStands bytes plan
-unfolding section_text
+unfolding section_text spelling
 section-parts bytes plan s =
-    let a = spelling compact_unwind_info_header (header_for plan) in
+    let a = spelling compact_unwind_info_header_rows (header_for plan) in
     let b = row_bytes little 4 plan.globals in
     let c = row_bytes little 4 plan.personalities in
     let d = flat_map (entry_text plan) (range_with_len 0 (length plan.pages)) in
-    let e = spelling page_entry (last_entry_for plan) in
+    let e = spelling page_entry_rows (last_entry_for plan) in
     let f = flat_map lsda_text plan.lsdas in
     let g = flat_map page_text plan.pages in
     let long_a = length-header_text plan in

@@ -6,10 +6,11 @@
 -- the other.
 use Rattle.std.proofs.Common.{◌≡◌, ℕ, List, Option, Some, None, sym, ap, subst, ◌∙◌, refl, arith, inl, inr}
 use Rattle.std.proofs.lemmas.Bool.{cases_lt}
-use Rattle.macho_unwind.specs.Sections.{first_at, page_at, word_at, start_at, index_in, encoding_at, personality_in, without_personality, lsda_at}
+use Rattle.macho_unwind.specs.Sections.{first_at, page_at, word_at, start_at, encoding_at, personality_in, lsda_at}
 use Rattle.macho_unwind.specs.Lookup.{IsGreatestUpTo, IsLsda, HasLsda, UnwindFinds}
 use Rattle.macho_unwind.specs.declared.lookup.Found.{Found}
 use Rattle.macho_unwind.specs.steps.Parts.{IsFunctionOf, NamesPersonality}
+use Rattle.macho_unwind.specs.steps.Sections.{index_in, without_personality}
 
 pub greatest-unique : (limit count : ℕ) (f : ℕ → ℕ) (i j : ℕ) → IsGreatestUpTo limit count f i → IsGreatestUpTo limit count f j → i ≡ j
 greatest-unique limit count f i j p q =

@@ -6,10 +6,10 @@ use Rattle.macho_unwind_pages.specs.declared.entries.UnwindFault.{UnwindFault}
 use Rattle.macho_unwind_pages.specs.declared.entries.UnwindFault.TheVariants.{TooManyPersonalities, OffsetTooLarge, OutOfMemory}
 use Rattle.macho_unwind_pages.specs.Entries.{MOST_PERSONALITIES, inputs_of, ids_of, IsLast, SpansAtMost}
 use Rattle.macho_unwind_pages.specs.Bounds.{unwind_bound_of}
-use Rattle.macho_unwind_pages.specs.Plans.{PlanList, IsPlanOf, HasFarOffset}
+use Rattle.macho_unwind_pages.specs.Plans.{PlanList, IsPlan, IsPlanOf, HasFarOffset}
 use Rattle.macho_unwind_pages.specs.Calls.{HasTooMany}
 use Rattle.macho_unwind.specs.Lookup.{UnwindFinds}
-use Rattle.macho_unwind.specs.Texts.{last_place, section_text}
+use Rattle.macho_unwind.specs.Texts.{HasPlaces, section_text, page_place}
 use Rattle.macho_unwind.specs.declared.lookup.Found.{Found}
 
 -- what is to be found of an entry: its encoding, and its addresses less the text's start
@@ -59,18 +59,20 @@ abbrev pub FitsTheBound : List ResolvedUnwindInfo → List ℕ → Type 0
 FitsTheBound entries bytes =
     (span : ℕ) → SpansAtMost span entries → length bytes ≤ unwind_bound_of (inputs_of entries) span
 
--- The bytes are those of a plan of the entries, of which one entry or more have only one (`PlansAreOne`). That no number is cut to 32
--- bits is said elsewhere: of a call by its clauses `few`, `near` and `fits`, of an image by `NoneStands`.
+-- The bytes are those of a plan of the entries, of which one entry or more have only one (`PlansAreOne`). No number of it is cut to 32
+-- bits, so look-up finds what the entries say (`SectionsAreRead`).
 pub record IsSectionOf (text : ℕ) (entries : List ResolvedUnwindInfo) (bytes : List ℕ) : Type 0 where
   pub plan : PlanList
   pub of_entries : IsPlanOf text entries plan
+  pub formed : IsPlan plan
+  pub places : HasPlaces plan
   pub is : bytes ≡ section_text plan
 
 -- The last page of a plan of the entries has no place of 32 bits.
 pub record HasFarPage (text : ℕ) (entries : List ResolvedUnwindInfo) : Type 0 where
   pub plan : PlanList
   pub of_entries : IsPlanOf text entries plan
-  pub far : 2 ^ 32 ≤ last_place plan
+  pub far : 2 ^ 32 ≤ page_place plan (length plan.pages - 1)
 
 -- Why entries have no section: too many personality functions, or else an offset that doesn't fit 32 bits, from the
 -- start of the text or of a page from the start of the section.

@@ -1,4 +1,5 @@
 pub mod Layouts
+pub mod Spellings
 pub mod Sections
 pub mod Lookup
 pub mod Texts

@@ -1,6 +1,6 @@
 -- Look-up of an offset in the bytes of a section `__unwind_info` (mach-o/compact_unwind_encoding.h).
-use Rattle.std.specs.Prelude.{◌≡◌, ◌≢◌, ℕ, ◌≤◌, ◌<◌, List, Option, Some, None, MatchOption}
-use Rattle.macho_unwind.specs.Sections.{header_of, last_entry, entry_at, first_at, page_at, word_at, start_at, index_in, encoding_at, personality_in, without_personality, personality_at, lsda_count, lsda_at, HasTables, IsWholePage}
+use Rattle.std.specs.Prelude.{◌≡◌, ◌≢◌, ℕ, ◌≤◌, ◌<◌, List, Option, Some, None, MatchOption, ◌/◌, ◌^◌, ◌*◌, ◌-◌}
+use Rattle.macho_unwind.specs.Sections.{header_of, last_entry, entry_at, first_at, page_at, word_at, start_at, encoding_at, personality_in, personality_at, lsda_count, lsda_at, HasTables, IsWholePage}
 use Rattle.macho_unwind.specs.declared.lookup.Found.{Found}
 
 -- Number k of so many numbers is the greatest that is not above a limit; among equal ones it is the last.
@@ -47,7 +47,8 @@ pub record UnwindFinds (bytes : List ℕ) (offset : ℕ) (x : Found) : Type 0 wh
   pub whole : IsWholePage bytes (entry_at bytes page) (page_at bytes page) (lsda_count bytes page)
   pub function_of : IsGreatestUpTo offset (page_at bytes page).functions_len (start_at bytes page) function
   pub start : x.start ≡ start_at bytes page function
-  pub encoded : encoding_at bytes page (index_in (word_at bytes page function)) ≡ Some encoding
-  pub cleared : x.encoding ≡ without_personality encoding
+  -- the high 8 bits of its word are the number of its encoding
+  pub encoded : encoding_at bytes page (word_at bytes page function / 2 ^ 24) ≡ Some encoding
+  pub cleared : x.encoding ≡ encoding - 2 ^ 28 * personality_in encoding
   pub personality : MatchOption x.personality (personality_in encoding ≡ 0) (IsPersonality bytes (personality_in encoding))
   pub lsda : HasLsda bytes page x.start x.lsda

@@ -70,16 +70,8 @@ pub record IsWholePage (bytes : List ℕ) (entry : PageEntry) (page : Compressed
 unfoldable pub word_at : List ℕ → ℕ → ℕ → ℕ
 word_at bytes k j = le_at WORD bytes ((entry_at bytes k).page_offset + (page_at bytes k).functions_offset + WORD * j)
 
--- the low 24 bits of a function word: the start of the function, from that of the page's first function on
-abbrev pub offset_in : ℕ → ℕ
-offset_in word = word % 2 ^ 24
-
--- the 8 bits above them: the number of its encoding
-abbrev pub index_in : ℕ → ℕ
-index_in word = word / 2 ^ 24
-
 abbrev pub start_at : List ℕ → ℕ → ℕ → ℕ
-start_at bytes k j = first_at bytes k + offset_in (word_at bytes k j)
+start_at bytes k j = first_at bytes k + word_at bytes k j % 2 ^ 24
 
 -- the encoding of a number: first come those that all pages share, then those of the page; None past both
 unfoldable pub encoding_at : List ℕ → ℕ → ℕ → Option ℕ
@@ -94,10 +86,6 @@ encoding_at bytes k i =
 -- `UNWIND_PERSONALITY_MASK`, bits 28 and 29 of an encoding: the number of its personality from 1 on, 0 for none
 abbrev pub personality_in : ℕ → ℕ
 personality_in encoding = bits 28 2 encoding
-
--- an encoding with these bits cleared
-abbrev pub without_personality : ℕ → ℕ
-without_personality encoding = encoding - 2 ^ 28 * personality_in encoding
 
 -- the personality of a number from 1 on: the offset of the slot that holds its address
 unfoldable pub personality_at : List ℕ → ℕ → ℕ

@@ -4,3 +4,6 @@ pub mod Parts
 pub mod Planned
 pub mod Says
 pub mod Tables
+pub mod Records
+pub mod Sections
+pub mod Texts

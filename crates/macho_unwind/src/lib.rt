@@ -33,7 +33,7 @@ mod records;
 mod section;
 mod writing;
 
-pub use laws::far_page_needs_room;
+pub use laws::{far_page_needs_room, sections_are_read};
 pub use lookup::{Found, unwind_lookup};
 pub use macho_unwind_pages::{
     Personality, ResolvedUnwindInfo, UnwindFault, UnwindInput, ids_are_named, output_size,

@@ -1,8 +1,10 @@
 //! The records of the section `__unwind_info` (`mach-o/compact_unwind_encoding.h`).
 ghost use Rattle.std.specs.Prelude.{◌≡◌, ◌+◌, ◌≤◌, length};
 ghost use Rattle.macho_bytes.specs.Texts.{put};
-ghost use Rattle.macho_bytes.specs.Layouts.{read_of, size_of, spelling, ReadsBack};
+ghost use Rattle.macho_bytes.specs.Layouts.{read_of, size_of};
 ghost use Rattle.macho_unwind.specs.Layouts.{compact_unwind_info_header, page_entry, compressed_page, lsda_entry};
+ghost use Rattle.macho_bytes.specs.Spellings.{spelling, ReadsBack};
+ghost use Rattle.macho_unwind.specs.Spellings.{compact_unwind_info_header_rows, page_entry_rows, compressed_page_rows, lsda_entry_rows};
 
 use macho_numbers::{little_at, put_littles};
 
@@ -57,8 +59,8 @@ impl CompactUnwindInfoHeader {
     #[tactic(auto, using(macho_bytes::proofs::Layouts::little_record))]
     pub fn write(&self, out: &mut [u8], at: usize)
         requires { at + size_of compact_unwind_info_header ≤ length out.old }
-        ensures written { out.new ≡ put at (spelling compact_unwind_info_header self.now) out.old }
-        ensures back { ReadsBack compact_unwind_info_header self.now }
+        ensures written { out.new ≡ put at (spelling compact_unwind_info_header_rows self.now) out.old }
+        ensures back { ReadsBack compact_unwind_info_header_rows self.now }
     {
         let r = *self;
         put_littles(
@@ -111,8 +113,8 @@ impl PageEntry {
     #[tactic(auto, using(macho_bytes::proofs::Layouts::little_record))]
     pub fn write(&self, out: &mut [u8], at: usize)
         requires { at + size_of page_entry ≤ length out.old }
-        ensures written { out.new ≡ put at (spelling page_entry self.now) out.old }
-        ensures back { ReadsBack page_entry self.now }
+        ensures written { out.new ≡ put at (spelling page_entry_rows self.now) out.old }
+        ensures back { ReadsBack page_entry_rows self.now }
     {
         let r = *self;
         put_littles(
@@ -163,8 +165,8 @@ impl CompressedPage {
     #[tactic(auto, using(macho_bytes::proofs::Layouts::little_record))]
     pub fn write(&self, out: &mut [u8], at: usize)
         requires { at + size_of compressed_page ≤ length out.old }
-        ensures written { out.new ≡ put at (spelling compressed_page self.now) out.old }
-        ensures back { ReadsBack compressed_page self.now }
+        ensures written { out.new ≡ put at (spelling compressed_page_rows self.now) out.old }
+        ensures back { ReadsBack compressed_page_rows self.now }
     {
         let r = *self;
         put_littles(out, at, &[r.kind]);
@@ -212,8 +214,8 @@ impl LsdaEntry {
     #[tactic(auto, using(macho_bytes::proofs::Layouts::little_record))]
     pub fn write(&self, out: &mut [u8], at: usize)
         requires { at + size_of lsda_entry ≤ length out.old }
-        ensures written { out.new ≡ put at (spelling lsda_entry self.now) out.old }
-        ensures back { ReadsBack lsda_entry self.now }
+        ensures written { out.new ≡ put at (spelling lsda_entry_rows self.now) out.old }
+        ensures back { ReadsBack lsda_entry_rows self.now }
     {
         let r = *self;
         put_littles(out, at, &[r.function_offset, r.lsda_offset]);

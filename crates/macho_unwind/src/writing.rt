@@ -3,10 +3,12 @@ ghost use Rattle.std.specs.Prelude.{◌≡◌, ◌+◌, ◌-◌, ◌*◌, ◌^�
 ghost use Rattle.std.specs.List.{flat_map, AllPairs, range_with_len};
 ghost use Rattle.macho_bytes.specs.Texts.{put};
 ghost use Rattle.macho_unwind_pages.specs.Plans.{IsPlan, plan_list, page_list, page_size, size_of};
-ghost use Rattle.macho_unwind.specs.Texts.{HasPlaces, header_for, page_place, entries_place, lsdas_place, pages_place, last_place, last_entry_for, page_text, section_text};
+ghost use Rattle.macho_unwind.specs.Texts.{HasPlaces, page_place, entries_place, lsdas_place, pages_place, page_text, section_text};
 ghost use Rattle.macho_unwind.specs.steps.Tables.{entry_text, lsda_text};
-ghost use Rattle.macho_unwind.specs.Layouts.{page_entry};
-ghost use Rattle.macho_bytes.specs.Layouts.{spelling};
+ghost use Rattle.macho_bytes.specs.Spellings.{spelling};
+ghost use Rattle.macho_unwind.specs.Spellings.{page_entry_rows};
+ghost use Rattle.macho_unwind.specs.steps.Records.{header_for, last_entry_for};
+ghost use Rattle.macho_unwind.specs.steps.Texts.{last_place};
 
 use crate::lookup::COMPRESSED;
 use crate::records::{CompactUnwindInfoHeader, CompressedPage, LsdaEntry, PageEntry};
@@ -195,7 +197,7 @@ fn write_last_entry(out: &mut [u8], plan: &Plan)
     requires plan { IsPlan (plan_list plan.now) }
     requires places { HasPlaces (plan_list plan.now) }
     requires room { lsdas_place (plan_list plan.now) ≤ length out.old }
-    ensures { out.new ≡ put (entries_place (plan_list plan.now) + 12 * length plan.now.pages.items) (spelling page_entry (last_entry_for (plan_list plan.now))) out.old }
+    ensures { out.new ≡ put (entries_place (plan_list plan.now) + 12 * length plan.now.pages.items) (spelling page_entry_rows (last_entry_for (plan_list plan.now))) out.old }
 {
     let entry = PageEntry {
         first_address: plan.end,

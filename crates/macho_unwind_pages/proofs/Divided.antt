@@ -15,7 +15,7 @@ use Rattle.std.proofs.lemmas.Map.Views.{list_any-from_Contains}
 use Rattle.macho_unwind_pages.specs.declared.entries.ResolvedUnwindInfo.{ResolvedUnwindInfo}
 use Rattle.macho_unwind_pages.specs.Entries.{AreEntries, inputs_of, ids_of}
 use Rattle.macho_unwind_pages.specs.Bounds.{PAGE_SPAN}
-use Rattle.macho_unwind_pages.specs.Plans.{PageList, PlanList, Row, IsPage, FitOnPage, AreDivided, IsPlanOf, own_codes, page_start, word_for, page_for, row_from}
+use Rattle.macho_unwind_pages.specs.Plans.{PageList, PlanList, Row, IsPage, FitOnPage, AreDivided, IsPlanOf, own_codes, page_start, word_for, page_for}
 use Rattle.macho_unwind_pages.specs.steps.Words.{AreLocals, row_of, page_rows, rows_of, first_row}
 use Rattle.macho_unwind_pages.specs.steps.Paging.{ArePages}
 use Rattle.macho_unwind_pages.specs.steps.Planning.{IsBehind}
@@ -28,6 +28,7 @@ use Rattle.macho_unwind_pages.proofs.Growing.{row_same}
 use Rattle.macho_unwind_pages.proofs.OneList.{AreDistinct}
 use Rattle.macho_unwind_pages.proofs.OnePage.{begins, map_back, page_is, page_fits, page_full}
 use Rattle.macho_unwind_pages.proofs.OneDivision.{IsUsed, all}
+use Rattle.macho_unwind_pages.specs.steps.Plans.{row_from}
 
 joined : (globals : List ℕ) (pages : List PageList) → all (map (page_rows globals) pages) ≡ flat_map (page_rows globals) pages
 joined globals [] = refl

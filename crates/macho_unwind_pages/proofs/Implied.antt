@@ -13,11 +13,12 @@ use Rattle.macho_unwind_pages.specs.declared.paging.Row.{Row}
 use Rattle.macho_unwind_pages.specs.Entries.{input_of, inputs_of, ids_of, code_in, codes_of}
 use Rattle.macho_unwind_pages.specs.steps.Ranks.{ranked}
 use Rattle.macho_unwind_pages.specs.Bounds.{MOST_GLOBALS}
-use Rattle.macho_unwind_pages.specs.Plans.{PageList, PlanList, IsPage, IsPlan, IsPlanOf, own_codes, row_from}
+use Rattle.macho_unwind_pages.specs.Plans.{PageList, PlanList, IsPage, IsPlan, IsPlanOf, own_codes}
 use Rattle.macho_unwind_pages.proofs.Naming.{is_in, is_not_in}
 use Rattle.macho_unwind_pages.proofs.OwnCodes.{codes, own_used, own_apart}
 use Rattle.macho_unwind_pages.proofs.OneDivision.{all}
 use Rattle.macho_unwind_pages.proofs.Gathered.{ranked_codes}
+use Rattle.macho_unwind_pages.specs.steps.Plans.{row_from}
 
 -- words of a plan have 32 bits
 pub word_fits : (plan : PlanList) (k j : ℕ) (d : PageList) (e : ℕ) → IsPlan plan → k < length plan.pages → j < length (get_or plan.pages k d).words

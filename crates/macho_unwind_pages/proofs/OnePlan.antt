@@ -9,11 +9,12 @@ use Rattle.std.proofs.lemmas.List.Sorted.{Contains-permutation, IsPermutation-sy
 use Rattle.macho_unwind_pages.specs.declared.entries.ResolvedUnwindInfo.{ResolvedUnwindInfo}
 use Rattle.macho_unwind_pages.specs.declared.plans.Lsda.{Lsda}
 use Rattle.macho_unwind_pages.specs.Entries.{inputs_of, ids_of}
-use Rattle.macho_unwind_pages.specs.Plans.{PageList, PlanList, IsPlanOf, page_for, row_from, lsda_from}
+use Rattle.macho_unwind_pages.specs.Plans.{PageList, PlanList, IsPlanOf, page_for}
 use Rattle.macho_unwind_pages.specs.Laws.{PlansAreOne}
 use Rattle.macho_unwind_pages.proofs.OneList.{rising_once}
 use Rattle.macho_unwind_pages.proofs.OneDivision.{IsDivision, same_pages}
 use Rattle.macho_unwind_pages.proofs.OneTables.{same_slots, same_end}
+use Rattle.macho_unwind_pages.specs.steps.Plans.{row_from, lsda_from}
 
 -- two plans of the same entries have one run
 one_run : (text : ℕ) (entries : List ResolvedUnwindInfo) (p q : PlanList) (a : IsPlanOf text entries p) (b : IsPlanOf text entries q)

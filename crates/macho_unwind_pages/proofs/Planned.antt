@@ -16,7 +16,7 @@ use Rattle.macho_unwind_pages.specs.declared.entries.ResolvedUnwindInfo.{Resolve
 use Rattle.macho_unwind_pages.specs.declared.plans.Lsda.{Lsda}
 use Rattle.macho_unwind_pages.specs.Entries.{AreEntries, IsLast, input_of, inputs_of, ids_of, code_in, codes_of}
 use Rattle.macho_unwind_pages.specs.steps.Ranks.{ranked}
-use Rattle.macho_unwind_pages.specs.Plans.{PlanList, Row, IsPlan, IsPlanOf, HasSlot, IsFar, HasFarAddress, HasFarOffset, row_from, lsda_from}
+use Rattle.macho_unwind_pages.specs.Plans.{PlanList, Row, IsPlan, IsPlanOf, IsFar, HasFarAddress, HasFarOffset}
 use Rattle.macho_unwind_pages.specs.steps.Words.{page_rows}
 use Rattle.macho_unwind_pages.specs.steps.Paging.{ArePages}
 use Rattle.macho_unwind_pages.specs.steps.Planning.{lsda_at, lsda_list, IsNear, IsBehind, IsNumbered, HasShortCode, IsReady, IsAssembled}
@@ -24,6 +24,7 @@ use Rattle.macho_unwind_pages.proofs.OneList.{AreDistinct}
 use Rattle.macho_unwind_pages.proofs.OneTables.{globals_once}
 use Rattle.macho_unwind_pages.proofs.Divided.{divided, written}
 use Rattle.macho_unwind_pages.proofs.Gathered.{numbered, short_codes, behind, alike, ranked_codes, short_ranks}
+use Rattle.macho_unwind_pages.specs.steps.Plans.{row_from, lsda_from, HasSlot}
 
 -- what the parts are made from
 ready_of : (text : ℕ) (entries run : List ResolvedUnwindInfo) → 0 < length entries → AreEntries text entries → IsPermutation entries run

@@ -16,7 +16,7 @@ use Rattle.macho_unwind_pages.specs.declared.entries.ResolvedUnwindInfo.{Resolve
 use Rattle.macho_unwind_pages.specs.Entries.{SpansAtMost, input_of, inputs_of, ids_of, code_in, codes_of}
 use Rattle.macho_unwind_pages.specs.Bounds.{most_pages}
 use Rattle.macho_unwind_pages.specs.steps.Tallies.{tallies_of, locals_in}
-use Rattle.macho_unwind_pages.specs.Plans.{PlanList, Row, IsPlanOf, page_start, page_for, page_size, row_from}
+use Rattle.macho_unwind_pages.specs.Plans.{PlanList, Row, IsPlanOf, page_start, page_for, page_size}
 use Rattle.macho_unwind_pages.specs.steps.Planning.{lsda_at, lsda_list}
 use Rattle.macho_unwind_pages.specs.Laws.{IsShort, PlansAreShort}
 use Rattle.macho_unwind_pages.proofs.OwnCodes.{codes}
@@ -25,6 +25,7 @@ use Rattle.macho_unwind_pages.proofs.Divided.{AreRising, plan_rises}
 use Rattle.macho_unwind_pages.proofs.Charging.{first_is, pages_are_few, pages_are_short}
 use Rattle.macho_unwind_pages.proofs.Gathered.{none}
 use Rattle.macho_unwind_pages.proofs.Planned.{lsdas_told}
+use Rattle.macho_unwind_pages.specs.steps.Plans.{row_from}
 
 lsda_length : (text : ℕ) (run : List ResolvedUnwindInfo) → length (flat_map (lsda_list text) run) ≡ count_by (λ e. is_some e.lsda) run
 lsda_length text [] = refl

@@ -25,8 +25,9 @@ use Rattle.std.proofs.lemmas.Bool.Decides.{Decides-eqb}
 use Rattle.indexmap.specs.IndexMap.{IndexMap, keys, get, IsUnique}
 use Rattle.macho_unwind_pages.specs.steps.Tallies.{locals_in}
 use Rattle.macho_unwind_pages.specs.steps.Ranks.{Counts, IsNumberOf, ranked}
-use Rattle.macho_unwind_pages.specs.Entries.{times, ranks_before}
+use Rattle.macho_unwind_pages.specs.Entries.{times}
 use Rattle.macho_unwind_pages.proofs.Orders.{IsStrict, Rises, has, above_weaker, in_order-unique}
+use Rattle.macho_unwind_pages.specs.steps.Entries.{ranks_before}
 
 -- the test on two counts and two codes
 abbrev pub outranks : ℕ → ℕ → ℕ → ℕ → Bool

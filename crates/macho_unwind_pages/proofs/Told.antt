@@ -17,8 +17,8 @@ use Rattle.std.proofs.lemmas.Map.Made.{AllPairs-from_IsDistinct, IsDistinct-from
 use Rattle.macho_unwind_pages.specs.declared.entries.Personality.{Personality}
 use Rattle.macho_unwind_pages.specs.declared.entries.ResolvedUnwindInfo.{ResolvedUnwindInfo}
 use Rattle.macho_unwind_pages.specs.Entries.{place_in}
-use Rattle.macho_unwind_pages.specs.Plans.{HasSlot}
 use Rattle.macho_unwind_pages.specs.steps.Planning.{IsNear, IsNumbered, AreAlike}
+use Rattle.macho_unwind_pages.specs.steps.Plans.{HasSlot}
 
 -- what holds of the first i and of the next one holds of one more
 pub all_more : {X : Type 0} (P : X → Type 0) (xs : List X) (i : ℕ) (d : X) → i < length xs → All P (take i xs) → P (get_or xs i d)

@@ -1,10 +1,10 @@
 -- The room that the unwind section of entries needs at most, from what is known before they have addresses.
 -- The records are those of mach-o/compact_unwind_encoding.h.
-use Rattle.std.specs.Prelude.{ℕ, ◌+◌, ◌-◌, ◌*◌, ◌/◌, ◌^◌, ◌==◌, if◌then◌else◌, not, Bool, List, length, take, count_by}
+use Rattle.std.specs.Prelude.{ℕ, ◌+◌, ◌-◌, ◌*◌, ◌/◌, ◌^◌, ◌==◌, if◌then◌else◌, not, Bool, List, length, take, count_by, ◌&&◌, ◌||◌, nat_lt}
 use Rattle.std.specs.List.{list_any}
 use Rattle.macho_unwind_pages.specs.declared.entries.UnwindInput.{UnwindInput}
 use Rattle.macho_unwind_pages.specs.Orders.{in_order}
-use Rattle.macho_unwind_pages.specs.Entries.{ids_of, codes_of, ranks_before}
+use Rattle.macho_unwind_pages.specs.Entries.{ids_of, codes_of, times}
 
 -- the offsets that a word of a page can tell
 abbrev pub PAGE_SPAN : ℕ
@@ -23,9 +23,11 @@ MOST_LOCALS = 32
 abbrev pub MOST_WORDS : ℕ
 MOST_WORDS = 1021
 
--- the codes that every page may name: the first ones by rank
+-- the codes that every page may name: those that stand most often; of two that stand as often the greater comes first
 abbrev pub globals_of : List ℕ → List ℕ
-globals_of codes = take MOST_GLOBALS (in_order (ranks_before codes) codes)
+globals_of codes =
+    take MOST_GLOBALS
+    (in_order (λ a b. nat_lt (times codes b) (times codes a) || (times codes a == times codes b && nat_lt b a)) codes)
 
 -- a code is one of these
 abbrev pub is_one_of : List ℕ → ℕ → Bool

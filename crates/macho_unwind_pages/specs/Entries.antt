@@ -1,7 +1,7 @@
--- What entries say: their personalities' numbers, their codes, and which codes come first.
+-- What entries say: their personalities' numbers and their codes, and how often a code stands.
 -- An encoding has 32 bits; bits 28 and 29 are the personality's number (mach-o/compact_unwind_encoding.h,
 -- UNWIND_PERSONALITY_MASK), and entries have them clear.
-use Rattle.std.specs.Prelude.{◌≡◌, ◌≢◌, ℕ, ◌+◌, ◌*◌, ◌/◌, ◌%◌, ◌^◌, ◌<◌, ◌≤◌, ◌==◌, ◌&&◌, ◌||◌, nat_lt, Bool, Option, None, Some, IfSome, is_some, option_map, List, [], ◌∷◌, map, All, count_by}
+use Rattle.std.specs.Prelude.{◌≡◌, ◌≢◌, ℕ, ◌+◌, ◌*◌, ◌/◌, ◌%◌, ◌^◌, ◌<◌, ◌≤◌, ◌==◌, nat_lt, Option, None, Some, IfSome, is_some, option_map, List, [], ◌∷◌, map, All, count_by}
 use Rattle.std.specs.List.{AllPairs}
 use Rattle.macho_unwind_pages.specs.declared.entries.UnwindInput.{UnwindInput}
 use Rattle.macho_unwind_pages.specs.declared.entries.ResolvedUnwindInfo.{ResolvedUnwindInfo}
@@ -51,10 +51,6 @@ codes_of entries = map (code_in (ids_of entries)) entries
 -- how often a code stands in a list
 abbrev pub times : List ℕ → ℕ → ℕ
 times codes code = count_by (λ other. code == other) codes
-
--- a code ranks before another if it stands more often, or as often and is the greater
-abbrev pub ranks_before : List ℕ → ℕ → ℕ → Bool
-ranks_before codes a b = nat_lt (times codes b) (times codes a) || (times codes a == times codes b && nat_lt b a)
 
 -- What is asked of entries: starts are distinct, no address is below the text's, no function ends at 2^64 or later,
 -- one id has one slot, and the personality's bits of encodings are clear.

@@ -1,7 +1,7 @@
 -- What a plan says, and when it is a plan of entries. A plan is the unwind section before it is bytes
 -- (mach-o/compact_unwind_encoding.h: unwind_info_section_header, unwind_info_compressed_second_level_page_header).
 pub use Rattle.macho_unwind_pages.specs.declared.paging.Row.{Row}
-use Rattle.std.specs.Prelude.{◌≡◌, ℕ, ◌+◌, ◌-◌, ◌*◌, ◌/◌, ◌%◌, ◌^◌, ◌<◌, ◌≤◌, ◌==◌, if◌then◌else◌, ◌⊎◌, Option, Some, IfSome, IsSomeAnd, List, [], ◌∷◌, ◌++◌, length, map, take, flat_map, filter_map, option_map, slice_get, slice_index, slice_index_or, All, Contains, sum_by}
+use Rattle.std.specs.Prelude.{◌≡◌, ℕ, ◌+◌, ◌-◌, ◌*◌, ◌/◌, ◌%◌, ◌^◌, ◌<◌, ◌≤◌, ◌==◌, if◌then◌else◌, ◌⊎◌, Some, IfSome, IsSomeAnd, List, [], ◌∷◌, ◌++◌, length, map, take, flat_map, filter_map, option_map, slice_get, slice_index, slice_index_or, All, Contains, sum_by}
 use Rattle.std.specs.List.{AllPairs, position_or_len}
 use Rattle.std.specs.List.Sorted.{IsPermutation}
 use Rattle.macho_unwind_pages.specs.declared.entries.ResolvedUnwindInfo.{ResolvedUnwindInfo}
@@ -109,33 +109,23 @@ pub record IsPlan (plan : PlanList) : Type 0 where
   pub lsdas : All (λ l. (l.function < 2 ^ 32) × (l.lsda < 2 ^ 32)) plan.lsdas
   pub end : plan.end < 2 ^ 32
 
--- the function of an entry: how far it starts behind the text, and its code
-abbrev pub row_from : ℕ → List ℕ → ResolvedUnwindInfo → Row
-row_from text ids e = record { start = e.start - text; code = code_in ids (input_of e) }
-
--- the language-specific data of an entry
-abbrev pub lsda_from : ℕ → ResolvedUnwindInfo → Option Lsda
-lsda_from text e = option_map (λ address. record { function = e.start - text; lsda = address - text }) e.lsda
-
--- The slot of each entry's personality stands at its number.
-abbrev pub HasSlot : ℕ → List ℕ → List ℕ → ResolvedUnwindInfo → Type 0
-HasSlot text ids slots e = IfSome e.personality (λ p. slice_get slots (place_in ids p.id) ≡ Some (p.slot - text))
-
 -- A plan of entries.
 pub record IsPlanOf (text : ℕ) (entries : List ResolvedUnwindInfo) (plan : PlanList) : Type 0 where
   -- the entries by rising start
   pub run : List ResolvedUnwindInfo
   pub same : IsPermutation entries run
   pub rising : AllPairs (λ e f. e.start < f.start) run
-  -- their functions, page by page
+  -- their functions, page by page: of each how far it starts behind the text, and its code
   pub pages : List (List Row)
-  pub divided : AreDivided plan.globals (map (row_from text (ids_of (inputs_of entries))) run) pages
+  pub divided : AreDivided plan.globals
+      (map (λ e. record { start = e.start - text; code = code_in (ids_of (inputs_of entries)) (input_of e) }) run) pages
   pub written : plan.pages ≡ map (page_for plan.globals) pages
-  -- what stands in the tables
+  -- what stands in the tables: each personality's slot at its number, and language-specific data by function
   pub globals : plan.globals ≡ globals_of (codes_of (inputs_of entries))
   pub personalities : length plan.personalities ≡ length (ids_of (inputs_of entries))
-  pub slots : All (HasSlot text (ids_of (inputs_of entries)) plan.personalities) entries
-  pub lsdas : plan.lsdas ≡ filter_map (lsda_from text) run
+  pub slots : All (λ e. IfSome e.personality (λ p.
+      slice_get plan.personalities (place_in (ids_of (inputs_of entries)) p.id) ≡ Some (p.slot - text))) entries
+  pub lsdas : plan.lsdas ≡ filter_map (λ e. option_map (λ address. record { function = e.start - text; lsda = address - text }) e.lsda) run
   pub end : All (λ e. IsLast entries e → plan.end ≡ e.start + e.length - text) entries
 
 -- an address whose offset from the text's start doesn't fit 32 bits

@@ -4,3 +4,5 @@ pub mod Planning
 pub mod Ranks
 pub mod Tallies
 pub mod Words
+pub mod Entries
+pub mod Plans

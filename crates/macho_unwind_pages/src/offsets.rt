@@ -6,8 +6,9 @@ ghost use Rattle.indexmap.specs.IndexMap.{keys};
 ghost use Rattle.macho_unwind_pages.specs.Entries.{MOST_PERSONALITIES, IsLast};
 ghost use Rattle.macho_unwind_pages.specs.declared.entries.ResolvedUnwindInfo.{ResolvedUnwindInfo};
 ghost use Rattle.macho_unwind_pages.specs.declared.entries.UnwindFault.TheVariants.{OffsetTooLarge};
-ghost use Rattle.macho_unwind_pages.specs.Plans.{row_from, HasSlot, HasFarAddress, HasFarOffset};
+ghost use Rattle.macho_unwind_pages.specs.Plans.{HasFarAddress, HasFarOffset};
 ghost use Rattle.macho_unwind_pages.specs.steps.Planning.{lsda_list, IsNear, IsBehind, IsNumbered, AreAlike, HasShortCode};
+ghost use Rattle.macho_unwind_pages.specs.steps.Plans.{row_from, HasSlot};
 
 use crate::entries::{ResolvedUnwindInfo, UnwindFault};
 use crate::numbering::{code, input, place};

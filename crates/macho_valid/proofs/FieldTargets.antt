@@ -20,7 +20,8 @@ use Rattle.macho_model.specs.declared.targets.Target.{Target}
 use Rattle.macho_model.specs.declared.targets.Target.TheVariants as target
 use Rattle.macho_model.specs.Objects.{section_at, section_bytes, relocation_at}
 use Rattle.macho_model.specs.Links.{Link, SectionId, Object, no_input, object_bytes, object_of, header_at, carried_of}
-use Rattle.macho_model.specs.Needs.{ByRelocation, relocation_in, section_named}
+use Rattle.macho_model.specs.Needs.{relocation_in, section_named}
+use Rattle.macho_model.specs.Uses.{ByRelocation}
 use Rattle.macho_model.specs.Targets.{is_defined, is_import, target_of_relocation}
 use Rattle.macho_model.specs.Fields.{Field, field_of, fields_of, has_subtrahend, has_addend, is_difference, width_of, content_of}
 use Rattle.macho_model.specs.Fields.{pointer_addend}

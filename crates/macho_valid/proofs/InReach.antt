@@ -35,6 +35,7 @@ use Rattle.macho_valid.proofs.Reach as reach
 use Rattle.macho_valid.proofs.FieldTargets.{is_plain_kind, field_has, subtrahend_has, plain_addend, import_addend, difference_addend}
 use Rattle.macho_valid.proofs.Near.{same_id, base_low, target_near, call_near, load_near, slot_at_near, target_multiple}
 use Rattle.macho_valid.proofs.Fixed.{leads_of, field_multiple}
+use Rattle.macho_model.proofs.Parts.{aligned_of}
 
 clash : (b : Bool) → b ≡ true → b ≡ false → ⊥
 clash b is isnt = true≢false (sym is ∙ isnt)
@@ -114,7 +115,7 @@ call_multiple : (l : Link) (counts : Counts) (p : Placed) (s : SectionId) (f : F
     → defined_or_import t ≡ true → CallIsAt l p 0 empty t x → (x + f.addend) % 4 ≡ 0
 call_multiple l counts p s f x h one field kind (target.Import id) is test leads (stub, in_stubs, id_is, x_is) =
     let none = import_addend l s f (valid_relocations l counts h.valid) one field kind (ap is_import is) in
-    let four = All-contains (λ (t : Stub). t.address % 4 ≡ 0) p.stubs stub h.placed.aligned.stubs in_stubs in
+    let four = All-contains (λ (t : Stub). t.address % 4 ≡ 0) p.stubs stub (aligned_of h.placed).stubs in_stubs in
     omega (arith, none, four, x_is)
 call_multiple l counts p s f x h one field kind (target.Section file section offset) is test leads at =
     target_multiple l counts p empty (target.Section file section offset) x f.addend 2 h refl (omega arith) test at

@@ -23,6 +23,7 @@ use Rattle.macho_model.specs.Valid.{is_multiple}
 use Rattle.macho_standing.specs.Leads.{HasPlace}
 use Rattle.macho_valid.proofs.Ranges.{IsValidPlaced, IsNear, section_near, common_near, slot_near, stub_near}
 use Rattle.macho_valid.proofs.Reach.{cut_power}
+use Rattle.macho_model.proofs.Parts.{aligned_of}
 
 -- a placed section by its numbers
 pub same_id : (q : PlacedSection) (file section : ℕ) → q.file ≡ file → q.section ≡ section → id_of q ≡ section_id file section
@@ -100,7 +101,7 @@ pub section_multiple : (l : Link) (counts : Counts) (p : Placed) (q : PlacedSect
     → nat_le (2 ^ j) (2 ^ placed_exponent l (id_of q)) ≡ true → q.address % 2 ^ j ≡ 0
 section_multiple l counts p q j h one power =
     cut_power q.address (placed_exponent l (id_of q)) j
-    (All-contains (λ (r : PlacedSection). r.address % 2 ^ placed_exponent l (id_of r) ≡ 0) p.sections q h.placed.aligned.sections one)
+    (All-contains (λ (r : PlacedSection). r.address % 2 ^ placed_exponent l (id_of r) ≡ 0) p.sections q (aligned_of h.placed).sections one)
     (leb-true (2 ^ j) (2 ^ placed_exponent l (id_of q)) power)
 
 -- THE target plus an addend is a multiple
@@ -123,7 +124,7 @@ target_multiple l counts p c (target.Common id) x addend j h moves le test (d, o
     let aligned = cut_power d.address (common_exponent_of (entry_at l (common_of l d.id))) j
     (All-contains
     (λ (e : PlacedCommon). e.address % 2 ^ common_exponent_of (entry_at l (common_of l e.id))
-    ≡ 0) p.commons d h.placed.aligned.commons one)
+    ≡ 0) p.commons d (aligned_of h.placed).commons one)
     (leb-true (2 ^ j) (2 ^ common_exponent_of (entry_at l (common_of l d.id))) power) in
     let sum : d.address + addend ≡ x + addend = omega (arith, is) in
     sym (ap (λ (n : ℕ). n % 2 ^ j) sum) ∙ add_multiple d.address addend j le aligned (eqb-true (addend % 2 ^ j) 0 both.1)

@@ -24,9 +24,11 @@ use Rattle.macho_model.specs.Links.{Link, header_at}
 use Rattle.macho_model.specs.Resolution.{entry_at}
 use Rattle.macho_model.specs.Segments.{PAGEZERO, TEXT, DATA_CONST, DATA, other_segments, segment_rank}
 use Rattle.macho_model.specs.WrittenSum.{written_sum_of}
-use Rattle.macho_model.specs.Placement.{Placed, id_of, common_of, section_span, common_span, slot_span, stub_span, is_segment_named}
-use Rattle.macho_model.specs.Placement.{Follows, IsPaged, LiesInNamed, SectionLies, IsPlaced}
-use Rattle.macho_model.specs.Order.{least_file_size}
+use Rattle.macho_model.specs.Placement.{Placed, id_of, common_of, is_segment_named}
+use Rattle.macho_model.specs.Spans.{section_span, common_span, slot_span, stub_span}
+use Rattle.macho_model.specs.Placement.{Follows, IsPaged, IsPlaced}
+use Rattle.macho_model.specs.steps.Parts.{LiesInNamed, SectionLies}
+use Rattle.macho_model.specs.steps.Least.{least_file_size}
 use Rattle.macho_model.specs.Valid.{IsValid}
 use Rattle.macho_promise.specs.Promise.{IsLaidOut}
 use Rattle.macho_model.specs.Grammar.{ObjectsAreRead}
@@ -34,6 +36,8 @@ use Rattle.macho_standing.proofs.Libraries.{same_bytes}
 use Rattle.macho_standing.proofs.Places.{lies_within}
 use Rattle.macho_standing.proofs.Apart.{placed_is_carried}
 use Rattle.macho_standing.proofs.Held.{section_is_mapped}
+use Rattle.macho_model.proofs.Parts.{in_segment_of}
+use Rattle.macho_model.proofs.Outputs.{least_of}
 
 -- the greatest written sum of a valid link
 abbrev pub VALID_SUM : ℕ
@@ -119,7 +123,7 @@ pub record HasText (l : Link) (p : Placed) : Type 0 where
 
 has_text : (l : Link) (counts : Counts) (p : Placed) → IsPlaced l counts p → IsLaidOut l counts p → HasText l p
 has_text l counts p placed laid =
-    let begins = placed.in_order.begins in
+    let begins = placed.begins in
     let one = begins.1 in
     let rank = rank_text l (text_of begins.0.name) (same_bytes (text_of begins.0.name) TEXT begins.2) in
     let at = λ (e : PlacedSegment). get_or_default p.segments one.0 e begins.0 one.1 ∙ one.2 in
@@ -136,24 +140,24 @@ has_text l counts p placed laid =
     none : (s : PlacedSegment) → bytes_eq (text_of s.name) PAGEZERO ≡ true → least_file_size l counts p s ≡ 0
     none s named = rw named refl
 
-    front : (k : ℕ) → k < length p.segments → get_or p.segments k placed.in_order.begins.0 ≡ placed.in_order.begins.0
-        → segment_rank l (text_of placed.in_order.begins.0.name) ≡ 1 → placed.in_order.begins.0.file_offset ≡ 0
-    front zero lt at rank = laid.least.front placed.in_order.begins.0 (lt, at)
+    front : (k : ℕ) → k < length p.segments → get_or p.segments k placed.begins.0 ≡ placed.begins.0
+        → segment_rank l (text_of placed.begins.0.name) ≡ 1 → placed.begins.0.file_offset ≡ 0
+    front zero lt at rank = laid.least.front placed.begins.0 (lt, at)
     front (suc zero) lt at rank =
-        let e = placed.in_order.begins.0 in
-        let step = follow_at l p.segments placed.in_order.follow 0 e lt in
+        let e = placed.begins.0 in
+        let step = follow_at l p.segments placed.follow 0 e lt in
         let first : PlacedSegment = get_or p.segments 0 e in
         let same : segment_rank l (text_of (get_or p.segments 1 e).name) ≡ 1 = ap
         (λ (s : PlacedSegment). segment_rank l (text_of s.name)) at ∙ rank in
         let zero_page = low_rank l (text_of first.name) (omega (arith, step.rank, same)) in
-        let size : first.file_size ≡ 0 = laid.least.file_sizes 0 e (omega (arith, lt)) ∙ none first zero_page in
+        let size : first.file_size ≡ 0 = (least_of laid.least).file_sizes 0 e (omega (arith, lt)) ∙ none first zero_page in
         let offset : first.file_offset ≡ 0 = laid.least.front first
         (omega (arith, lt), get_or_default p.segments 0 first e (omega (arith, lt))) in
         omega (arith, step.file_offset, ap (λ (s : PlacedSegment). s.file_offset) at, size, offset)
     front (suc (suc k)) lt at rank =
-        let e = placed.in_order.begins.0 in
-        let first = follow_at l p.segments placed.in_order.follow k e (omega (arith, lt)) in
-        let second = follow_at l p.segments placed.in_order.follow (suc k) e lt in
+        let e = placed.begins.0 in
+        let first = follow_at l p.segments placed.follow k e (omega (arith, lt)) in
+        let second = follow_at l p.segments placed.follow (suc k) e lt in
         let same : segment_rank l (text_of (get_or p.segments (suc (suc k)) e).name) ≡ 1 = ap
         (λ (s : PlacedSegment). segment_rank l (text_of s.name)) at ∙ rank in
         absurd (omega (arith, first.rank, second.rank, same))
@@ -177,12 +181,12 @@ segment_near l counts p s h (i, lt, at) other =
         (i, lt, at)
 
     small : s.file_size ≤ s.size
-    small = (All-contains IsPaged p.segments s h.placed.in_order.paged (i, lt, at)).file_size
+    small = (All-contains IsPaged p.segments s h.placed.paged (i, lt, at)).file_size
 
     place : (p.base ≤ s.address) × (s.file_offset + p.base ≤ s.address)
     place = elim (cases_lt i t.number) [
       | inl before ↦
-          let on = goes_on l p.segments h.placed.in_order.follow h.placed.in_order.paged i t.number s before t.within in
+          let on = goes_on l p.segments h.placed.follow h.placed.paged i t.number s before t.within in
           let first : segment_rank l (text_of (get_or p.segments i s).name) ≡ segment_rank l (text_of s.name) =
           ap (λ (x : PlacedSegment). segment_rank l (text_of x.name)) at in
           let second : segment_rank l (text_of (get_or p.segments t.number s).name) ≡ 1 =
@@ -190,7 +194,7 @@ segment_near l counts p s h (i, lt, at) other =
           absurd (true≢false (sym (low_rank l (text_of s.name) (omega (arith, on.rank, first, second))) ∙ other))
       | inr le ↦ elim (cases_lt t.number i) [
         | inl behind ↦
-            let on = goes_on l p.segments h.placed.in_order.follow h.placed.in_order.paged t.number i s behind lt in
+            let on = goes_on l p.segments h.placed.follow h.placed.paged t.number i s behind lt in
             let a : (get_or p.segments t.number s).address ≡ p.base = ap (λ (x : PlacedSegment). x.address) (t.is s) ∙ t.address in
             let f : (get_or p.segments t.number s).file_offset ≡ 0 = ap (λ (x : PlacedSegment). x.file_offset) (t.is s) ∙ t.file_offset in
             let here : (get_or p.segments i s).address ≡ s.address = ap (λ (x : PlacedSegment). x.address) at in
@@ -213,11 +217,11 @@ IsNear p x = (p.base ≤ x) × (x ≤ p.base + VALID_SUM)
 pub section_near : (l : Link) (counts : Counts) (p : Placed) (q : PlacedSection) → IsValidPlaced l counts p → Contains p.sections q
     → (p.base ≤ q.address) × (q.address + (header_at l (id_of q)).size ≤ p.base + VALID_SUM)
 section_near l counts p q h one =
-    let lies = All-contains (SectionLies l p) p.sections q h.placed.in_segment.sections one in
+    let lies = All-contains (SectionLies l p) p.sections q (in_segment_of h.placed).sections one in
     let there : Contains p.segments lies.0 = (q.segment, lies.1.0, lies.1.1) in
     let other = section_is_mapped l (id_of q) lies.0 (placed_is_carried l p q h.placed.whole_list one) lies.2 same_bytes in
     let near = segment_near l counts p lies.0 h there other in
-    let within = lies_within _ (section_span l q) lies.0 lies.3 (All-contains IsPaged p.segments lies.0 h.placed.in_order.paged there) in
+    let within = lies_within _ (section_span l q) lies.0 lies.3 (All-contains IsPaged p.segments lies.0 h.placed.paged there) in
     (omega (arith, near.low, lies.3.from), omega (arith, near.high, within))
 
 named_other : (s : PlacedSegment) (name : List ℕ) → is_segment_named name s ≡ true → bytes_eq name PAGEZERO ≡ false
@@ -228,20 +232,20 @@ pub common_near : (l : Link) (counts : Counts) (p : Placed) (c : PlacedCommon) �
     → (p.base ≤ c.address) × (c.address + common_size_of (entry_at l (common_of l c.id)) ≤ p.base + VALID_SUM)
 common_near l counts p c h one =
     let lies = All-contains
-    (λ (d : PlacedCommon). LiesInNamed p DATA false (common_span l d)) p.commons c h.placed.in_segment.commons one in
+    (λ (d : PlacedCommon). LiesInNamed p DATA false (common_span l d)) p.commons c (in_segment_of h.placed).commons one in
     let near = segment_near l counts p lies.0 h lies.1 (named_other lies.0 DATA lies.2 refl) in
     (omega (arith, near.low, lies.3.from), omega (arith, near.high, lies.3.to))
 
 pub slot_near : (l : Link) (counts : Counts) (p : Placed) (s : Slot) → IsValidPlaced l counts p → Contains p.slots s → IsNear p s.address
 slot_near l counts p s h one =
-    let lies = All-contains (λ (d : Slot). LiesInNamed p DATA_CONST true (slot_span d)) p.slots s h.placed.in_segment.slots one in
+    let lies = All-contains (λ (d : Slot). LiesInNamed p DATA_CONST true (slot_span d)) p.slots s (in_segment_of h.placed).slots one in
     let near = segment_near l counts p lies.0 h lies.1 (named_other lies.0 DATA_CONST lies.2 refl) in
-    let small = (All-contains IsPaged p.segments lies.0 h.placed.in_order.paged lies.1).file_size in
+    let small = (All-contains IsPaged p.segments lies.0 h.placed.paged lies.1).file_size in
     (omega (arith, near.low, lies.3.from), omega (arith, near.high, lies.3.to, small))
 
 pub stub_near : (l : Link) (counts : Counts) (p : Placed) (s : Stub) → IsValidPlaced l counts p → Contains p.stubs s → IsNear p s.address
 stub_near l counts p s h one =
-    let lies = All-contains (λ (d : Stub). LiesInNamed p TEXT true (stub_span d)) p.stubs s h.placed.in_segment.stubs one in
+    let lies = All-contains (λ (d : Stub). LiesInNamed p TEXT true (stub_span d)) p.stubs s (in_segment_of h.placed).stubs one in
     let near = segment_near l counts p lies.0 h lies.1 (named_other lies.0 TEXT lies.2 refl) in
-    let small = (All-contains IsPaged p.segments lies.0 h.placed.in_order.paged lies.1).file_size in
+    let small = (All-contains IsPaged p.segments lies.0 h.placed.paged lies.1).file_size in
     (omega (arith, near.low, lies.3.from), omega (arith, near.high, lies.3.to, small))

@@ -26,8 +26,10 @@ use Rattle.macho_model.specs.declared.targets.Target.{Target}
 use Rattle.macho_model.specs.declared.targets.Target.TheVariants as target
 use Rattle.macho_model.specs.ExportLists.{plain_entries}
 use Rattle.macho_model.specs.Links.{Link, SectionId, header_at, carried_of, sections_of, is_carried, is_initializers}
-use Rattle.macho_model.specs.Needs.{ByInitializer, ByName, uses_of, relocation_in, section_named, relocations_of, relocations_at}
-use Rattle.macho_model.specs.Needs.{initializer_sections, unwind_sections, carried_uses, initializer_uses, personality_uses, is_imported}
+use Rattle.macho_model.specs.Needs.{relocation_in, section_named, relocations_of, relocations_at}
+use Rattle.macho_model.specs.Uses.{ByInitializer, ByName, uses_of}
+use Rattle.macho_model.specs.Needs.{initializer_sections, unwind_sections, is_imported}
+use Rattle.macho_model.specs.Uses.{carried_uses, initializer_uses, personality_uses}
 use Rattle.macho_model.specs.Needs.{PERSONALITY_PLACE}
 use Rattle.macho_model.specs.Resolution.{chosen_commons}
 use Rattle.macho_model.specs.Targets.{is_import, is_defined, target_of_relocation, slots_of}
@@ -38,7 +40,7 @@ use Rattle.macho_model.specs.Consumed.{EntryId, entries_of_link, entry_count, is
 use Rattle.macho_model.specs.Consumed.{relocations_in_entry, unwind_entry}
 use Rattle.macho_model.specs.Consumed.{START_PLACE, LSDA_PLACE, holds_functions, lies_in, starts_in}
 use Rattle.macho_model.specs.Placement.{Placed, id_of, is_segment_named, linkedit_ranges}
-use Rattle.macho_model.specs.Order.{least_file_size}
+use Rattle.macho_model.specs.steps.Least.{least_file_size}
 use Rattle.macho_model.proofs.Least.{LiesInFile, tables_lie}
 use Rattle.macho_model.specs.Stands.{SectionAt, IsAt}
 use Rattle.macho_model.specs.Values.{is_absolute_target}
@@ -53,6 +55,7 @@ use Rattle.macho_standing.proofs.Targets.{relocation_has}
 use Rattle.macho_standing.proofs.Leading.{each_passes, in_numbers}
 use Rattle.macho_valid.proofs.Ranges.{VALID_SUM, IsValidPlaced, IsNear, segment_near, section_near, follow_at}
 use Rattle.macho_valid.proofs.Near.{same_id, target_near, slot_at_near}
+use Rattle.macho_model.proofs.Outputs.{least_of}
 
 -- the segment that keeps addresses free has no bytes in the file
 pagezero_rank : (l : Link) (name : List ℕ) → bytes_eq name PAGEZERO ≡ true → segment_rank l name ≡ 0
@@ -63,7 +66,7 @@ pagezero_file : (l : Link) (counts : Counts) (p : Placed) (s : PlacedSegment) �
     → is_segment_named PAGEZERO s ≡ true → (s.file_offset ≡ 0) × (s.file_size ≡ 0)
 pagezero_file l counts p s h (k, lt, at) named = (
   front k lt at,
-  All-contains (λ (x : PlacedSegment). x.file_size ≡ least_file_size l counts p x) p.segments s h.laid.least.file_sizes
+  All-contains (λ (x : PlacedSegment). x.file_size ≡ least_file_size l counts p x) p.segments s (least_of h.laid.least).file_sizes
       (k, lt, at) ∙ none,
 )
   where
@@ -73,7 +76,7 @@ pagezero_file l counts p s h (k, lt, at) named = (
     front : (k : ℕ) → k < length p.segments → get_or p.segments k s ≡ s → s.file_offset ≡ 0
     front zero lt at = h.laid.least.front s (lt, at)
     front (suc k) lt at =
-        let step = follow_at l p.segments h.placed.in_order.follow k s lt in
+        let step = follow_at l p.segments h.placed.follow k s lt in
         let rank : segment_rank l (text_of (get_or p.segments (suc k) s).name) ≡ 0 =
         ap (λ (x : PlacedSegment). segment_rank l (text_of x.name)) at ∙ pagezero_rank l (text_of s.name) named in
         absurd (omega (arith, step.rank, rank))
@@ -111,11 +114,11 @@ linkedit_named l =
 linkedit_end : (l : Link) (counts : Counts) (p : Placed) (r : Range64) → IsValidPlaced l counts p → Contains (linkedit_ranges p) r
     → r.end ≤ VALID_SUM
 linkedit_end l counts p r h one =
-    let names = subst (λ (ns : List (List ℕ)). Contains ns LINKEDIT) (sym h.laid.order.segments) (linkedit_named l) in
+    let names = subst (λ (ns : List (List ℕ)). Contains ns LINKEDIT) (sym h.laid.segments) (linkedit_named l) in
     let m = of_map (λ (s : PlacedSegment). text_of s.name) p.segments LINKEDIT names in
     let named : is_segment_named LINKEDIT m.0 ≡ true = ap (λ (n : List ℕ). bytes_eq n LINKEDIT) m.2 ∙ itself LINKEDIT in
     let there = in_filter (is_segment_named LINKEDIT) p.segments m.0 m.1 named in
-    let lies = All-contains (LiesInFile p.segments) (linkedit_ranges p) r (tables_lie l counts p h.laid.order h.laid.least) one in
+    let lies = All-contains (LiesInFile p.segments) (linkedit_ranges p) r (tables_lie l counts p h.laid.segments (least_of h.laid.least)) one in
     let part = All-contains (λ (s : PlacedSegment). (s.file_offset ≤ r.start) × (r.start ≤ r.end) × (r.end ≤ s.file_offset + s.file_size))
     (filter (is_segment_named LINKEDIT) p.segments) m.0 lies there in
     let near = segment_near l counts p m.0 h m.1 (ap (λ (n : List ℕ). bytes_eq n PAGEZERO) m.2) in

@@ -46,7 +46,8 @@ error_sink taken faults = record { taken = taken; faults = faults }
 -- printed. After a failed write the path holds a first part of the image, or what it held, and nothing is printed; after a failed print
 -- it holds the image, and a first part of the lines is printed. Every other path holds what it held. No other fault comes beside an image.
 abbrev pub LeavesImage : Option Fault → (old new : Devices) → (path bytes text : List ℕ) → Type 0
-LeavesImage None old new path bytes text = WritesFile old.outside.store new.outside.store path bytes × TakesBytes old.printed new.printed text
+LeavesImage None old new path bytes text =
+    WritesFile old.outside.store new.outside.store path bytes × TakesBytes old.printed new.printed text
 LeavesImage (Some Write) old new path bytes text = TornWrite old.outside.store new.outside.store path bytes × (new.printed ≡ old.printed)
 LeavesImage (Some Print) old new path bytes text =
     WritesFile old.outside.store new.outside.store path bytes × TakesPrefix old.printed new.printed text

@@ -3,7 +3,8 @@ use Rattle.std.specs.Prelude.{◌≡◌, ℕ, ◌<◌, ◌||◌, Bool, true, Lis
 use Rattle.macho_model.specs.declared.rules.UnwindRule.TheVariants.{U6}
 use Rattle.macho_model.specs.Objects.{num_symbols}
 use Rattle.macho_model.specs.Links.{Link}
-use Rattle.macho_model.specs.Targets.{target_with, is_defined, is_import}
+use Rattle.macho_model.specs.Targets.{is_defined, is_import}
+use Rattle.macho_model.specs.Uses.{target_with}
 use Rattle.macho_model.specs.Consumed.{is_section_target}
 use Rattle.macho_symbols.specs.Kept.{ResolvedRows, IsResolved, HasSymbol, symbol_id}
 use Rattle.macho_consumed.specs.declared.rows.Initializer.{Initializer}

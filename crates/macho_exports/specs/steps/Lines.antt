@@ -1,7 +1,8 @@
 -- The steps of reading a line.
 use Rattle.std.specs.Prelude.{ℕ, ◌==◌, ◌||◌, not, Bool, List, [], ◌∷◌, length, filter, reverse}
 use Rattle.std.specs.List.{before_first, list_any}
-use Rattle.macho_model.specs.ExportLists.{STAR, without_front, trimmed}
+use Rattle.macho_model.specs.ExportLists.{STAR, without_front}
+use Rattle.macho_model.specs.steps.ExportLists.{trimmed}
 
 abbrev pub NEWLINE : ℕ
 NEWLINE = 10

@@ -11,7 +11,7 @@ use Rattle.macho_model.specs.Links.{Link, SectionId, object_of, header_at, carri
 use Rattle.macho_model.specs.Needs.{relocation_in}
 use Rattle.macho_model.specs.Targets.{is_import}
 use Rattle.macho_model.specs.Fields.{Field, field_of, is_prefix_type, content_of}
-use Rattle.macho_model.specs.Stands.{IsOutsideField, IsAt, kind_of}
+use Rattle.macho_model.specs.Stands.{IsAt, kind_of}
 use Rattle.macho_model.specs.Values.{needs_fixup, IsNotEncodable, DoesNotFit}
 use Rattle.macho_model.specs.Faults.{BadPlace}
 use Rattle.macho_model.specs.Placement.{Placed, id_of}
@@ -22,6 +22,7 @@ use Rattle.macho_fields.specs.Looks.{Look, Tells, IsFound}
 use Rattle.macho_fields.specs.steps.Fields.{kind_in}
 use Rattle.macho_fields.specs.steps.Kinds.{KindFits}
 use Rattle.macho_fields.specs.steps.Filled.{place_in}
+use Rattle.macho_model.specs.Spans.{IsOutsideField}
 
 -- a relocation is that of a field, and not a part of the one behind it
 abbrev pub is_field : Link → SectionId → ℕ → Bool

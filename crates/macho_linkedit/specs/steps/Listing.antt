@@ -8,13 +8,13 @@ use Rattle.macho_model.specs.Resolution.{SymbolId, name_at}
 use Rattle.macho_bytes.specs.Numbers.{bits}
 use Rattle.macho_records.specs.declared.symbols.SymtabEntry.{SymtabEntry}
 use Rattle.macho_records.specs.declared.constants.TheConstants.{N_SECT, N_ABS}
-use Rattle.macho_model.specs.SymbolEntries.{hidden_type}
-use Rattle.macho_model.specs.SymbolTable.{is_in_table}
 use Rattle.macho_parts.specs.Sizes.{text_size}
 use Rattle.macho_names.specs.Kept.{in_carried}
 use Rattle.macho_symbols.specs.Kept.{symbol_id}
 use Rattle.macho_linkedit.specs.declared.listing.TableSymbols.{TableSymbols}
 use Rattle.macho_linkedit.specs.Listing.{id_of_symbol, HasLength}
+use Rattle.macho_model.specs.steps.SymbolTable.{is_in_table}
+use Rattle.macho_model.specs.steps.SymbolEntries.{hidden_type}
 
 abbrev pub is_defined_symbol : List ℕ → ℕ → Bool
 is_defined_symbol b k =

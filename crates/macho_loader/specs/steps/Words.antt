@@ -1,7 +1,6 @@
 -- What the walks along the chains say of the words that they came to.
 use Rattle.std.specs.Prelude.{◌≡◌, ℕ, ◌<◌, ◌^◌, List, All, true}
 use Rattle.macho_model.specs.Images.{segments_of}
-use Rattle.macho_model.specs.LoadRules.{file_part_inside, begins_behind}
 use Rattle.macho_model.specs.Loader.{WordFits}
 use Rattle.macho_model.specs.declared.rules.LoadRule.{LoadRule}
 use Rattle.macho_model.specs.declared.rules.LoadRule.TheVariants.{L10}
@@ -11,6 +10,7 @@ use Rattle.macho_memory_walks.specs.Readings.{IsNth, HasWord, segment_there}
 use Rattle.macho_memory_walks.specs.steps.Walks.{Leads}
 use Rattle.macho_model_walks.specs.steps.WordTests.{address_in, FitFrom}
 use Rattle.macho_loader.specs.declared.word_rules.Chained.{Chained}
+use Rattle.macho_model.specs.SegmentRules.{begins_behind, file_part_inside}
 
 -- the segments stand in order, and their file bytes in their memory: so no two of them have a word at one address
 pub record StandApart (b : List ℕ) : Type 0 where

@@ -4,7 +4,7 @@ use Rattle.macho_model_walks.specs.declared.loader_rules.Asked.{Asked}
 use Rattle.macho_memory_walks.specs.declared.walk.Listed.TheVariants as list
 use Rattle.macho_model.specs.Commands.{command_at, commands_of, command_fits, numbered}
 use Rattle.macho_model.specs.Images.{segments_of, Table, tables_of, fixups_header, import_place, segments_named}
-use Rattle.macho_model.specs.LoadRules.{image_head_fits, needed_in_image, protections_fit, file_part_inside, segment_is_paged, segment_ends, begins_behind, text_holds_commands, table_fits, import_fits}
+use Rattle.macho_model.specs.LoadRules.{image_head_fits, needed_in_image, table_fits, import_fits, protections_fit}
 use Rattle.macho_model.specs.declared.rules.LoadRule.{LoadRule}
 use Rattle.macho_model.specs.declared.rules.LoadRule.TheVariants.{L1, L2, L3, L4, L5, L6, L7, L8, L9, L10}
 use Rattle.macho_model.specs.ObjectRules.{commands_inside}
@@ -17,6 +17,7 @@ use Rattle.macho_model.specs.Loader.{segment_in, WordFits, NeighbourFails}
 use Rattle.macho_model.specs.Chain.{OnPageChain, chain_segment, chain_segments}
 use Rattle.macho_memory_walks.specs.Readings.{listed, IsNth, table_there}
 use Rattle.macho_model_walks.specs.Tests.{list_of, test_of}
+use Rattle.macho_model.specs.SegmentRules.{segment_ends, begins_behind, file_part_inside, segment_is_paged, text_holds_commands}
 
 -- the command with a number, if there is one, passes
 abbrev pub NumberPasses : List ℕ → Asked → ℕ → Type 0

@@ -10,7 +10,8 @@ use Rattle.macho_memory_walks.specs.declared.walk.Listed.TheVariants as list
 use Rattle.macho_memory_walks.specs.Readings.{IsNth, segment_there}
 use Rattle.macho_model_walks.specs.Tests.{page_holds}
 use Rattle.macho_memory_walks.specs.steps.Walks.{Leads, chain_segment_at, word_in, stands_in}
-use Rattle.macho_model.specs.Loader.{is_bind, ordinal_of, import_count, WordFits}
+use Rattle.macho_model.specs.Loader.{is_bind, ordinal_of, WordFits}
+use Rattle.macho_model.specs.steps.Loader.{import_count}
 
 -- the import of a word exists, where a segment has a word there and it binds one
 abbrev pub import_exists : List ℕ → ℕ → ChainSegment → Bool

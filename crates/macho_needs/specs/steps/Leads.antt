@@ -7,7 +7,7 @@ use Rattle.macho_model.specs.declared.targets.Target.TheVariants as target
 use Rattle.macho_model.specs.Objects.{section_at}
 use Rattle.macho_model.specs.Links.{Link, is_carried}
 use Rattle.macho_model.specs.Resolution.{SymbolId}
-use Rattle.macho_model.specs.Targets.{target_with}
+use Rattle.macho_model.specs.Uses.{target_with}
 use Rattle.macho_names.specs.declared.fault.SymbolFault.{SymbolFault}
 use Rattle.macho_symbols.specs.Kept.{symbol_id}
 use Rattle.macho_symbols.specs.Told.{IsDefined, IsUndefined, noting}

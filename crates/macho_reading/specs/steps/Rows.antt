@@ -4,7 +4,8 @@ use Rattle.macho_structs.specs.declared.relocations.RelocationInfo.{RelocationIn
 use Rattle.macho_object.specs.Views.{FileBytes}
 use Rattle.macho_model.specs.Grammar.{IsFile}
 use Rattle.macho_model.specs.Links.{Input, Link, SectionId, section_id}
-use Rattle.macho_model.specs.Needs.{Use, relocation_in}
+use Rattle.macho_model.specs.Needs.{relocation_in}
+use Rattle.macho_model.specs.Uses.{Use}
 use Rattle.macho_model.specs.Consumed.{is_plain_pointer}
 use Rattle.macho_names.specs.Kept.{FileRows, Keeps}
 use Rattle.macho_symbols.specs.Kept.{ResolvedRows, HasSymbol}

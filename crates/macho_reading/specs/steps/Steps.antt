@@ -2,7 +2,7 @@
 use Rattle.std.specs.Prelude.{◌≡◌, ℕ, ◌++◌, true, List, Option}
 use Rattle.macho_object.specs.Views.{FileBytes}
 use Rattle.macho_model.specs.Links.{Link}
-use Rattle.macho_model.specs.Needs.{Use, uses_of}
+use Rattle.macho_model.specs.Uses.{Use, uses_of}
 use Rattle.macho_model.specs.Faults.{entry_is_defined}
 use Rattle.macho_exports.specs.Entries.{ListEntries}
 use Rattle.macho_symbols.specs.Exported.{AreLists}

@@ -5,7 +5,8 @@ use Rattle.macho_object.specs.Views.{RelocationBytes}
 use Rattle.macho_model.specs.Objects.{num_sections, section_at}
 use Rattle.macho_model.specs.Grammar.{IsObject}
 use Rattle.macho_model.specs.Links.{SectionId}
-use Rattle.macho_model.specs.Needs.{Use, ByInitializer, ByPersonality, POINTER_SIZE, UNWIND_ENTRY_SIZE, PERSONALITY_PLACE}
+use Rattle.macho_model.specs.Needs.{POINTER_SIZE, UNWIND_ENTRY_SIZE, PERSONALITY_PLACE}
+use Rattle.macho_model.specs.Uses.{Use, ByInitializer, ByPersonality}
 use Rattle.macho_model.specs.Consumed.{is_plain_pointer}
 use Rattle.macho_names.specs.Kept.{FileRows}
 use Rattle.macho_survey.specs.steps.Sections.{HasRows}

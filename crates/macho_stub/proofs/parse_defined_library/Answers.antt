@@ -1,6 +1,7 @@
 use Rattle.macho_stub.specs.Library.{library_fields}
 use Rattle.macho_stub.proofs.Answered.{found, only, fault, told}
 use Rattle.macho_stub.proofs.NoNuls.{plain_answer}
+use Rattle.macho_stub.proofs.Trees.{in_places, in_grammar}
 use Rattle.macho_stub.proofs.TreesStand.{text_stands}
 use Rattle.macho_stub.proofs.parse_defined_library.Goals as goal
 
@@ -8,7 +9,11 @@ pub returns-clause-found : goal.returns-clause-found
 returns-clause-found c = found library_fields c.args.input.now c.answer.result c.answer.ensures
 
 pub returns-clause-slices : goal.returns-clause-slices
-returns-clause-slices c = text_stands c.args.input.now
+returns-clause-slices c = record {
+  has = in_places c.args.input.now;
+  in_grammar = in_grammar c.args.input.now;
+  stand = text_stands c.args.input.now;
+}
 
 pub returns-clause-only : goal.returns-clause-only
 returns-clause-only c = λ says is. only library_fields c.args.input.now c.answer.result says c.answer.ensures is

@@ -1,4 +1,4 @@
--- Documents and items as trees whose entries say what stands under them: lines, or items. The grammar has the same with the
+-- Documents and items as trees whose entries say what stands under them: lines, or items. `Places` has the same with the
 -- lines alone (`proofs/Unders`).
 use Rattle.std.specs.Prelude.{◌≡◌, ◌≢◌, ℕ, ◌+◌, ◌<◌, ◌⊎◌, Bool, true, false, List, [], ◌∷◌, ◌++◌, Option}
 use Rattle.std.specs.Prelude.{Some, None, nat_lt, slice_index, codes}
@@ -12,7 +12,9 @@ use Rattle.macho_stub_lines.specs.Spelling.{EntryTree, IsEntry, entry_bytes, val
 use Rattle.macho_stub_lines.specs.Spelling.{IsNumberValue}
 use Rattle.macho_stub_lines.specs.FlowLists.{IsFlowList}
 use Rattle.macho_stub.specs.Documents.{ItemOf, DocumentOf}
-use Rattle.macho_stub.specs.Grammar.{SaysAlone, Entry, SaysItem, item_keys, ItemTree, column_of, items_then, entries_of, document_keys, end_then, no_text}
+use Rattle.macho_stub.specs.Grammar.{item_keys}
+use Rattle.macho_stub.specs.Places.{SaysAlone, document_keys}
+use Rattle.macho_stub.specs.Places.{Entry, SaysItem, ItemTree, column_of, items_then, entries_of, end_then, no_text}
 
 abbrev pub ItemEntry : Type 0
 ItemEntry = Entry

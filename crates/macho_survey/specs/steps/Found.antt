@@ -2,7 +2,7 @@
 use Rattle.std.specs.Prelude.{◌≡◌, ◌<◌, Bool, true, false, List, Option, Some, None, IfSome, All, Contains}
 use Rattle.macho_records.specs.Sections.{segment_name_of}
 use Rattle.macho_model.specs.Links.{Link, SectionId, section_id, header_at, carried_of}
-use Rattle.macho_model.specs.Needs.{Use}
+use Rattle.macho_model.specs.Uses.{Use}
 use Rattle.macho_model.specs.Targets.{is_import}
 use Rattle.macho_model.specs.Rows.{is_supported, share_byte, are_pair}
 use Rattle.macho_model.specs.Segments.{may_hold_pointers}

@@ -10,7 +10,7 @@ use Rattle.macho_records.specs.declared.constants.TheConstants.{ARM64_RELOC_UNSI
 use Rattle.macho_model.specs.declared.targets.Target.{Target}
 use Rattle.macho_model.specs.Objects.{num_sections, section_at, section_bytes, relocation_at}
 use Rattle.macho_model.specs.Links.{Input, Object, Link, SectionId, section_id, no_input, header_at, is_carried, sections_of_file}
-use Rattle.macho_model.specs.Needs.{Use, carried_uses}
+use Rattle.macho_model.specs.Uses.{Use, carried_uses}
 use Rattle.macho_model.specs.Targets.{is_import}
 use Rattle.macho_model.specs.Segments.{may_hold_pointers}
 use Rattle.macho_model.specs.Values.{fits_signed, is_absolute_target}

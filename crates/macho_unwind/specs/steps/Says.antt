@@ -5,8 +5,9 @@ use Rattle.macho_unwind_pages.specs.declared.plans.Lsda.{Lsda}
 use Rattle.macho_unwind_pages.specs.declared.paging.Row.{Row}
 use Rattle.macho_unwind_pages.specs.Plans.{PlanList}
 use Rattle.macho_unwind_pages.specs.steps.Words.{rows_of}
-use Rattle.macho_unwind.specs.Sections.{personality_in, without_personality}
+use Rattle.macho_unwind.specs.Sections.{personality_in}
 use Rattle.macho_unwind.specs.declared.lookup.Found.{Found}
+use Rattle.macho_unwind.specs.steps.Sections.{without_personality}
 
 -- A slot of a list by its number from 1 on.
 pub record IsSlot (slots : List ℕ) (number slot : ℕ) : Type 0 where

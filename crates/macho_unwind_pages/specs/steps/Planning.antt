@@ -6,8 +6,9 @@ use Rattle.macho_unwind_pages.specs.declared.plans.Lsda.{Lsda}
 use Rattle.macho_unwind_pages.specs.Entries.{MOST_PERSONALITIES, place_in, input_of, code_in}
 use Rattle.macho_unwind_pages.specs.steps.Ranks.{ranked, IsNumberOf}
 use Rattle.macho_unwind_pages.specs.Bounds.{globals_of}
-use Rattle.macho_unwind_pages.specs.Plans.{PlanList, row_from, HasSlot}
+use Rattle.macho_unwind_pages.specs.Plans.{PlanList}
 use Rattle.macho_unwind_pages.specs.steps.Paging.{ArePages}
+use Rattle.macho_unwind_pages.specs.steps.Plans.{row_from, HasSlot}
 
 -- the addresses of an entry are told by offsets of 32 bits
 pub record IsNear (text : ℕ) (e : ResolvedUnwindInfo) : Type 0 where

@@ -2,7 +2,8 @@
 use Rattle.std.specs.Prelude.{◌≡◌, ℕ, ◌<◌, ◌==◌, if◌then◌else◌, None, Some, nat_eq, List, length, slice_index}
 use Rattle.indexmap.specs.IndexMap.{IndexMap, get}
 use Rattle.macho_unwind_pages.specs.Orders.{in_order}
-use Rattle.macho_unwind_pages.specs.Entries.{times, ranks_before}
+use Rattle.macho_unwind_pages.specs.Entries.{times}
+use Rattle.macho_unwind_pages.specs.steps.Entries.{ranks_before}
 
 -- the codes of a list by rank, each once
 abbrev pub ranked : List ℕ → List ℕ

@@ -1,6 +1,6 @@
 use Rattle.std.proofs.Common.{◌≡◌, take}
 use Rattle.std.specs.Prelude.{map}
-use Rattle.macho_promise.specs.FixupsSay.{fixup_segment}
+use Rattle.macho_parts.specs.steps.Segments.{fixup_segment}
 use Rattle.macho_chaining.proofs.segments.fixup_segments.Given as goal
 
 -- the segments so far

@@ -1,14 +1,14 @@
 use Rattle.std.proofs.Common.{ℕ, ◌*◌, length, ◌≡◌, ◌+◌, arith, ap, sym, ◌∙◌, subst}
 use Rattle.std.specs.List.{flat_map}
 use Rattle.macho_bytes.specs.Texts.{put}
-use Rattle.macho_bytes.specs.Layouts.{spelling, ReadsBack}
-use Rattle.macho_structs.specs.Layouts.{chained_fixups_header}
 use Rattle.macho_model.specs.Images.{import_entry_size}
 use Rattle.macho_structs.specs.declared.fixups.ChainedFixupsHeader.{ChainedFixupsHeader}
 use Rattle.macho_fixups.specs.Tables.{image_starts_text, image_starts_size, entry_text, table_header, table_text}
 use Rattle.macho_fixups.proofs.TableTexts.{joined, joined_long, header_long, names_near}
 use Rattle.macho_fixups.proofs.TableReading.{table_reads_back}
 use Rattle.macho_fixups.proofs.table.write_parts.Goals as goal
+use Rattle.macho_bytes.specs.Spellings.{spelling, ReadsBack}
+use Rattle.macho_structs.specs.Spellings.{chained_fixups_header_rows}
 
 pub overflow_cast-header-2 : goal.overflow_cast-header-2
 overflow_cast-header-2 c =
@@ -40,15 +40,15 @@ returns-clause-written c =
     ∙ ap (λ (n : ℕ). 28 + image_starts_size c.args.fixups.now c.args.segments.now + n * length c.args.imports.now) c.entry_size.ensures in
     let header = table_header c.args.fixups.now c.args.segments.now c.args.format c.args.imports.now in
     c.write.ensures.written
-    ∙ ap (λ (h : ChainedFixupsHeader). put 0 (spelling chained_fixups_header h) c.put_text.new.out)
+    ∙ ap (λ (h : ChainedFixupsHeader). put 0 (spelling chained_fixups_header_rows h) c.put_text.new.out)
     (ap (λ (n : ℕ). record header { imports_offset = c.write_image_starts-imports_at.result; symbols_offset = n }) at_names
     ∙ ap (λ (n : ℕ). record header { imports_offset = n }) at_imports)
-    ∙ ap (put 0 (spelling chained_fixups_header header))
+    ∙ ap (put 0 (spelling chained_fixups_header_rows header))
     (c.put_text.ensures ∙ ap (put _ c.args.names.now) (c.write_imports.ensures.written
     ∙ ap (put c.write_image_starts-imports_at.result imports) c.write_image_starts-imports_at.ensures.written))
     ∙ joined 28 c.write_image_starts-imports_at.result (c.write_image_starts-imports_at.result + c.entry_size.result * length
     c.args.imports.now)
-    (spelling chained_fixups_header header) starts imports c.args.names.now c.args.out.now
+    (spelling chained_fixups_header_rows header) starts imports c.args.names.now c.args.out.now
     (sym (header_long header)) (omega (arith, at_imports, c.write_image_starts-imports_at.ensures.long))
     (omega (arith, at_names, at_imports, c.write_imports.ensures.long)) (omega (arith, at_names, c.requires.room))
 
@@ -57,7 +57,7 @@ unfolding table_text
 returns-clause-long c =
     omega (
       arith,
-      joined_long (spelling chained_fixups_header (table_header c.args.fixups.now c.args.segments.now c.args.format c.args.imports.now))
+      joined_long (spelling chained_fixups_header_rows (table_header c.args.fixups.now c.args.segments.now c.args.format c.args.imports.now))
           (image_starts_text c.args.base c.args.fixups.now c.args.segments.now) (flat_map (entry_text c.args.format) c.args.imports.now)
           c.args.names.now,
       c.write_image_starts-imports_at.ensures.long,
@@ -77,6 +77,6 @@ returns-clause-read c =
     let same = ap (λ (n : ℕ). record header { imports_offset = c.write_image_starts-imports_at.result; symbols_offset = n }) at_names
     ∙ ap (λ (n : ℕ). record header { imports_offset = n }) at_imports in
     table_reads_back c.args.base c.args.fixups.now c.args.segments.now c.args.format c.args.imports.now c.args.names.now c.requires.fits
-    c.requires.entries c.write_imports.ensures.fits (subst (λ (h : ChainedFixupsHeader). ReadsBack chained_fixups_header h) same
+    c.requires.entries c.write_imports.ensures.fits (subst (λ (h : ChainedFixupsHeader). ReadsBack chained_fixups_header_rows h) same
     c.write.ensures.back)
     c.write_image_starts-imports_at.ensures.long (omega (arith, returns-clause-long c))

@@ -1,9 +1,9 @@
 -- The commands that were asked are those of segments.
 use Rattle.std.proofs.Common.{refl}
-use Rattle.macho_model.specs.LoadRules.{file_part_inside}
 use Rattle.macho_memory_walks.specs.Readings.{listed}
 use Rattle.macho_model.proofs.SegmentTests.{each_segment}
 use Rattle.macho_model_walks.proofs.accept.check_file_bytes.Goals as goal
+use Rattle.macho_model.specs.SegmentRules.{file_part_inside}
 
 pub returns-in-None-clause-ok : goal.returns-in-None-clause-ok
 unfolding listed

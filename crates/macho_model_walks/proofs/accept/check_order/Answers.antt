@@ -1,9 +1,9 @@
 -- The commands that were asked are those of segments.
 use Rattle.std.proofs.Common.{refl}
-use Rattle.macho_model.specs.LoadRules.{segment_ends, begins_behind}
 use Rattle.macho_memory_walks.specs.Readings.{listed}
 use Rattle.macho_model.proofs.SegmentTests.{each_segment, next_segments}
 use Rattle.macho_model_walks.proofs.accept.check_order.Goals as goal
+use Rattle.macho_model.specs.SegmentRules.{segment_ends, begins_behind}
 
 pub returns-in-None-clause-ok : goal.returns-in-None-clause-ok
 unfolding listed

@@ -3,12 +3,12 @@ use Rattle.std.proofs.Common.{◌≡◌, ◌+◌, true, refl, sym, subst, ◌∙
 use Rattle.macho_memory_walks.specs.declared.walk.Listed.TheVariants as list
 use Rattle.macho_records.specs.declared.constants.TheConstants.{LC_SEGMENT_64}
 use Rattle.macho_model.specs.Loader.{segment_in, NeighbourFails}
-use Rattle.macho_model.specs.LoadRules.{begins_behind}
 use Rattle.macho_model.specs.Commands.{command_at, numbered}
 use Rattle.macho_model_walks.proofs.RuleWalk.{neighbour_fails}
 use Rattle.macho_memory_walks.proofs.NumberedWalk.{nth_one}
 use Rattle.macho_memory_walks.proofs.WordWalk.{some_is}
 use Rattle.macho_model_walks.proofs.loader_rules.overlapping.Goals as goal
+use Rattle.macho_model.specs.SegmentRules.{begins_behind}
 
 pub returns-then-follows-clause-only : goal.returns-then-follows-clause-only
 returns-then-follows-clause-only c _ place next first second =

@@ -1,7 +1,7 @@
 use Rattle.std.proofs.Common.{◌++◌, List, take, All}
 use Rattle.std.specs.List.{flat_map}
 use Rattle.macho_model.specs.Links.{Input, Link}
-use Rattle.macho_model.specs.Needs.{Use}
+use Rattle.macho_model.specs.Uses.{Use}
 use Rattle.macho_names.specs.Kept.{Keeps}
 use Rattle.macho_parts.specs.Noted.{BeginsWith}
 use Rattle.macho_needs.specs.Noted.{IsNoted}

@@ -1,7 +1,7 @@
 -- Of each kind it is the use of that kind in the walk.
 use Rattle.std.proofs.Common.{Contains, subst}
 use Rattle.std.proofs.lemmas.Result.{err_from_is_err_and}
-use Rattle.macho_model.specs.Needs.{uses_of}
+use Rattle.macho_model.specs.Uses.{uses_of}
 use Rattle.macho_consumed.specs.declared.listing.Kind.{Kind}
 use Rattle.macho_reading.specs.steps.Uses.{use_of}
 use Rattle.macho_reading.proofs.Placed.{still_resolved}

@@ -1,5 +1,6 @@
 use Rattle.std.proofs.Common.{◌∙◌}
-use Rattle.macho_stub_lines.specs.Bytes.{is_barred, has_barred}
+use Rattle.macho_stub_lines.specs.Bytes.{has_barred}
+use Rattle.macho_stub_lines.specs.steps.Bytes.{is_barred}
 use Rattle.macho_stub_lines.proofs.Found.{any_found}
 use Rattle.macho_stub_lines.proofs.bytes.has_barred.Goals as goal
 

@@ -1,4 +1,5 @@
-use Rattle.macho_stub_lines.specs.Bytes.{is_space, indent}
+use Rattle.macho_stub_lines.specs.Bytes.{indent}
+use Rattle.macho_stub_lines.specs.steps.Bytes.{is_space}
 use Rattle.macho_stub_lines.proofs.Cuts.{run_cut, space_ascii}
 use Rattle.macho_stub_lines.proofs.keys.unspaced.Goals as goal
 

@@ -6,7 +6,7 @@ use Rattle.macho_records.specs.Sections.{segment_name_of}
 use Rattle.macho_model.specs.Links.{header_at}
 use Rattle.macho_model.specs.Objects.{section_at, relocation_at}
 use Rattle.macho_model.specs.Grammar.{IsFile, IsObject}
-use Rattle.macho_model.specs.Needs.{ByRelocation}
+use Rattle.macho_model.specs.Uses.{ByRelocation}
 use Rattle.macho_survey.specs.declared.pairs.Seen.{Seen}
 use Rattle.macho_bytes.specs.Texts.{name_of}
 use Rattle.macho_model.specs.Segments.{may_hold_pointers}

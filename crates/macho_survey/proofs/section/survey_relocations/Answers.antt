@@ -5,7 +5,7 @@ use Rattle.std.proofs.lemmas.Bool.{OnTrue_from}
 use Rattle.std.proofs.lemmas.Result.{err_from_is_err_and}
 use Rattle.macho_model.specs.Objects.{section_at}
 use Rattle.macho_model.specs.Links.{header_at}
-use Rattle.macho_model.specs.Needs.{ByRelocation, carried_uses, Use}
+use Rattle.macho_model.specs.Uses.{ByRelocation, carried_uses, Use}
 use Rattle.macho_object.specs.Views.{RelocationBytes}
 use Rattle.macho_parts.specs.Noted.{imports_in}
 use Rattle.macho_survey.specs.steps.Found.{IsSurveyed}

@@ -1,6 +1,6 @@
 use Rattle.std.proofs.Common.{◌≡◌, List, ◌++◌, take, Contains}
 use Rattle.macho_model.specs.Links.{Input, Link, SectionId, object_of, carried_of}
-use Rattle.macho_model.specs.Needs.{Use, carried_uses}
+use Rattle.macho_model.specs.Uses.{Use, carried_uses}
 use Rattle.macho_names.specs.Kept.{Keeps}
 use Rattle.macho_parts.specs.Noted.{BeginsWith}
 use Rattle.macho_survey.specs.steps.Found.{IsSurveyed}

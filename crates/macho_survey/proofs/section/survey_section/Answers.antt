@@ -1,7 +1,7 @@
 -- The section is looked at relocation by relocation, then as a whole.
 use Rattle.std.proofs.Common.{◌≡◌, [], ◌∷◌, ◌++◌, nat_lt, sym, ap, ◌∙◌, subst}
 use Rattle.std.proofs.lemmas.Result.{err_from_is_err_and}
-use Rattle.macho_model.specs.Needs.{carried_uses}
+use Rattle.macho_model.specs.Uses.{carried_uses}
 use Rattle.macho_object.specs.Views.{RelocationBytes, section_count}
 use Rattle.macho_survey.specs.declared.findings.Findings.{Findings}
 use Rattle.macho_survey.specs.steps.Found.{first_of, IsSurveyed}

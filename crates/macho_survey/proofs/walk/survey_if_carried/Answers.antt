@@ -2,7 +2,7 @@
 use Rattle.std.proofs.Common.{List, ◌++◌, nat_lt, sym, ap, ◌∙◌, subst}
 use Rattle.macho_model.specs.Objects.{section_at}
 use Rattle.macho_model.specs.Links.{is_carried, section_id}
-use Rattle.macho_model.specs.Needs.{Use}
+use Rattle.macho_model.specs.Uses.{Use}
 use Rattle.macho_parts.specs.Noted.{BeginsWith}
 use Rattle.macho_object.specs.Views.{section_count}
 use Rattle.macho_needs.proofs.Pointers.{on_ok}

@@ -1,6 +1,6 @@
 use Rattle.std.proofs.Common.{List, ◌++◌, take}
 use Rattle.macho_model.specs.Links.{Input, Object, Link, SectionId, sections_of_file}
-use Rattle.macho_model.specs.Needs.{Use}
+use Rattle.macho_model.specs.Uses.{Use}
 use Rattle.macho_names.specs.Kept.{Keeps}
 use Rattle.macho_parts.specs.Noted.{BeginsWith}
 use Rattle.macho_survey.specs.steps.Found.{IsSurveyed}

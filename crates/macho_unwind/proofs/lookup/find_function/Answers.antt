@@ -4,8 +4,9 @@
 -- any numbers that have the one that was read at j: here the offset that word j has. So the best of the first j + 1 is
 -- known.
 use Rattle.std.proofs.Common.{ℕ, sym, ap}
-use Rattle.macho_unwind.specs.Sections.{word_at, offset_in}
+use Rattle.macho_unwind.specs.Sections.{word_at}
 use Rattle.macho_unwind.proofs.lookup.find_function.Goals as goal
+use Rattle.macho_unwind.specs.steps.Sections.{offset_in}
 
 pub loop-j-preserved : goal.loop-j-preserved
 loop-j-preserved c =

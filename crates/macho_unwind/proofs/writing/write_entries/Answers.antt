@@ -9,17 +9,17 @@ use Rattle.std.specs.List.{range_with_len}
 use Rattle.std.proofs.lemmas.List.{length-map}
 use Rattle.std.proofs.lemmas.List.FromFn.{length-range_with_len, get_or-range_with_len}
 use Rattle.macho_bytes.specs.Texts.{put}
-use Rattle.macho_bytes.specs.Layouts.{spelling}
 use Rattle.macho_bytes.proofs.Sequences.{texts_begin, texts_go_on, texts_end}
 use Rattle.macho_unwind_pages.specs.declared.plans.Page.{Page}
 use Rattle.macho_unwind_pages.specs.Plans.{plan_list, page_list}
 use Rattle.macho_unwind.specs.declared.records.PageEntry.{PageEntry}
-use Rattle.macho_unwind.specs.Layouts.{page_entry}
 use Rattle.macho_unwind.specs.Texts.{entries_place}
 use Rattle.macho_unwind.specs.steps.Tables.{entry_text}
 use Rattle.macho_unwind.proofs.Lengths.{length-entry_text}
 use Rattle.macho_unwind.proofs.Places.{place-grows, page_formed, place_more, entry_is}
 use Rattle.macho_unwind.proofs.writing.write_entries.Goals as goal
+use Rattle.macho_bytes.specs.Spellings.{spelling}
+use Rattle.macho_unwind.specs.Spellings.{page_entry_rows}
 
 pub loop-page-init : goal.loop-page-init
 loop-page-init c = (
@@ -88,7 +88,7 @@ loop-page-preserved c =
           c.args.out.now c.loop-page.out c.write.new.out within number c.loop-page.invariant.2
           (omega (arith, length-entry_text (plan_list plan) i))
           (omega (arith, c.loop-page.invariant.1, c.requires.room, length-map plan.pages.items page_list))
-          (c.write.ensures.written ∙ ap (λ (e : PageEntry). put c.loop-page.at (spelling page_entry e) c.loop-page.out) entry),
+          (c.write.ensures.written ∙ ap (λ (e : PageEntry). put c.loop-page.at (spelling page_entry_rows e) c.loop-page.out) entry),
     )
 
 pub returns : goal.returns

@@ -9,19 +9,20 @@ use Rattle.std.specs.List.{flat_map, range_with_len}
 use Rattle.std.proofs.lemmas.List.{length-map}
 use Rattle.macho_bytes.specs.Numbers.{little, row_bytes}
 use Rattle.macho_bytes.specs.Texts.{put}
-use Rattle.macho_bytes.specs.Layouts.{spelling}
 use Rattle.macho_bytes.proofs.Numbers.{length-row_little}
 use Rattle.macho_unwind_pages.specs.declared.plans.Page.{Page}
 use Rattle.macho_unwind_pages.specs.declared.plans.Lsda.{Lsda}
 use Rattle.macho_unwind_pages.specs.Plans.{plan_list, page_list, page_size}
 use Rattle.macho_unwind.specs.declared.records.CompactUnwindInfoHeader.{CompactUnwindInfoHeader}
-use Rattle.macho_unwind.specs.Layouts.{compact_unwind_info_header, page_entry}
-use Rattle.macho_unwind.specs.Texts.{header_for, personalities_place, entries_place, lsdas_place, pages_place, last_entry_for, page_text, section_text}
+use Rattle.macho_unwind.specs.Texts.{personalities_place, entries_place, lsdas_place, pages_place, page_text, section_text}
 use Rattle.macho_unwind.specs.steps.Tables.{entry_text, lsda_text}
 use Rattle.macho_unwind.proofs.Lengths.{length-header_text, length-entries, length-last_entry_text, length-lsdas, length-pages}
 use Rattle.macho_unwind.proofs.Places.{pages_short, texts-listed}
 use Rattle.macho_unwind.proofs.Joining.{IsPutUpTo, put_next}
 use Rattle.macho_unwind.proofs.writing.write_plan.Goals as goal
+use Rattle.macho_bytes.specs.Spellings.{spelling}
+use Rattle.macho_unwind.specs.Spellings.{compact_unwind_info_header_rows, page_entry_rows}
+use Rattle.macho_unwind.specs.steps.Records.{header_for, last_entry_for}
 
 pub write_pages-requires-clause-words : goal.write_pages-requires-clause-words
 write_pages-requires-clause-words c =
@@ -34,16 +35,16 @@ write_pages-requires-clause-locals c =
     subst P (sym c.as_slice-4.ensures.value) (λ k d h. omega (arith, pages_short c.args.plan.now c.requires.plan k d h))
 
 pub returns : goal.returns
-unfolding section_text
+unfolding section_text spelling
 returns c =
     let plan = plan_list c.args.plan.now in
     let items = c.args.plan.now.pages.items in
     let out = c.args.out.now in
     let room = c.requires.room in
     let pages = length-map items page_list in
-    let header : IsPutUpTo out c.write.new.out (spelling compact_unwind_info_header (header_for plan)) 28 = record {
+    let header : IsPutUpTo out c.write.new.out (spelling compact_unwind_info_header_rows (header_for plan)) 28 = record {
       is = c.write.ensures.written
-          ∙ ap (λ (h : CompactUnwindInfoHeader). put 0 (spelling compact_unwind_info_header h) out) c.header_of.ensures;
+          ∙ ap (λ (h : CompactUnwindInfoHeader). put 0 (spelling compact_unwind_info_header_rows h) out) c.header_of.ensures;
       long = length-header_text plan;
     } in
     let globals = put_next out c.write.new.out c.put_littles.new.out _ (row_bytes little 4 plan.globals) 28 (personalities_place plan) header
@@ -62,7 +63,7 @@ returns c =
     (c.write_entries.ensures
     ∙ ap (λ (n : ℕ). put (entries_place plan) (flat_map (entry_text plan) (range_with_len 0 n)) c.put_littles-2.new.out) (sym pages))
     (omega (arith, length-entries plan (length plan.pages), pages)) (omega (arith, room, pages)) in
-    let last = put_next out c.write_entries.new.out c.write_last_entry.new.out _ (spelling page_entry (last_entry_for plan))
+    let last = put_next out c.write_entries.new.out c.write_last_entry.new.out _ (spelling page_entry_rows (last_entry_for plan))
     (entries_place plan + 12 * length items) (lsdas_place plan) entries c.write_last_entry.ensures
     (omega (arith, length-last_entry_text plan, pages)) (omega (arith, room)) in
     let lsdas = put_next out c.write_last_entry.new.out c.write_lsdas.new.out _ (flat_map lsda_text plan.lsdas)

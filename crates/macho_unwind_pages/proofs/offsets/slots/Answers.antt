@@ -7,10 +7,10 @@ use Rattle.std.proofs.Common.{◌-◌, ◌<◌, ◌^◌, get_or, ◌∙◌, refl
 use Rattle.std.proofs.lemmas.List.Elements.{All-set}
 use Rattle.macho_unwind_pages.proofs.Gathered.{none}
 use Rattle.std.proofs.lemmas.List.{length-set}
-use Rattle.macho_unwind_pages.specs.Plans.{HasSlot}
 use Rattle.macho_unwind_pages.proofs.Told.{slots_more, slots_passed, near_slot, all_done}
 use Rattle.macho_unwind_pages.proofs.offsets.slots.Goals as goal
 use Rattle.macho_unwind_pages.proofs.offsets.slots.Goals.{in-Some, in_default}
+use Rattle.macho_unwind_pages.specs.steps.Plans.{HasSlot}
 
 pub loop-entry-preserved : goal.loop-entry-preserved
 loop-entry-preserved c =

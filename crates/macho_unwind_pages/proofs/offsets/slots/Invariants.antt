@@ -4,8 +4,8 @@
 -- stands at the place of its id.
 use Rattle.std.proofs.Common.{◌≡◌, ◌<◌, ◌^◌, take, length}
 use Rattle.std.specs.List.{All}
-use Rattle.macho_unwind_pages.specs.Plans.{HasSlot}
 use Rattle.macho_unwind_pages.proofs.offsets.slots.Given as goal
+use Rattle.macho_unwind_pages.specs.steps.Plans.{HasSlot}
 
 abbrev pub invariant-loop-entry : goal.invariant-loop-entry
 invariant-loop-entry l = record {

@@ -7,12 +7,13 @@ use Rattle.std.specs.List.{All, AllPairs, list_any}
 use Rattle.std.proofs.lemmas.List.{length-map}
 use Rattle.std.proofs.lemmas.List.Elements.{All-map}
 use Rattle.macho_unwind_pages.specs.Bounds.{globals_of}
-use Rattle.macho_unwind_pages.specs.Plans.{Row, row_from, page_list}
+use Rattle.macho_unwind_pages.specs.Plans.{Row, page_list}
 use Rattle.macho_unwind_pages.specs.steps.Paging.{ArePages}
 use Rattle.macho_unwind_pages.proofs.Gathered.{rows_rise}
 use Rattle.macho_unwind_pages.specs.steps.Ranks.{ranked}
 use Rattle.macho_unwind_pages.proofs.Planned.{assembled_of, is_plan}
 use Rattle.macho_unwind_pages.proofs.planning.assembled.Goals as goal
+use Rattle.macho_unwind_pages.specs.steps.Plans.{row_from}
 
 pub globals_and_pages-requires-clause-some : goal.globals_and_pages-requires-clause-some
 globals_and_pages-requires-clause-some c =

@@ -6,7 +6,7 @@ use Rattle.wild_macho.proofs.Joining.{answers-written}
 use Rattle.wild_macho.proofs.passes.link_args.Goals as goal
 
 pub write_image-requires : goal.write_image-requires
-write_image-requires g c = c.in-Ok.ensures.made.is_image.answer.linked.laid_out.order.sections
+write_image-requires g c = c.in-Ok.ensures.made.is_image.answer.linked.loadable.placed.whole_list.sections
 
 pub returns-in-Ok-clause-done : goal.returns-in-Ok-clause-done
 returns-in-Ok-clause-done g c =

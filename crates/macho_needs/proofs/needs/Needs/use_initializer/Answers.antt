@@ -1,7 +1,8 @@
 -- The name is noted, and nothing else is asked for.
 use Rattle.std.proofs.Common.{◌≡◌, true, refl, ◌∙◌, ap, subst}
-use Rattle.macho_model.specs.Needs.{ByInitializer, global_name}
-use Rattle.macho_model.specs.Targets.{target_of_relocation, target_with}
+use Rattle.macho_model.specs.Uses.{ByInitializer, global_name}
+use Rattle.macho_model.specs.Targets.{target_of_relocation}
+use Rattle.macho_model.specs.Uses.{target_with}
 use Rattle.macho_model.specs.Consumed.{is_plain_pointer}
 use Rattle.macho_faults.specs.Standing.{Stands}
 use Rattle.macho_symbols.specs.Kept.{symbol_id}

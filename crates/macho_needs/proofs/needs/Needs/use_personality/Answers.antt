@@ -1,7 +1,7 @@
 -- The name is noted, and the target gets a slot.
 use Rattle.std.proofs.Common.{◌≡◌, true, Some, refl, ◌∙◌, ap, subst}
 use Rattle.std.proofs.lemmas.Result.{err_from_is_err_and}
-use Rattle.macho_model.specs.Needs.{ByPersonality, global_name}
+use Rattle.macho_model.specs.Uses.{ByPersonality, global_name}
 use Rattle.macho_model.specs.Targets.{same_target}
 use Rattle.macho_model.specs.Consumed.{is_plain_pointer}
 use Rattle.macho_symbols.specs.Kept.{symbol_id}

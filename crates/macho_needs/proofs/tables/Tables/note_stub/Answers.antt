@@ -3,7 +3,8 @@ use Rattle.indexmap.specs.IndexSet.{insert_key}
 use Rattle.macho_records.specs.declared.constants.TheConstants.{ARM64_RELOC_BRANCH26}
 use Rattle.macho_model.specs.declared.targets.Target.{Target}
 use Rattle.macho_model.specs.declared.targets.Target.TheVariants as target
-use Rattle.macho_model.specs.Targets.{same_target, stub_of_relocation}
+use Rattle.macho_model.specs.Targets.{same_target}
+use Rattle.macho_model.specs.Uses.{stub_of_relocation}
 use Rattle.macho_needs.specs.Tables.{Numbered, target_of, with_some}
 use Rattle.macho_symbols.specs.Entries.{entry_of}
 use Rattle.macho_needs.proofs.Mapped.{stub_put}

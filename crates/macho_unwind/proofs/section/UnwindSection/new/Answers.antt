@@ -9,7 +9,8 @@ use Rattle.std.proofs.lemmas.Bool.Decides.{nat_tests}
 use Rattle.std.proofs.lemmas.List.{length-map}
 use Rattle.macho_unwind_pages.specs.Plans.{plan_list, page_list}
 use Rattle.macho_unwind.proofs.EntryRows.{made_of}
-use Rattle.macho_unwind.proofs.EntryLookup.{written, finds-entries, finds-only-entries, no-ids, some-page}
+use Rattle.macho_unwind.specs.Texts.{section_text}
+use Rattle.macho_unwind.proofs.EntryLookup.{sections_are_read, no-ids, some-page}
 use Rattle.macho_unwind.proofs.Lengths.{length-section}
 use Rattle.macho_unwind.proofs.OnePlace.{no_far_page, no_page_at_all}
 use Rattle.macho_unwind.proofs.section.UnwindSection.new.Goals as goal
@@ -40,19 +41,29 @@ section_size-requires-clause-some c =
     )
 
 pub returns-clause-done : goal.returns-clause-done
-returns-clause-done c some = record { plan = plan_list c.in_ok-plan.plan; of_entries = c.in_ok-plan.ensures.done; is = refl }
+returns-clause-done c some = record {
+  plan = plan_list c.in_ok-plan.plan;
+  of_entries = c.in_ok-plan.ensures.done;
+  formed = c.in_ok-plan.ensures.formed;
+  places = c.in-Some.ensures.1;
+  is = refl;
+}
 
 pub returns-clause-found : goal.returns-clause-found
 returns-clause-found c =
-    finds-entries c.args.text_start c.args.entries.now _ c.requires
-    (written c.args.text_start c.args.entries.now (plan_list c.in_ok-plan.plan) c.requires c.in_ok-plan.ensures.done
-    c.in_ok-plan.ensures.formed c.in-Some.ensures.1)
+    (sections_are_read c.args.text_start c.args.entries.now (section_text (plan_list c.in_ok-plan.plan)) c.requires
+    (record {
+      plan = plan_list c.in_ok-plan.plan;
+      of_entries = c.in_ok-plan.ensures.done;
+      formed = c.in_ok-plan.ensures.formed;
+      places = c.in-Some.ensures.1;
+      is = refl;
+    })).0
 
 pub returns-clause-only : goal.returns-clause-only
 returns-clause-only c some =
-    finds-only-entries c.args.text_start c.args.entries.now _ c.requires
-    (written c.args.text_start c.args.entries.now (plan_list c.in_ok-plan.plan) c.requires c.in_ok-plan.ensures.done
-    c.in_ok-plan.ensures.formed c.in-Some.ensures.1)
+    (sections_are_read c.args.text_start c.args.entries.now (section_text (plan_list c.in_ok-plan.plan)) c.requires
+    (returns-clause-done c some)).1
 
 pub returns-clause-room : goal.returns-clause-room
 returns-clause-room c span spans =
