@@ -5,11 +5,10 @@ believed.py --crate NAME    the files of a crate's specs/, and which definitions
 believed.py --shares        the definitions under `run` that take the most lines with them: what would go if nothing needed them
 believed.py --lines         writes the reading list and its parts into docs/THEOREMS.md, and the lines of the files that its tables name
 
-The size of what must be believed is all lines of the definitions under `run`: types, equations, fields, cases and their comments. The goal
-is MOST_LINES. It is reached without comments, which nobody has to believe, and not with them: so that what is reached stays, more lines
-without comments are refused, and the last line tells all of them.
+The size of what must be believed is the lines of the definitions under `run`: types, equations, fields and cases. Comments are told apart:
+no theorem rests on them.
 
-Refused are: more lines without comments than MOST_LINES under the clauses of `run`, a file of specs/steps/ under a clause of a public function of any crate
+Refused are: more lines than MOST_LINES under the clauses of `run`, a file of specs/steps/ under a clause of a public function of any crate
 (or under what a public type or trait stands for), a file of specs/ that imports one of specs/steps/, and a row of a table of sentences
 (README.md and docs/PROVED.md have these) that names a function or clause that isn't there. Refused is also a file of the reading list
 that isn't in just one row of the table of public sources (docs/THEOREMS.md), and a row of that table that names a file that isn't
@@ -26,7 +25,7 @@ BEGIN, END = "<!-- reading list -->\n", "<!-- end of the reading list -->\n"
 PARTS, PARTS_END = "<!-- parts -->\n", "<!-- end of the parts -->\n"
 SOURCES, SOURCES_END = "<!-- sources -->\n", "<!-- end of the sources -->\n"
 
-# The most lines of definitions under `run` without comments. It is the goal for all of them, with comments, too.
+# The most lines of definitions under `run`, without comments.
 MOST_LINES = 3500
 
 # The pages whose tables say which clause carries a sentence.
@@ -432,10 +431,9 @@ def print_run(world):
         total, whole, count = total + lines, whole + world.files[module].lines, count + len(found)
         print(f"{lines:5}  {short(module)}: {', '.join(one[1] for one in found)}")
     comments, types, others = kinds_of(world, files)
-    print(f"{total:5}  lines without comments, of at most {MOST_LINES}: {others} of equations, fields and cases, {types} of types")
-    print(f"{total + comments:5}  lines with the {comments} of comments, of {count} definitions in {len(files)} files, which have {whole} lines in all; the goal "
-          f"is {MOST_LINES}")
-    return ([f"{total} lines of definitions under `run` without comments, more than {MOST_LINES}"] if total > MOST_LINES else [])
+    print(f"{total:5}  lines, of at most {MOST_LINES}: {others} of equations, fields and cases, {types} of types")
+    print(f"{total + comments:5}  with the {comments} lines of their comments; {count} definitions in {len(files)} files, which have {whole} lines in all")
+    return ([f"{total} lines of definitions under `run`, more than {MOST_LINES}"] if total > MOST_LINES else [])
 
 
 def shares_of(world):

@@ -3,7 +3,8 @@
 docs/USAGE.md has each option, each rule on inputs, and the words of each line that is printed; docs/ARCHITECTURE.md has each crate once,
 and no other; each page that README.md names is there, and each file of docs/ is named there; crates.txt names for a crate the libraries
 that its files name, and no other, and those that its edits name; each edit of must-fail/ and planted/ fits its files; little is read along
-the paths down from its crates. `pages.py --paths` prints the libraries that cost most.
+the paths down from its crates. No line of a crate is wider than MOST_WIDE, but for imports and attributes. `pages.py --paths` prints the
+libraries that cost most.
 """
 import os
 import re
@@ -165,6 +166,26 @@ def print_paths():
         print(f"{left:9,.0f} {crate}: {name}")
 
 
+# A line of sources, definitions or proofs has at most so many characters, unless it is an import or an attribute.
+MOST_WIDE = 140
+
+
+def wrong_widths():
+    wrong = []
+    for crate in crates():
+        for at, _, names in os.walk(os.path.join(TOP, "crates", crate)):
+            for name in sorted(names):
+                if not name.endswith((".antt", ".rt")) or {"declared", "out"} & set(at.split(os.sep)):
+                    continue
+                path = os.path.relpath(os.path.join(at, name), TOP)
+                wrong += [
+                    f"{path}:{number} has {len(line)} characters"
+                    for number, line in enumerate(read(path).split("\n"), 1)
+                    if len(line) > MOST_WIDE and not re.match(r"\s*(?:(?:pub |ghost )*use |#!?\[)", line)
+                ]
+    return wrong
+
+
 def wrong_pages():
     told = set(re.findall(r"^\| `docs/(\w+\.md)` \|", read("README.md"), re.M))
     there = {name for name in os.listdir(os.path.join(TOP, "docs")) if name.endswith(".md")}
@@ -174,7 +195,7 @@ def wrong_pages():
 if __name__ == "__main__":
     if sys.argv[1:] == ["--paths"]:
         sys.exit(print_paths())
-    wrong = wrong_usage() + wrong_crates() + wrong_libraries() + wrong_edits() + wrong_paths() + wrong_pages()
+    wrong = wrong_usage() + wrong_crates() + wrong_libraries() + wrong_edits() + wrong_paths() + wrong_widths() + wrong_pages()
     for line in wrong:
         print(f"pages: {line}", file=sys.stderr)
     if not wrong:

@@ -1,6 +1,7 @@
 -- Tables of addresses, one section more.
 --
--- What was put in answers at its key, and all others as before; that is what the first of the sections with a key is, with one more in front.
+-- What was put in answers at its key, and all others as before; that is what the first of the sections with a key is, with one more in
+-- front.
 use Rattle.std.proofs.Common.{◌≡◌, ◌≤◌, ◌⊎◌, inl, inr, ℕ, zero, suc, ◌+◌, ◌<◌, ◌==◌, ◌&&◌, ◌++◌, nat_lt, Bool, true, false, cond, List, [], ◌∷◌, filter, length, get_or, slice_set, drop, Option, Some, unwrap_or, refl, sym, ap, ◌∙◌, arith}
 use Rattle.std.proofs.lemmas.List.{drop_more, map-set, length-map, get_or-set_other}
 use Rattle.std.proofs.lemmas.Grind.{get_or-set_at}

@@ -144,7 +144,8 @@ header_class l counts p n whole =
     ∙ ap name_of (output_class l counts n k d lt) ∙ whole)
 
 -- THE headers of all segments' names are the output sections
-pub headers-are : (l : Link) (counts : Counts) (p : Placed) → map (λ s. text_of s.name) p.segments ≡ segment_names_of l → EachNext (Follows l) p.segments
+pub headers-are : (l : Link) (counts : Counts) (p : Placed) → map (λ s. text_of s.name) p.segments ≡ segment_names_of l
+    → EachNext (Follows l) p.segments
     → p.output_sections ≡ output_sections_for l counts p → flat_map (headers_in p) p.segments ≡ p.output_sections
 unfolding output_sections_for output_sections_of
 headers-are l counts p texts follow are =

@@ -67,7 +67,8 @@ commands_sized l counts p uuid trie = simp sum_by-append (omega (
 ))
 
 -- THE end of the commands
-pub head_ends : (l : Link) (counts : Counts) (uuid b : List ℕ) (p : Placed) → CommandsSay l counts uuid b p → counts.commands ≡ commands_size l
+pub head_ends : (l : Link) (counts : Counts) (uuid b : List ℕ) (p : Placed) → CommandsSay l counts uuid b p
+    → counts.commands ≡ commands_size l
     → flat_map (headers_in p) p.segments ≡ p.output_sections → commands_end b + counts.padding ≡ head_size counts p
 unfolding commands_end header_for
 head_ends l counts uuid b p says counted headers =

@@ -31,7 +31,8 @@ use Rattle.macho_targets.proofs.Above.{next_follows, rises, positive, text_rank}
 use Rattle.macho_model.proofs.Outputs.{least_of}
 
 -- a file part behind another one begins where that one ends, or later
-pub file_behind : (l : Link) (segments : List PlacedSegment) (d : PlacedSegment) → EachNext (Follows l) segments → (i n j : ℕ) → j ≡ i + n + 1
+pub file_behind : (l : Link) (segments : List PlacedSegment) (d : PlacedSegment) → EachNext (Follows l) segments → (i n j : ℕ)
+    → j ≡ i + n + 1
     → j < length segments
     → (get_or segments i d).file_offset + (get_or segments i d).file_size ≤ (get_or segments j d).file_offset
 file_behind l segments d follow i zero j is lt =

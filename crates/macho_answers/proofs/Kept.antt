@@ -33,7 +33,8 @@ placed_is_kept l counts p whole within are = record {
   laid_out = laid_out l counts p whole;
 }
 
-standing : (l : Link) (counts : Counts) (f : LinkFault) (o : Option Placed) → AreCounts l counts → kept_placement f ≡ o → IfSome o (IsKept l)
+standing : (l : Link) (counts : Counts) (f : LinkFault) (o : Option Placed) → AreCounts l counts → kept_placement f ≡ o
+    → IfSome o (IsKept l)
     → FaultStands l counts f → (others : Counts) → AreCounts l others → IsStanding l others f
 standing l counts f o are kept keeps stands others other = record {
   stands = subst (λ (c : Counts). FaultStands l c f) (sizes_one l counts others are other) stands;

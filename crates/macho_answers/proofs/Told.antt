@@ -78,7 +78,8 @@ spared l counts (BindAddend file section relocation addend) never stands =
     absurd (never (model.BindAddend file section relocation addend) stands)
 spared l counts (FixupPlace file section relocation placement) never stands =
     absurd (never (model.FixupPlace file section relocation (option_map placed_of placement)) stands)
-spared l counts (TooMany what number placement) never stands = absurd (never (model.TooMany what number (option_map placed_of placement)) stands)
+spared l counts (TooMany what number placement) never stands =
+    absurd (never (model.TooMany what number (option_map placed_of placement)) stands)
 spared l counts (ImageTooLarge placement) never stands = absurd (never (model.ImageTooLarge (option_map placed_of placement)) stands)
 spared l counts (RebaseTarget at placement) never stands = absurd (never (model.RebaseTarget at (placed_of placement)) stands)
 spared l counts (RelocationRange at placement) never stands = absurd (never (model.RelocationRange at (placed_of placement)) stands)

@@ -1,6 +1,6 @@
--- The options of the command line, one row for each name. The manual page ld(1) of Apple's linker says what
+-- The options of the command line, by name. The manual page ld(1) of Apple's linker says what
 -- they mean there.
-use Rattle.std.specs.Prelude.{ℕ, List, [], ◌∷◌, codes, Option, Some, None, nat_eq, if◌then◌else◌}
+use Rattle.std.specs.Prelude.{ℕ, List, [], ◌∷◌, ◌++◌, map, codes, Option, Some, None, nat_eq, if◌then◌else◌}
 use Rattle.std.specs.List.{starts_with}
 use Rattle.std.specs.Map.{lookup}
 use Rattle.std.specs.Str.{bytes_eq}
@@ -34,22 +34,10 @@ option_rows =
     ∷ (codes "-uuid", Takes Uuid)
     ∷ (codes "-generate", Takes Generate)
     ∷ (codes "-platform_version", PlatformVersion)
-    ∷ (codes "-no_deduplicate", Ignored)
-    ∷ (codes "-search_paths_first", Ignored)
-    ∷ (codes "-no_warn_duplicate_libraries", Ignored)
-    ∷ (codes "-demangle", Ignored)
-    ∷ (codes "-dynamic", Ignored)
-    ∷ (codes "-init_offsets", Ignored)
-    ∷ (codes "-dead_strip", Ignored)
-    ∷ (codes "-export_dynamic", Ignored)
-    ∷ (codes "-O0", Ignored)
-    ∷ (codes "-O1", Ignored)
-    ∷ (codes "-O2", Ignored)
-    ∷ (codes "-O3", Ignored)
-    ∷ (codes "-sectcreate", Refused)
-    ∷ (codes "-help", Refused)
-    ∷ (codes "-version", Refused)
-    ∷ []
+    ∷ map (λ name. (name, Ignored))
+    (codes "-no_deduplicate" ∷ codes "-search_paths_first" ∷ codes "-no_warn_duplicate_libraries" ∷ codes "-demangle" ∷ codes "-dynamic"
+    ∷ codes "-init_offsets" ∷ codes "-dead_strip" ∷ codes "-export_dynamic" ∷ codes "-O0" ∷ codes "-O1" ∷ codes "-O2" ∷ codes "-O3" ∷ [])
+    ++ map (λ name. (name, Refused)) (codes "-sectcreate" ∷ codes "-help" ∷ codes "-version" ∷ [])
 
 -- the option whose name is the word
 unfoldable pub option_named : List ℕ → Option LinkOption

@@ -11,9 +11,7 @@ use Rattle.macho_args.specs.Version.{version_number}
 
 -- what an input is asked for as: a file by its path, a library or a framework by its name
 pub data InputKind : Type 0 where
-  file : InputKind
-  library : InputKind
-  framework : InputKind
+  file library framework : InputKind
 
 -- an input, with the index of the word in which its path or name stands
 pub record Input : Type 0 where

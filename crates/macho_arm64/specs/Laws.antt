@@ -47,7 +47,8 @@ pub record FieldsDenote : Type 0 where
   pub loads : (input word value slot s y : ℕ) → Holds Low12 input word value → is_ldr input ≡ true → value ≡ low (address slot)
       → s % SEGMENT_PAGE ≡ 0 → Same (slot + s) y → LoadsFrom word input y
   -- the load of a slot that was made an ADD
-  pub adds : (input add word value x s y : ℕ) → is_ldr input ≡ true → IsMadeAdd input add → Holds Low12 add word value → value ≡ low (address x)
+  pub adds : (input add word value x s y : ℕ) → is_ldr input ≡ true → IsMadeAdd input add → Holds Low12 add word value
+      → value ≡ low (address x)
       → s % SEGMENT_PAGE ≡ 0 → Same (x + s) y → AddsTo word input y
 
 -- a stub that goes through its slot does so at every slide of whole pages

@@ -14,7 +14,8 @@ pub put_mid-filled : (at k m : ℕ) (text out copied filled : List ℕ) → k �
     → filled ≡ replicate (length (take m (drop (at + length text) (put_mid at k out copied)))) 0
     → put_mid (at + length text) m (put_mid at k out copied) filled ≡ put at (text ++ replicate m 0) out
 put_mid-filled at k m text out copied filled here room is zeros =
-    put_mid-whole (at + length text) m (put_mid at k out copied) gap filled (sym count) (omega (arith, long, count)) (zeros ∙ ap (λ (n : ℕ). replicate n 0) whole)
+    put_mid-whole (at + length text) m (put_mid at k out copied) gap filled (sym count) (omega (arith, long, count))
+    (zeros ∙ ap (λ (n : ℕ). replicate n 0) whole)
     ∙ ap (put (at + length text) gap) first
     ∙ put-put at (at + length text) text gap out refl (omega (arith, count))
   where
@@ -31,4 +32,10 @@ put_mid-filled at k m text out copied filled here room is zeros =
     long = ap length first ∙ length-put at text out (omega arith)
 
     whole : length (take m (drop (at + length text) (put_mid at k out copied))) ≡ m
-    whole = omega (arith, long, length-take m (drop (at + length text) (put_mid at k out copied)), length-drop (at + length text) (put_mid at k out copied))
+    whole = omega (
+      arith,
+      long,
+      length-take m (drop (at + length text) (put_mid at k out copied)),
+      length-drop (at + length text)
+          (put_mid at k out copied),
+    )

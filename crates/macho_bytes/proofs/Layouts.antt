@@ -123,7 +123,8 @@ length-text_long order sound blank r (row ∷ rows) offset front is long =
     (omega (arith, is, length-append front (row_text order r row), length-row_long order sound blank r row long.0)) long.1
 
 -- the length of a spelling, whatever its numbers: it asks only that each text has its length
-pub length-spelling : {R : Type 0} (s : Spelled R) (r : R) → IsSound s.layout.order → RowsLong s.blank r s.rows → length (spelling s r) ≡ size_of s.layout
+pub length-spelling : {R : Type 0} (s : Spelled R) (r : R) → IsSound s.layout.order → RowsLong s.blank r s.rows
+    → length (spelling s r) ≡ size_of s.layout
 unfolding spelling
 length-spelling s r sound long = length-text_long s.layout.order sound s.blank r s.rows 0 [] refl long ∙ s.sized
 
@@ -139,15 +140,18 @@ reads_back s r sound fits whole =
     }
 
 -- the same, part by part and for each byte order, as a tactic finds it
-pub length-spelling_little : {R : Type 0} (s : Spelled R) (r : R) → s.layout.order ≡ little → RowsFit s.blank r s.rows → filled s.blank r s.rows ≡ r
+pub length-spelling_little : {R : Type 0} (s : Spelled R) (r : R) → s.layout.order ≡ little → RowsFit s.blank r s.rows
+    → filled s.blank r s.rows ≡ r
     → length (spelling s r) ≡ size_of s.layout
 length-spelling_little s r is fits whole = (reads_back s r (rw is little_is_sound) fits whole).long
 
-pub reading-stands_little : {R : Type 0} (s : Spelled R) (r : R) (bytes : List ℕ) (i : ℕ) → s.layout.order ≡ little → RowsFit s.blank r s.rows
+pub reading-stands_little : {R : Type 0} (s : Spelled R) (r : R) (bytes : List ℕ) (i : ℕ) → s.layout.order ≡ little
+    → RowsFit s.blank r s.rows
     → filled s.blank r s.rows ≡ r → Stands bytes (record { at = i; text = spelling s r }) → reading s.layout bytes i ≡ r
 reading-stands_little s r bytes i is fits whole stands = (reads_back s r (rw is little_is_sound) fits whole).back bytes i stands
 
-pub length-spelling_big : {R : Type 0} (s : Spelled R) (r : R) → s.layout.order ≡ big → RowsFit s.blank r s.rows → filled s.blank r s.rows ≡ r
+pub length-spelling_big : {R : Type 0} (s : Spelled R) (r : R) → s.layout.order ≡ big → RowsFit s.blank r s.rows
+    → filled s.blank r s.rows ≡ r
     → length (spelling s r) ≡ size_of s.layout
 length-spelling_big s r is fits whole = (reads_back s r (rw is big_is_sound) fits whole).long
 

@@ -185,7 +185,8 @@ reading-put_other s local at i t bytes fits within apart =
     ])
 
 -- a record in a part of a list
-pub reading-between : {R : Type 0} (s : Spelled R) → IsLocal s.layout.order → (from to i : ℕ) (bytes : List ℕ) → from + i + size_of s.layout ≤ to
+pub reading-between : {R : Type 0} (s : Spelled R) → IsLocal s.layout.order → (from to i : ℕ) (bytes : List ℕ)
+    → from + i + size_of s.layout ≤ to
     → to ≤ length bytes
     → reading s.layout (slice_range bytes from to) i ≡ reading s.layout bytes (from + i)
 reading-between s local from to i bytes fits within =

@@ -19,7 +19,8 @@ pub record MoreTexts {X : Type 0} (f : X → List ℕ) (at place : ℕ) (texts :
   pub written : now ≡ put at (flat_map f texts) before
   pub ends : place ≡ at + length (flat_map f texts)
 
-pub texts_go_on : {X : Type 0} (f : X → List ℕ) (at place next i : ℕ) (xs : List X) (x : X) (before out now : List ℕ) → i < length xs → x ≡ get_or xs i x
+pub texts_go_on : {X : Type 0} (f : X → List ℕ) (at place next i : ℕ) (xs : List X) (x : X) (before out now : List ℕ) → i < length xs
+    → x ≡ get_or xs i x
     → MoreTexts f at place (take i xs) before out → next ≡ place + length (f x) → next ≤ length before → now ≡ put place (f x) out
     → MoreTexts f at next (take (i + 1) xs) before now
 texts_go_on {X = X} f at place next i xs x before out now lt read so_far moved room is =
@@ -35,4 +36,5 @@ texts_go_on {X = X} f at place next i xs x before out now lt read so_far moved r
 -- all texts
 pub texts_end : {X : Type 0} (f : X → List ℕ) (at place i : ℕ) (xs : List X) (before now : List ℕ) → length xs ≤ i
     → MoreTexts f at place (take i xs) before now → MoreTexts f at place xs before now
-texts_end {X = X} f at place i xs before now past so_far = subst (λ (ys : List X). MoreTexts f at place ys before now) (take_all i xs past) so_far
+texts_end {X = X} f at place i xs before now past so_far =
+    subst (λ (ys : List X). MoreTexts f at place ys before now) (take_all i xs past) so_far

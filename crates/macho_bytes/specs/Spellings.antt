@@ -44,7 +44,8 @@ pub record Spelled (R : Type 0) : Type 0 where
   pub rows : List (Row R)
   pub sized : size_from blank 0 rows ≡ layout.size
   pub same : (bytes : List ℕ) (at : ℕ)
-      → layout.make (λ width offset. layout.order.number_at width bytes (at + offset)) (λ offset. slice_range bytes (at + offset) (at + (offset + 16)))
+      → layout.make (λ width offset. layout.order.number_at width bytes (at + offset))
+      (λ offset. slice_range bytes (at + offset) (at + (offset + 16)))
       ≡ read_from layout.order blank bytes at 0 blank rows
 
 -- the bytes that a record's fields of a row are spelled by

@@ -29,5 +29,6 @@ pub record AddsCells (cells : List Cell) (start : ℕ) (old new : List PlacedCel
 -- a list of starts has that of each placed cell at the cell's number, where no two cells have one number, and 0 at other numbers
 pub record HasStarts (count : ℕ) (placed : List PlacedCell) (starts : List ℕ) : Type 0 where
   pub many : length starts ≡ count
-  pub each : AllPairs (λ a b. a.cell.number ≡ b.cell.number → ⊥) placed → (q : PlacedCell) → Contains placed q → get_or starts q.cell.number 0 ≡ q.start
+  pub each : AllPairs (λ a b. a.cell.number ≡ b.cell.number → ⊥) placed → (q : PlacedCell) → Contains placed q
+      → get_or starts q.cell.number 0 ≡ q.start
   pub rest : (n : ℕ) → All (λ q. q.cell.number ≡ n → ⊥) placed → get_or starts n 0 ≡ 0

@@ -50,7 +50,9 @@ pub record AreStacked (flags : List ℕ) (members : List Member) (extents : List
   pub stacks : (c : ℕ) → c < length flags → IsStack 0 (map block_of (members_in c placed)) (extent_at extents c).size
   pub order : AllPairs StandBehind placed
   -- a cell has the greatest alignment, and all flags
-  pub exponents : (c : ℕ) → c < length flags → (extent_at extents c).exponent ≡ fold max 0 (map (λ q. q.member.exponent) (members_in c placed))
-  pub flags_of : (c : ℕ) → c < length flags → (extent_at extents c).flags ≡ fold bit_or (get_or flags c 0) (map (λ q. q.member.flags) (members_in c placed))
+  pub exponents : (c : ℕ) → c < length flags
+      → (extent_at extents c).exponent ≡ fold max 0 (map (λ q. q.member.exponent) (members_in c placed))
+  pub flags_of : (c : ℕ) → c < length flags
+      → (extent_at extents c).flags ≡ fold bit_or (get_or flags c 0) (map (λ q. q.member.flags) (members_in c placed))
   -- all cells cost at most what their members cost
   pub within : sum_by extent_cost extents ≤ sum_by cost_of members

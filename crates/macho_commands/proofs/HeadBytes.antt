@@ -60,7 +60,8 @@ row_whole : (number size : ℕ) (numbers : List ℕ) → row_bytes little 4 (num
 unfolding row_bytes
 row_whole number size numbers = flat_map-append (le_bytes 4) (number ∷ size ∷ []) numbers
 
-sized : (number size : ℕ) (text : List ℕ) → 8 + length text ≡ size → row_bytes little 4 (number ∷ size ∷ []) ++ text ≡ head.command number text
+sized : (number size : ℕ) (text : List ℕ) → 8 + length text ≡ size
+    → row_bytes little 4 (number ∷ size ∷ []) ++ text ≡ head.command number text
 sized number size text is = ap (λ (n : ℕ). row_bytes little 4 (number ∷ n ∷ []) ++ text) (sym is)
 
 numbers_said : (number size : ℕ) (numbers : List ℕ) → 8 + 4 * length numbers ≡ size
@@ -134,7 +135,8 @@ table_said number at size = numbers_said number 16 (at ∷ size ∷ []) refl
 symtab_said : (counts : Counts) (p : Placed) → text_said (symtab_for counts p)
     ≡ head.command LC_SYMTAB (row_bytes little 4 (p.linkedit.symtab.start ∷ counts.symbols ∷ p.linkedit.strtab.start ∷ counts.strings ∷ []))
 unfolding text_said spelling
-symtab_said counts p = numbers_said LC_SYMTAB 24 (p.linkedit.symtab.start ∷ counts.symbols ∷ p.linkedit.strtab.start ∷ counts.strings ∷ []) refl
+symtab_said counts p =
+    numbers_said LC_SYMTAB 24 (p.linkedit.symtab.start ∷ counts.symbols ∷ p.linkedit.strtab.start ∷ counts.strings ∷ []) refl
 
 -- the commands of a link stand between those of segments and those of tables
 parts_joined : (s e u v n ls rs ts : List (List ℕ)) → s ++ e ++ u ++ v ++ n ++ ls ++ rs ++ ts ≡ s ++ (e ++ u ++ v ++ n ++ ls ++ rs) ++ ts
@@ -174,10 +176,13 @@ commands-spelled l counts p uuid trie =
       libraries_text (libraries_needed l),
       rpaths_text l.rpaths,
       tables_text counts p trie,
-    ) (parts_joined (map (head.segment_for p) p.segments) (list_if l.executable (head.command LC_MAIN (row_bytes little 8 (offset ∷ 0 ∷ [])) ∷ []))
+    ) (parts_joined (map (head.segment_for p) p.segments)
+    (list_if l.executable (head.command LC_MAIN (row_bytes little 8 (offset ∷ 0 ∷ [])) ∷ []))
     (head.command LC_UUID (uuid_written uuid) ∷ []) (head.versions_for l.versions)
-    ((if l.executable then head.path_command LC_LOAD_DYLINKER [] DYLINKER else head.path_command LC_ID_DYLIB (1 ∷ 0 ∷ 0 ∷ []) l.install_name) ∷ [])
-    (map (head.path_command LC_LOAD_DYLIB (2 ∷ 0x054c0000 ∷ 0x00010000 ∷ [])) (libraries_needed l)) (map (head.path_command LC_RPATH []) l.rpaths)
+    ((if l.executable then head.path_command LC_LOAD_DYLINKER [] DYLINKER
+    else head.path_command LC_ID_DYLIB (1 ∷ 0 ∷ 0 ∷ []) l.install_name) ∷ [])
+    (map (head.path_command LC_LOAD_DYLIB (2 ∷ 0x054c0000 ∷ 0x00010000 ∷ [])) (libraries_needed l))
+    (map (head.path_command LC_RPATH []) l.rpaths)
     (head.table_command LC_DYLD_CHAINED_FIXUPS p.linkedit.fixups.start (range_size p.linkedit.fixups)
     ∷ head.table_command LC_DYLD_EXPORTS_TRIE p.linkedit.trie.start trie
     ∷ head.command LC_SYMTAB (row_bytes little 4 (p.linkedit.symtab.start ∷ counts.symbols ∷ p.linkedit.strtab.start ∷ counts.strings ∷ []))

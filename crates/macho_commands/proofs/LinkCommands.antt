@@ -67,7 +67,8 @@ each-long f size same (x ∷ xs) = omega (arith, same x, each-long f size same x
 
 own-long : (executable : Bool) (entry : ℕ) (name : List ℕ)
     → sum_by length (list_if executable (command LC_MAIN (row_bytes little 8 (entry ∷ 0 ∷ [])) ∷ []))
-    + sum_by length ((if executable then path_command LC_LOAD_DYLINKER [] DYLINKER else path_command LC_ID_DYLIB (1 ∷ 0 ∷ 0 ∷ []) name) ∷ [])
+    + sum_by length
+    ((if executable then path_command LC_LOAD_DYLINKER [] DYLINKER else path_command LC_ID_DYLIB (1 ∷ 0 ∷ 0 ∷ []) name) ∷ [])
     ≡ (if executable then 24 + path_command_size 12 DYLINKER else path_command_size 24 name)
 own-long true entry name =
     omega (

@@ -89,7 +89,8 @@ pub dylib_done : (number time current compatible : ℕ) (path : List ℕ) (n at 
 unfolding text_said
 dylib_done number time current compatible path n at before headed now known sized room reads first second =
     let told : ℕ → DylibCommand = dylib_sized number time current compatible in
-    let back : ReadsBack dylib_command_rows (told (path_command_size 24 path)) = subst (λ (k : ℕ). ReadsBack dylib_command_rows (told k)) sized
+    let back : ReadsBack dylib_command_rows (told (path_command_size 24 path)) =
+    subst (λ (k : ℕ). ReadsBack dylib_command_rows (told k)) sized
     reads in
     let text : List ℕ = spelling dylib_command_rows (told (path_command_size 24 path)) in
     record {

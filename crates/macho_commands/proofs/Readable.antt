@@ -40,7 +40,8 @@ use Rattle.macho_structs.specs.Spellings.{entry_point_command_rows, dylinker_com
 use Rattle.macho_records.specs.Spellings.{segment_command_rows, section_header_rows, symtab_command_rows}
 
 -- records of one size, one behind the other, are read one by one
-pub records-read : {R : Type 0} (x : Spelled R) (w : ℕ) (rs : List R) (none : R) (b : List ℕ) (at : ℕ) → size_of x.layout ≡ w → EachReadsBack x rs
+pub records-read : {R : Type 0} (x : Spelled R) (w : ℕ) (rs : List R) (none : R) (b : List ℕ) (at : ℕ) → size_of x.layout ≡ w
+    → EachReadsBack x rs
     → Stands b (record { at = at; text = flat_map (spelling x) rs })
     → map (λ k. reading x.layout b (at + w * k)) (range_with_len 0 (length rs))
     ≡ rs

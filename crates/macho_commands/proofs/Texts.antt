@@ -44,7 +44,8 @@ headers_begin at headers out fits = record {
 }
 
 pub headers_go_on : (at place i : ℕ) (headers : List SectionHeader) (d : SectionHeader) (before out now : List ℕ) → i < length headers
-    → at + 80 * length headers ≤ length before → HeadersSoFar at place i headers before out → ReadsBack section_header_rows (get_or headers i d)
+    → at + 80 * length headers ≤ length before → HeadersSoFar at place i headers before out
+    → ReadsBack section_header_rows (get_or headers i d)
     → now ≡ put place (spelling section_header_rows (get_or headers i d)) out → HeadersSoFar at (place + 80) (i + 1) headers before now
 headers_go_on at place i headers d before out now lt room so_far back is =
     let step : 80 * (i + 1) ≤ 80 * length headers = omega arith in

@@ -41,7 +41,8 @@ uuid_said uuid = records.Uuid (record { cmd = LC_UUID; cmdsize = 24; uuid = uuid
 
 abbrev pub versions_said : ℕ → ℕ → HeadCommand
 versions_said minimum sdk =
-    records.BuildVersion (record { cmd = LC_BUILD_VERSION; cmdsize = 32; platform = PLATFORM_MACOS; minos = minimum; sdk = sdk; ntools = 1 })
+    records.BuildVersion
+    (record { cmd = LC_BUILD_VERSION; cmdsize = 32; platform = PLATFORM_MACOS; minos = minimum; sdk = sdk; ntools = 1 })
     (record { tool = THIS_TOOL; version = THIS_VERSION } ∷ [])
 
 abbrev pub symtab_said : SymbolTable → HeadCommand

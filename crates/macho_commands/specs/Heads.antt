@@ -14,7 +14,8 @@ use Rattle.macho_records.specs.Spellings.{mach_header_rows}
 -- no name is left undefined, for the dynamic linker, by two levels of names; an executable may be slid
 abbrev pub flags_of : ImageKind → ℕ
 flags_of kind =
-    MH_NOUNDEFS + MH_DYLDLINK + MH_TWOLEVEL + (if kind.executable then MH_PIE else 0) + (if kind.thread_locals then MH_HAS_TLV_DESCRIPTORS else 0)
+    MH_NOUNDEFS + MH_DYLDLINK + MH_TWOLEVEL + (if kind.executable then MH_PIE else 0) +
+    (if kind.thread_locals then MH_HAS_TLV_DESCRIPTORS else 0)
 
 -- the header in front of load commands
 abbrev pub header_of_kind : ImageKind → List Command → MachHeader

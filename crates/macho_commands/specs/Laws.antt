@@ -72,13 +72,16 @@ pub record HeadIsAccepted (b : List ℕ) : Type 0 where
 -- a file with the header and the load commands of a link whose segments are placed keeps them
 abbrev pub HeadKeepsRules : Type 0
 HeadKeepsRules =
-    (l : Link) (counts : Counts) (uuid b : List ℕ) (p : Placed) → CommandsSay l counts uuid b p → IsInOrder l p → HasRoom b p → HeadIsAccepted b
+    (l : Link) (counts : Counts) (uuid b : List ℕ) (p : Placed) → CommandsSay l counts uuid b p → IsInOrder l p → HasRoom b p
+    → HeadIsAccepted b
 
 -- a file in which the head of its kind is found, with commands that say those of a link, says the link's load commands
 abbrev pub FoundIsSaid : Type 0
 FoundIsSaid =
-    (l : Link) (counts : Counts) (uuid b : List ℕ) (p : Placed) (trie : ℕ) (kind : ImageKind) (commands : List Command) → kind.executable ≡ l.executable
-    → kind.thread_locals ≡ describes_thread_locals p → map said_by commands ≡ commands_for l counts p uuid trie → HeadIsFound kind commands b
+    (l : Link) (counts : Counts) (uuid b : List ℕ) (p : Placed) (trie : ℕ) (kind : ImageKind) (commands : List Command)
+    → kind.executable ≡ l.executable
+    → kind.thread_locals ≡ describes_thread_locals p → map said_by commands ≡ commands_for l counts p uuid trie
+    → HeadIsFound kind commands b
     → CommandsSay l counts uuid b p
 
 -- the text of such a head is the link's, byte for byte

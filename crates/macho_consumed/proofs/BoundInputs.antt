@@ -19,7 +19,7 @@ use Rattle.macho_model.specs.Consumed.{LSDA_PLACE}
 use Rattle.macho_symbols.specs.Kept.{symbol_id}
 use Rattle.macho_unwind_pages.specs.declared.entries.UnwindInput.{UnwindInput}
 use Rattle.macho_unwind_pages.specs.Bounds.{unwind_bound_of}
-use Rattle.macho_unwind_pages.specs.Entries.{ids_of, named_ids}
+use Rattle.macho_unwind_pages.specs.Entries.{ids_of}
 use Rattle.macho_unwind_pages.specs.Orders.{in_order}
 use Rattle.macho_promise.specs.Sizes.{unwind_input, text_span, unwind_size}
 use Rattle.macho_consumed.specs.steps.Entries.{unwind_relocation_fits}
@@ -133,7 +133,7 @@ some_told l rows span keeps are spans some =
 
 pub none_few : (l : Link) (rows : List UnwindEntry) → rows ≡ entry_rows l → true ≡ (length rows == 0)
     → length (ids_of (map (unwind_input l) (entries_of_link l))) ≤ 3
-unfolding named_ids in_order
+unfolding in_order
 none_few l rows are empty =
     let zero : length (entries_of_link l) ≡ 0 = eqb-true _ _ (ap (λ (n : ℕ). n == 0) (sym (many_rows l) ∙ ap length (sym are))
     ∙ sym empty) in

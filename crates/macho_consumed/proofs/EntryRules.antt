@@ -132,7 +132,8 @@ pub again_stands : (l : Link) (files : List (Option FileBytes)) (r : ResolvedRow
     → rows ≡ flat_map (entries_at files) (all_of Entries files) → IsAgainOrMemory rows fault → IsStanding l fault
 again_stands l files r rows (BadInitializer f s offset) views keep are again = again_of l files r rows
     (BadInitializer f s offset) views keep are again
-again_stands l files r rows (BadUnwind f s e rule) views keep are again = again_of l files r rows (BadUnwind f s e rule) views keep are again
+again_stands l files r rows (BadUnwind f s e rule) views keep are again =
+    again_of l files r rows (BadUnwind f s e rule) views keep are again
 again_stands l files r rows OutOfMemory views keep are again = tt
 
 -- where no two have one start, each is alone

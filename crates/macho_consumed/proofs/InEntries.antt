@@ -131,10 +131,12 @@ all_placed b k e c0 c2 c3 has aligned =
         both _ _ (plain_at b k r _ c0 has.start_at.list has.start_at.pointer (at_place_of r 0 there (omega (arith, z, entry)))) (rw p refl)
     by r there entry eight false p true q v s =
         let z : (relocation_at b k r).r_address % 32 ≡ 16 = eqb-true _ _ q in
-        both _ _ (plain_at b k r _ c2 has.personality_at.list has.personality_at.pointer (at_place_of r 16 there (omega (arith, z, entry)))) (rw (p, q) refl)
+        both _ _ (plain_at b k r _ c2 has.personality_at.list has.personality_at.pointer (at_place_of r 16 there (omega (arith, z, entry))))
+        (rw (p, q) refl)
     by r there entry eight false p false q true s =
         let z : (relocation_at b k r).r_address % 32 ≡ 24 = eqb-true _ _ s in
-        both _ _ (plain_at b k r _ c3 has.lsda_at.list has.lsda_at.pointer (at_place_of r 24 there (omega (arith, z, entry)))) (rw (p, q, s) refl)
+        both _ _ (plain_at b k r _ c3 has.lsda_at.list has.lsda_at.pointer (at_place_of r 24 there (omega (arith, z, entry))))
+        (rw (p, q, s) refl)
     by r there entry eight false p false q false s =
         let x : (relocation_at b k r).r_address % 32 ≢ 0 = grind (arith, nat_tests, p) in
         let y : (relocation_at b k r).r_address % 32 ≢ 16 = grind (arith, nat_tests, q) in
@@ -235,7 +237,16 @@ entry_fits b k e c0 c2 c3 place p d has aligned start personality lsda clear = r
 pub row_is : (b : List ℕ) (file k e : ℕ) (place : SectionPlace) (p : Option PersonalityUse) (d : Option SectionPlace)
     (words : UnwindInfoEntry) → StartKept b k e place
     → PersonalityKept b k e p → DataKept b k e d → words ≡ read_entry b k e
-    → record { file = file; section = k; entry = e; start = place; length = words.length; encoding = words.encoding; personality = p; lsda = d } ≡ row_in b file k e
+    → record {
+      file = file;
+      section = k;
+      entry = e;
+      start = place;
+      length = words.length;
+      encoding = words.encoding;
+      personality = p;
+      lsda = d;
+    } ≡ row_in b file k e
 unfolding entry_row
 row_is b file k e place p d words start personality lsda is = rw (start.is, personality.is, lsda.is, is) refl
 
@@ -317,7 +328,16 @@ gathered_fits b k e words place p d g aligned clear =
 pub gathered_row : (b : List ℕ) (file number k e : ℕ) (words : UnwindInfoEntry) (place : SectionPlace) (p : Option PersonalityUse)
     (d : Option SectionPlace)
     → IsGathered b k e words place p d → number ≡ k
-    → record { file = file; section = number; entry = e; start = place; length = words.length; encoding = words.encoding; personality = p; lsda = d } ≡ row_in b file k e
+    → record {
+      file = file;
+      section = number;
+      entry = e;
+      start = place;
+      length = words.length;
+      encoding = words.encoding;
+      personality = p;
+      lsda = d;
+    } ≡ row_in b file k e
 gathered_row b file number k e words place p d g same =
     subst (λ (n : ℕ). record {
       file = file;

@@ -70,7 +70,8 @@ pub table_more : (b : List ℕ) (k n place : ℕ) (cells : List Cell) (new : Cel
     → IsTable b k (n + 1) (set cells place new)
 table_more b k n place cells new table at lt more = record {
   long = length-set cells place new ∙ table.long;
-  cell = λ i within. cell_more b k n place i cells new (eqb i place) refl table at lt more (omega (arith, within, length-set cells place new));
+  cell = λ i within. cell_more b k n place i cells new (eqb i place) refl table at lt more
+      (omega (arith, within, length-set cells place new));
 }
 
 -- or it has no place in the table
@@ -85,7 +86,8 @@ table_same b k n cells table apart = record {
 -- the least address between places
 pub none_more : (b : List ℕ) (k n bound : ℕ) → NoneBelow b k n bound
     → ((relocation_at b k n).r_address < bound → ((relocation_at b k n).r_address % 8 == 0) ≡ true) → NoneBelow b k (n + 1) bound
-none_more b k n bound none last = below_more (λ r. (relocation_at b k r).r_address < bound → ((relocation_at b k r).r_address % 8 == 0) ≡ true) n none last
+none_more b k n bound none last =
+    below_more (λ r. (relocation_at b k r).r_address < bound → ((relocation_at b k r).r_address % 8 == 0) ≡ true) n none last
 
 between_later : (b : List ℕ) (k n address : ℕ) → IsBetween b k n address → IsBetween b k (n + 1) address
 between_later b k n address (r, lt, at, off) = (r, omega arith, at, off)

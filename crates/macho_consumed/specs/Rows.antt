@@ -18,7 +18,8 @@ initializer_row l s r = record { file = s.file; section = s.section; number = r;
 -- those of a section, slot by slot, and of all sections
 unfoldable pub initializer_rows_in : Link → SectionId → List Initializer
 initializer_rows_in l s =
-    flat_map (λ slot. map (initializer_row l s) (relocations_at l s (POINTER_SIZE * slot))) (range_with_len 0 ((header_at l s).size / POINTER_SIZE))
+    flat_map (λ slot. map (initializer_row l s) (relocations_at l s (POINTER_SIZE * slot)))
+    (range_with_len 0 ((header_at l s).size / POINTER_SIZE))
 
 unfoldable pub initializer_rows : Link → List Initializer
 initializer_rows l = flat_map (initializer_rows_in l) (initializer_sections l)

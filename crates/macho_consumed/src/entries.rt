@@ -24,7 +24,8 @@ const ENTRY_SIZE: u64 = UnwindInfoEntry::SIZE as u64;
 impl Section<'_, '_> {
     /// Whether it has entries, and no bytes.
     fn lacks_bytes(&self) -> bool
-        ensures none { (r : ResolvedRows) (file : ℕ) → result ≡ true → SectionBreaksRule r self.now.bytes file self.now.section 0 UnwindRule.U4 }
+        ensures none { (r : ResolvedRows) (file : ℕ) → result ≡ true
+            → SectionBreaksRule r self.now.bytes file self.now.section 0 UnwindRule.U4 }
         ensures some { result ≡ false → IsReadable self.now.bytes self.now.section }
     {
         self.header.is_no_bits() && self.header.size >= ENTRY_SIZE
@@ -71,7 +72,8 @@ pub(crate) fn add_entries(
     requires kind { file.now.is_dynamic ≡ false }
     requires among { section < num_sections file.now.bytes }
     requires named { AreNamed symbols.now number file.now.bytes }
-    ensures added { OnOk result (rows.new.items ≡ rows.old.items ++ rows_in file.now.bytes number section ((section_at file.now.bytes section).size / 32)) }
+    ensures added { OnOk result
+        (rows.new.items ≡ rows.old.items ++ rows_in file.now.bytes number section ((section_at file.now.bytes section).size / 32)) }
     ensures found { OnOk result (SectionKeeps symbols.now file.now.bytes number section) }
     ensures why { IfErr result (IsBadUnwind symbols.now file.now.bytes number section) }
 {

@@ -49,7 +49,8 @@ impl Places {
     /// The least address of a relocation that stands at no multiple of 8, if it is below a bound.
     pub(crate) fn between_below(&self, bound: u64) -> Option<u32>
         ensures { (b : List ℕ) (k : ℕ) → ArePlaces b k self.now
-            → MatchOption result (NoneBelow b k (section_at b k).nreloc bound) (λ a. IsBetween b k (section_at b k).nreloc a × (a < bound)) }
+            → MatchOption result (NoneBelow b k (section_at b k).nreloc bound)
+            (λ a. IsBetween b k (section_at b k).nreloc a × (a < bound)) }
     {
         match self.between {
             Some(address) if u64::from(address) < bound => Some(address),

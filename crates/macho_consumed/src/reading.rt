@@ -28,8 +28,10 @@ pub fn read_initializers(
 ) -> Result<Vec<Initializer>, ConsumedFault>
     requires { AreKept files.now symbols.now.files }
     ensures rows { (l : Link) → files.now ≡ views_of l → IfOk result (λ v. v.items ≡ initializer_rows l) }
-    ensures keeps { (l : Link) (noted : List (List ℕ)) → files.now ≡ views_of l → IsResolved l noted symbols.now → OnOk result (InitializersKeepRules l) }
-    ensures why { (l : Link) (noted : List (List ℕ)) → files.now ≡ views_of l → IsResolved l noted symbols.now → IfErr result (IsStanding l) }
+    ensures keeps { (l : Link) (noted : List (List ℕ)) → files.now ≡ views_of l → IsResolved l noted symbols.now
+        → OnOk result (InitializersKeepRules l) }
+    ensures why { (l : Link) (noted : List (List ℕ)) → files.now ≡ views_of l → IsResolved l noted symbols.now
+        → IfErr result (IsStanding l) }
 {
     gather_initializers(alloc, files, symbols)
 }
@@ -47,8 +49,10 @@ pub fn read_entries(
 ) -> Result<Vec<UnwindEntry>, ConsumedFault>
     requires { AreKept files.now symbols.now.files }
     ensures rows { (l : Link) → files.now ≡ views_of l → IfOk result (λ v. v.items ≡ entry_rows l) }
-    ensures keeps { (l : Link) (noted : List (List ℕ)) → files.now ≡ views_of l → IsResolved l noted symbols.now → OnOk result (EntriesKeepRules l) }
-    ensures why { (l : Link) (noted : List (List ℕ)) → files.now ≡ views_of l → IsResolved l noted symbols.now → IfErr result (IsStanding l) }
+    ensures keeps { (l : Link) (noted : List (List ℕ)) → files.now ≡ views_of l → IsResolved l noted symbols.now
+        → OnOk result (EntriesKeepRules l) }
+    ensures why { (l : Link) (noted : List (List ℕ)) → files.now ≡ views_of l → IsResolved l noted symbols.now
+        → IfErr result (IsStanding l) }
 {
     let rows = gather_entries(alloc, files, symbols)?;
     check_starts(alloc, &rows)?;

@@ -104,10 +104,12 @@ pub fn unwind_room(
     span: u64,
 ) -> Result<u64, RoomFault>
     requires { All (HasPersonality needs.now.resolved) entries.now }
-    ensures done { (l : Link) → AreNoted l needs.now → EntriesKeepRules l → entries.now ≡ entry_rows l → span ≡ text_span l → IfOk result (λ n. n ≡ unwind_size l) }
+    ensures done { (l : Link) → AreNoted l needs.now → EntriesKeepRules l → entries.now ≡ entry_rows l → span ≡ text_span l
+        → IfOk result (λ n. n ≡ unwind_size l) }
     ensures few { (l : Link) → AreNoted l needs.now → EntriesKeepRules l → entries.now ≡ entry_rows l
         → OnOk result (length (ids_of (map (unwind_input l) (entries_of_link l))) ≤ MOST_PERSONALITIES) }
-    ensures why { (l : Link) → AreNoted l needs.now → EntriesKeepRules l → entries.now ≡ entry_rows l → span ≡ text_span l → IfErr result (IsNoRoom l) }
+    ensures why { (l : Link) → AreNoted l needs.now → EntriesKeepRules l → entries.now ≡ entry_rows l → span ≡ text_span l
+        → IfErr result (IsNoRoom l) }
 {
     if entries.is_empty() {
         return Ok(0);

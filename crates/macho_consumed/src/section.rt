@@ -46,7 +46,8 @@ impl Section<'_, '_> {
     pub(crate) fn relocation(&self, number: u32) -> RelocationInfo
         requires { number < (section_at self.now.bytes self.now.section).nreloc }
         ensures is { result ≡ relocation_at self.now.bytes self.now.section number }
-        ensures names { is_plain_pointer (relocation_at self.now.bytes self.now.section number) ≡ true → NamesSection self.now.bytes result }
+        ensures names { is_plain_pointer (relocation_at self.now.bytes self.now.section number) ≡ true
+            → NamesSection self.now.bytes result }
     {
         match self.relocations.get(number) {
             Some(relocation) => relocation,

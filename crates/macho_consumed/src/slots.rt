@@ -85,7 +85,8 @@ pub(crate) fn add_initializers(
     requires kind { file.now.is_dynamic ≡ false }
     requires among { section < num_sections file.now.bytes }
     requires named { AreNamed symbols.now number file.now.bytes }
-    ensures added { OnOk result (rows.new.items ≡ rows.old.items ++ slot_rows file.now.bytes number section ((section_at file.now.bytes section).size / 8)) }
+    ensures added { OnOk result
+        (rows.new.items ≡ rows.old.items ++ slot_rows file.now.bytes number section ((section_at file.now.bytes section).size / 8)) }
     ensures found { OnOk result (SectionFits symbols.now file.now.bytes number section) }
     ensures why { IfErr result (IsBadSection symbols.now file.now.bytes number section) }
 {

@@ -120,8 +120,10 @@ tried : (patterns : List (List ℕ)) (t : PartTable) (name : List ℕ) → is_ma
 tried patterns t name is = of (has_many_places t.stands (length name)) refl
   where
     of : (many : Bool) → has_many_places t.stands (length name) ≡ many → list_any (λ e. matches e name) patterns ≡ true
-    of true e = tried_any patterns t name (ap (λ b. if b then is_match_any t patterns name else is_match_found t patterns name) (sym e) ∙ is)
-    of false e = tried_found patterns t name (ap (λ b. if b then is_match_any t patterns name else is_match_found t patterns name) (sym e) ∙ is)
+    of true e =
+        tried_any patterns t name (ap (λ b. if b then is_match_any t patterns name else is_match_found t patterns name) (sym e) ∙ is)
+    of false e =
+        tried_found patterns t name (ap (λ b. if b then is_match_any t patterns name else is_match_found t patterns name) (sym e) ∙ is)
 
 -- what passes a test among the numbers under a part is one of the groups
 group_at : (test : List ℕ → Bool) → test [] ≡ false → (groups : List (List ℕ)) (k : ℕ) → test (get_or groups k []) ≡ true

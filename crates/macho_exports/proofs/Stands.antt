@@ -90,7 +90,8 @@ back_star before rest plain = ap (λ n. drop n pattern) there ∙ drop-append-ad
     others k low h =
         let j = k - (length before + 1) in
         let at : k ≡ length before + suc j = omega (arith, low) in
-        let same : get_or pattern k 0 ≡ get_or rest j 0 = ap (λ i. get_or pattern i 0) at ∙ get_or-append-add before (STAR ∷ rest) (suc j) 0 in
+        let same : get_or pattern k 0 ≡ get_or rest j 0 = ap (λ i. get_or pattern i 0) at
+        ∙ get_or-append-add before (STAR ∷ rest) (suc j) 0 in
         ap (λ b. not (b == STAR)) same ∙ ap not (plain j 0 (omega (arith, at, h, long)))
 
     star : get_or pattern (length before + 1 - 1) 0 ≡ STAR

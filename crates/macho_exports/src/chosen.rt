@@ -48,7 +48,8 @@ fn part_of<'a>(table: &PartTable, bytes: &'a [u8]) -> Part<'a>
 
 /// Of two runs that which fewer patterns share, of equals the longer one; an empty one only if both are.
 fn rarer<'a>(one: Part<'a>, other: Part<'a>) -> Part<'a>
-    ensures { (pattern : List ℕ) → IsRun one.entry.bytes.now pattern → IsRun other.entry.bytes.now pattern → IsRun result.bytes.now pattern }
+    ensures { (pattern : List ℕ) → IsRun one.entry.bytes.now pattern → IsRun other.entry.bytes.now pattern
+        → IsRun result.bytes.now pattern }
 {
     let is_longer = other.sharing == one.sharing && other.bytes.len() > one.bytes.len();
     let is_rarer = other.sharing < one.sharing || is_longer;

@@ -56,7 +56,8 @@ template_same l p look target.Base tells there = refl
 template_same l p look (target.Absolute value) tells there = refl
 template_same l p look target.None tells there = refl
 
-pub offset_same : (l : Link) (p : Placed) (look : Look) (descriptors : Bool) (s : SectionId) (f : Field) → Tells l p look → IsThere p f.target
+pub offset_same : (l : Link) (p : Placed) (look : Look) (descriptors : Bool) (s : SectionId) (f : Field) → Tells l p look
+    → IsThere p f.target
     → descriptors ≡ (type_of (header_at l s) == S_THREAD_LOCAL_VARIABLES)
     → is_template_offset l s f ≡ (descriptors && in_template look f.target)
 offset_same l p look descriptors s f tells there is =
@@ -95,7 +96,8 @@ asks_same l p look descriptors s f tells there is = by (is_pointer_kind (kind_in
         (pointer_same f (kind_in f) refl ∙ ap (λ (b : Bool). (f.width == 8) && b) other)
         ∙ none_other (f.width == 8) (not (is_absolute_target f.target)) (not (is_template_offset l s f))
         ∙ sym (none_other (f.width == 8) (not (is_absolute_target f.target)) (not (descriptors && in_template look f.target)))
-        ∙ ap (λ (b : Bool). (f.width == 8) && b && not (is_absolute_target f.target) && not (descriptors && in_template look f.target)) (sym other)
+        ∙ ap (λ (b : Bool). (f.width == 8) && b && not (is_absolute_target f.target) && not (descriptors && in_template look f.target))
+        (sym other)
 
 pub asked_kind : (look : Look) (descriptors : Bool) (f : Field) → asks descriptors look f ≡ true → kind_in f ≡ Pointer
 asked_kind look descriptors f h =

@@ -157,7 +157,8 @@ slot_there : (l : Link) (counts : Counts) (p : Placed) (s : SectionId) (r : ℕ)
     → Contains (carried_of l) s → r < (header_at l s).nreloc
     → slot_of_relocation (relocation_in l s r).r_type (target_of_relocation l s r) ≡ Some t → HasSlot p t
 slot_there l counts p s r t placed carried among asks =
-    let listed : Contains (slots_of l) t = subst (λ (xs : List Target). Contains xs t) (sym (slots_are l)) (in_distinct (filter_map (slot_of_use l) (uses_of l)) t
+    let listed : Contains (slots_of l) t =
+    subst (λ (xs : List Target). Contains xs t) (sym (slots_are l)) (in_distinct (filter_map (slot_of_use l) (uses_of l)) t
     (in_filter_map (slot_of_use l) (uses_of l) (ByRelocation s r) t (used l s r carried among) asks)) in
     let m = of_map (λ (x : Slot). x.target) p.slots t (subst (λ (xs : List Target). Contains xs t) (sym placed.whole_list.slots) listed) in
     (m.of, m.there, m.is)
@@ -166,7 +167,8 @@ stub_there : (l : Link) (counts : Counts) (p : Placed) (s : SectionId) (r : ℕ)
     → Contains (carried_of l) s → r < (header_at l s).nreloc
     → stub_of_relocation (relocation_in l s r).r_type (target_of_relocation l s r) ≡ Some t → HasStub p t
 stub_there l counts p s r t placed carried among asks =
-    let listed : Contains (stubs_of l) t = subst (λ (xs : List Target). Contains xs t) (sym (stubs_are l)) (in_distinct (filter_map (stub_of_use l) (uses_of l)) t
+    let listed : Contains (stubs_of l) t =
+    subst (λ (xs : List Target). Contains xs t) (sym (stubs_are l)) (in_distinct (filter_map (stub_of_use l) (uses_of l)) t
     (in_filter_map (stub_of_use l) (uses_of l) (ByRelocation s r) t (used l s r carried among) asks)) in
     let m = of_map (λ (x : Stub). target.Import x.import) p.stubs t
     (subst (λ (xs : List Target). Contains xs t) (sym placed.whole_list.stubs) listed) in

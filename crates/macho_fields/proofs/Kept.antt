@@ -176,7 +176,8 @@ own_inside l s objects f among chosen = by (stands_in_carried l s) (has_type N_A
     by true b c stands common =
         let inside = and_left (has_type N_SECT e) (is_carried (header_at l (section_of_symbol l s))) stands in
         let carried = and_right (has_type N_SECT e) (is_carried (header_at l (section_of_symbol l s))) stands in
-        let rule : symbol_section_exists (object_of l s.file) s.symbol ≡ true = (object_keeps (whole l s.file objects f)).o5.0 s.symbol among in
+        let rule : symbol_section_exists (object_of l s.file) s.symbol
+        ≡ true = (object_keeps (whole l s.file objects f)).o5.0 s.symbol among in
         let exists = or_right (not (has_type N_SECT e)) (nat_le 1 e.n_sect && nat_le e.n_sect (num_sections (object_of l s.file))) rule
         (ap not inside) in
         let low = leb-true 1 e.n_sect (and_left (nat_le 1 e.n_sect) _ exists) in

@@ -142,7 +142,8 @@ section_exists b k r h other plain =
 -- THE next field, of the bytes of its object.
 next_in : (l : Link) (p : Placed) (q : PlacedSection) (look : Look) (descriptors : Bool) (r : ℕ) (text old : List ℕ) (n : Near)
     (f : read.Field)
-    → RelocationsAreSupported l → IsFillable l p q look → KeepsObjectRules (object_of l q.file) → q.section < num_sections (object_of l q.file)
+    → RelocationsAreSupported l → IsFillable l p q look → KeepsObjectRules (object_of l q.file)
+    → q.section < num_sections (object_of l q.file)
     → text ≡ section_bytes (object_of l q.file) q.section → length text ≡ (header_at l (id_of q)).size → q.address + length text ≤ 2 ^ 64
     → descriptors ≡ (type_of (header_at l (id_of q)) == S_THREAD_LOCAL_VARIABLES) → r < (header_at l (id_of q)).nreloc
     → IsNear (object_of l q.file) q.section r n → IsRead look q.file (object_of l q.file) text n f
@@ -231,7 +232,8 @@ next_is l p q look descriptors r b text old n f same sound fill =
     same (next_in l p q look descriptors r text old n f sound fill)
 
 -- each field of a section stands inside it
-inside_all : (l : Link) (q : PlacedSection) (b : List ℕ) → object_of l q.file ≡ b → KeepsObjectRules b → q.section < num_sections b → (r : ℕ)
+inside_all : (l : Link) (q : PlacedSection) (b : List ℕ) → object_of l q.file ≡ b → KeepsObjectRules b → q.section < num_sections b
+    → (r : ℕ)
     → r < (header_at l (id_of q)).nreloc
     → (field_of l (id_of q) r).offset + (field_of l (id_of q) r).width ≤ (header_at l (id_of q)).size
 inside_all l q b same =

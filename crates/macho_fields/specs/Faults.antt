@@ -31,7 +31,8 @@ pub record NoneStandsIn (l : Link) (p : Placed) (q : PlacedSection) : Type 0 whe
   pub rebase : (r : ℕ) → BadRebase l p (site.Field q.file q.section r) → ⊥
   pub place : (r : ℕ) → IsBadPlace l p q.file q.section r → ⊥
 
--- No such fault stands at all: no value is out of the range of its field or stub, each word that the loader writes can say its value, and has a place.
+-- No such fault stands at all: no value is out of the range of its field or stub, each word that the loader writes can say its value, and
+-- has a place.
 pub record NoneIsBad (l : Link) (p : Placed) : Type 0 where
   pub range : (at : Site) → BadRange l p at → ⊥
   pub rebase : (at : Site) → BadRebase l p at → ⊥

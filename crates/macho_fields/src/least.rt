@@ -122,7 +122,8 @@ pub fn section_fault<P: Places>(
     requires symbols { (s : ℕ) → s < num_symbols file.now.bytes → P.has_symbol places.now place.file s }
 
     // Where the other one stands, the answer stands.
-    ensures why { (l : Link) (p : Placed) → IsToFill l p place (P.look places.now) file.now.bytes → FillStands l p told → FillStands l p result }
+    ensures why { (l : Link) (p : Placed) → IsToFill l p place (P.look places.now) file.now.bytes → FillStands l p told
+        → FillStands l p result }
 {
     let _object = file.is_dynamic();
     let (Some(header), Some(bytes), Some(list)) = (

@@ -73,9 +73,11 @@ fn fill_one<P: Places>(
 ) -> Result<(), FillFault>
     requires fit { SectionFits views.now (placed_of placement.now) (length out.old) place }
     requires symbols { AreKnown views.now (P.has_symbol places.now) }
-    ensures done { (l : Link) → AreToFill l (placed_of placement.now) views.now (P.look places.now) → Contains placement.now.sections.items place
+    ensures done { (l : Link) → AreToFill l (placed_of placement.now) views.now (P.look places.now)
+        → Contains placement.now.sections.items place
         → OnOk result (IsDone l (placed_of placement.now) place out.old out.new run.old.items run.new.items) }
-    ensures why { (l : Link) → AreToFill l (placed_of placement.now) views.now (P.look places.now) → Contains placement.now.sections.items place
+    ensures why { (l : Link) → AreToFill l (placed_of placement.now) views.now (P.look places.now)
+        → Contains placement.now.sections.items place
         → IfErr result (FillStands l (placed_of placement.now)) }
 {
     let Some(file) = view_of(views, place.file) else {

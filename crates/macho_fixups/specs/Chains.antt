@@ -35,7 +35,8 @@ word_part segments fixups k f =
 -- The words of the first n fixups are written: each says what is asked, each stands, and every byte outside them is as before.
 pub record AreWritten (segments : List FixupSegment) (fixups : List Fixup) (n : ℕ) (before now : List ℕ) : Type 0 where
   pub size : length now ≡ length before
-  pub words : (k : ℕ) (d : Fixup) → k < n → IsWordOf (get_or fixups k d).kind (step_of fixups k) (word_of (get_or fixups k d).kind (step_of fixups k))
+  pub words : (k : ℕ) (d : Fixup) → k < n
+      → IsWordOf (get_or fixups k d).kind (step_of fixups k) (word_of (get_or fixups k d).kind (step_of fixups k))
   pub each : (k : ℕ) (d : Fixup) → k < n → Stands now (word_part segments fixups k (get_or fixups k d))
   pub outside : (i : ℕ) → ((k : ℕ) (d : Fixup) → k < n → IsOutside i (word_part segments fixups k (get_or fixups k d)))
       → slice_index now i ≡ slice_index before i
@@ -92,7 +93,8 @@ pub record IsPageWord (fixups : List Fixup) (g : ChainSegment) (page a : ℕ) : 
 pub record ChainIsRun (segments : List FixupSegment) (fixups : List Fixup) : Type 0 where
   pub set : (b : List ℕ) (a : ℕ) → AllStand segments fixups b → OnChain (map (chain_seen fixups) segments) b a ↔ IsAddressOf fixups a
   pub says : (b : List ℕ) (k word : ℕ) (d : Fixup) → AllStand segments fixups b → k < length fixups
-      → IsFileWord (map (chain_seen fixups) segments) b (get_or fixups k d).address word → IsWordOf (get_or fixups k d).kind (step_of fixups k) word
+      → IsFileWord (map (chain_seen fixups) segments) b (get_or fixups k d).address word
+      → IsWordOf (get_or fixups k d).kind (step_of fixups k) word
   -- so a page's chain goes through its fixups in the order of their addresses, each once
   pub onward : (b : List ℕ) (k word : ℕ) (d : Fixup) → AllStand segments fixups b → k < length fixups
       → IsFileWord (map (chain_seen fixups) segments) b (get_or fixups k d).address word → IsStepOf fixups k d (next_of word)

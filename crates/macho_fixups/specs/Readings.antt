@@ -27,14 +27,16 @@ abbrev pub entry_seen : ImportEntry → images.ImportEntry
 entry_seen e = record { library = e.library; name_offset = e.name_offset; addend = signed 32 (cast_unsigned w32 e.addend) }
 
 -- The header, the number of segments, the page starts of each, and the names are those given.
-pub record IsRead (b : List ℕ) (t : Table) (fixups : List Fixup) (segments : List FixupSegment) (format : ℕ) (imports : List ImportEntry) (names : List ℕ)
+pub record IsRead (b : List ℕ) (t : Table) (fixups : List Fixup) (segments : List FixupSegment) (format : ℕ) (imports : List ImportEntry)
+    (names : List ℕ)
     : Type 0 where
   pub header : fixups_header b t ≡ table_header fixups segments format imports
   pub count : starts_count b t ≡ length segments
   pub starts : (k : ℕ) (d : FixupSegment) → k < length segments → page_starts b t k ≡ starts_in fixups (get_or segments k d)
   -- so where the words of the run stand too, the chain is the run
   pub told : told_segments b t segments ≡ map (chain_seen fixups) segments
-  pub chain : ChainIsRun segments fixups → AllStand segments fixups b → (a : ℕ) → OnChain (told_segments b t segments) b a ↔ IsAddressOf fixups a
+  pub chain : ChainIsRun segments fixups → AllStand segments fixups b → (a : ℕ)
+      → OnChain (told_segments b t segments) b a ↔ IsAddressOf fixups a
   pub entries : (k : ℕ) (d : ImportEntry) → k < length imports → import_entry b t k ≡ entry_seen (get_or imports k d)
   pub texts : Stands b (record { at = t.at + names_place fixups segments format imports; text = names })
 
@@ -47,7 +49,8 @@ pub record IsCommandOf (c : SegmentCommand) (s : FixupSegment) : Type 0 where
 -- The segments of a file are these, in order.
 pub record AreSegmentsOf (b : List ℕ) (segments : List FixupSegment) : Type 0 where
   pub count : length (segments_of b) ≡ length segments
-  pub each : (k : ℕ) (c : SegmentCommand) (d : FixupSegment) → k < length segments → IsCommandOf (get_or (segments_of b) k c) (get_or segments k d)
+  pub each : (k : ℕ) (c : SegmentCommand) (d : FixupSegment) → k < length segments
+      → IsCommandOf (get_or (segments_of b) k c) (get_or segments k d)
 
 -- A table of so many bytes has room in its range of a file that has this base and these segments.
 pub record HasTable (b : List ℕ) (t : Table) (base : ℕ) (segments : List FixupSegment) (size : ℕ) : Type 0 where
@@ -57,7 +60,8 @@ pub record HasTable (b : List ℕ) (t : Table) (base : ℕ) (segments : List Fix
   pub agree : AreSegmentsOf b segments
 
 -- In every file in which the table stands, they are read; and the loader takes it where base and segments are those given.
-pub record TableReadsBack (base : ℕ) (fixups : List Fixup) (segments : List FixupSegment) (format : ℕ) (imports : List ImportEntry) (names : List ℕ)
+pub record TableReadsBack (base : ℕ) (fixups : List Fixup) (segments : List FixupSegment) (format : ℕ) (imports : List ImportEntry)
+    (names : List ℕ)
     : Type 0 where
   pub read : (b : List ℕ) (t : Table) → Stands b (record { at = t.at; text = table_text base fixups segments format imports names })
       → IsRead b t fixups segments format imports names

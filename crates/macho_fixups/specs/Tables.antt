@@ -68,7 +68,8 @@ entry_word e = e.library + e.name_offset * 2 ^ 9
 -- an entry: the word alone, or the word and a signed addend
 unfoldable pub entry_text : ℕ → ImportEntry → List ℕ
 entry_text format e =
-    if format == IMPORT_ADDEND_FORMAT then le_bytes 4 (entry_word e) ++ le_bytes 4 (cast_unsigned w32 e.addend) else le_bytes 4 (entry_word e)
+    if format == IMPORT_ADDEND_FORMAT then le_bytes 4 (entry_word e) ++ le_bytes 4 (cast_unsigned w32 e.addend)
+    else le_bytes 4 (entry_word e)
 
 -- the place of the entries, and of the names behind them
 abbrev pub imports_place : List Fixup → List FixupSegment → ℕ

@@ -54,8 +54,10 @@ pub fn write_chained_fixup_table(
 )
     requires fits { FitsTable base fixups.now segments.now }
     requires entries { AreEntries format imports.now }
-    requires room { table_room (length imports.now) (import_entry_size format) (length names.now) (all_pages fixups.now segments.now) ≤ length out.old }
-    ensures written { out.new ≡ put 0 (table_text base fixups.now segments.now format imports.now names.now) (replicate (length out.old) 0) }
+    requires room { table_room (length imports.now) (import_entry_size format) (length names.now)
+        (all_pages fixups.now segments.now) ≤ length out.old }
+    ensures written { out.new
+        ≡ put 0 (table_text base fixups.now segments.now format imports.now names.now) (replicate (length out.old) 0) }
     ensures long { length (table_text base fixups.now segments.now format imports.now names.now) ≤ length out.old }
     ensures read { TableReadsBack base fixups.now segments.now format imports.now names.now }
 {
@@ -77,7 +79,8 @@ fn write_parts(
     requires entries { AreEntries format imports.now }
     requires room { names_place fixups.now segments.now format imports.now + length names.now ≤ length out.old }
     ensures written { out.new ≡ put 0 (table_text base fixups.now segments.now format imports.now names.now) out.old }
-    ensures long { length (table_text base fixups.now segments.now format imports.now names.now) ≡ names_place fixups.now segments.now format imports.now + length names.now }
+    ensures long { length (table_text base fixups.now segments.now format imports.now names.now)
+        ≡ names_place fixups.now segments.now format imports.now + length names.now }
     ensures read { TableReadsBack base fixups.now segments.now format imports.now names.now }
 {
     let imports_at = write_image_starts(out, STARTS_AT, segments, base, fixups);
@@ -125,8 +128,13 @@ fn write_segments(
 ) -> usize
     requires fits { FitsTable base fixups.now segments.now }
     requires room { at + image_starts_size fixups.now segments.now ≤ length out.old }
-    ensures written { out.new ≡ put (at + 4) (offsets_text (4 + 4 * length segments.now) fixups.now segments.now ++ flat_map (segment_text base fixups.now) segments.now) out.old }
-    ensures long { length (offsets_text (4 + 4 * length segments.now) fixups.now segments.now ++ flat_map (segment_text base fixups.now) segments.now) ≡ 4 * length segments.now + sum_by (segment_size fixups.now) segments.now }
+    ensures written { out.new
+        ≡ put (at + 4)
+        (offsets_text (4 + 4 * length segments.now) fixups.now segments.now
+        ++ flat_map (segment_text base fixups.now) segments.now) out.old }
+    ensures long { length
+        (offsets_text (4 + 4 * length segments.now) fixups.now segments.now ++ flat_map (segment_text base fixups.now) segments.now)
+        ≡ 4 * length segments.now + sum_by (segment_size fixups.now) segments.now }
     ensures behind { result ≡ at + image_starts_size fixups.now segments.now }
 {
     let mut slot = at + 4;

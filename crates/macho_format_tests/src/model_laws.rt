@@ -64,7 +64,9 @@ fn text_in_memory(file: &[u8], slide: u64, segment: SegmentCommand, place: u64, 
 /// A field of a section whose targets move denotes them at a slide too.
 fn field_at_a_slide(file: &[u8], section: PlacedSection, slide: u64)
     requires { slide % SEGMENT_PAGE ≡ 0 }
-    ensures { (l : Link) (p : Placed) (c d : Choice) (f : Field) → targets_move f (kind_of f.type (is_some f.subtrahend)) ≡ true → IsFree file.now (section.address + f.offset) f.width → Denotes l file.now p 0 c section f → Denotes l file.now p slide d section f }
+    ensures { (l : Link) (p : Placed) (c d : Choice) (f : Field) → targets_move f (kind_of f.type (is_some f.subtrahend)) ≡ true
+        → IsFree file.now (section.address + f.offset) f.width → Denotes l file.now p 0 c section f
+        → Denotes l file.now p slide d section f }
 {
     fields_denote_at_every_slide();
 }
@@ -72,14 +74,18 @@ fn field_at_a_slide(file: &[u8], section: PlacedSection, slide: u64)
 /// A slot whose chain word moves with the image stands at a slide too.
 fn slot_at_a_slide(file: &[u8], slot: Slot, slide: u64)
     requires { is_defined slot.target ≡ true }
-    ensures { (l : Link) (p : Placed) (c choice : Choice) (word x : ℕ) → MovesAt file.now slot.address word → IsAt l p 0 c slot.target x → Same (rebase_target word + rebase_high word * 2 ^ 56 + base_of file.now) x → SlotStands l file.now p slide choice slot }
+    ensures { (l : Link) (p : Placed) (c choice : Choice) (word x : ℕ) → MovesAt file.now slot.address word → IsAt l p 0 c slot.target x
+        → Same (rebase_target word + rebase_high word * 2 ^ 56 + base_of file.now) x → SlotStands l file.now p slide choice slot }
 {
     slots_stand_at_every_slide();
 }
 
 /// A pointer of a section that is an offset from the template, or absolute, is the same at a slide.
 fn plain_pointer_at_a_slide(file: &[u8], section: PlacedSection, slide: u64)
-    ensures { (l : Link) (p : Placed) (c d : Choice) (f : Field) → kind_of f.type (is_some f.subtrahend) ≡ Pointer → (is_template_offset l (id_of section) f || is_absolute_target f.target) ≡ true → IsFree file.now (section.address + f.offset) f.width → Denotes l file.now p 0 c section f → Denotes l file.now p slide d section f }
+    ensures { (l : Link) (p : Placed) (c d : Choice) (f : Field) → kind_of f.type (is_some f.subtrahend) ≡ Pointer
+        → (is_template_offset l (id_of section) f || is_absolute_target f.target) ≡ true
+        → IsFree file.now (section.address + f.offset) f.width → Denotes l file.now p 0 c section f
+        → Denotes l file.now p slide d section f }
 {
     plain_pointers_stay();
 }
@@ -100,14 +106,16 @@ fn as_many_slots()
 
 /// A link with one input more has that input's symbols more.
 fn symbols_of_one_more()
-    ensures { (l : Link) (x : Input) → length (symbols_of (with_input l x)) ≡ length (symbols_of l) + length (symbols_of_file (length l.inputs) x) }
+    ensures { (l : Link) (x : Input)
+        → length (symbols_of (with_input l x)) ≡ length (symbols_of l) + length (symbols_of_file (length l.inputs) x) }
 {
     one_input_more_adds_its_own();
 }
 
 /// The first symbol of a link, where it is a chosen common, is common 0.
 fn first_common()
-    ensures { (l : Link) (after : List SymbolId) (s : SymbolId) → symbols_of l ≡ s ∷ after → is_chosen l s ≡ true → position_or_len (same_symbol s) (chosen_commons l) ≡ 0 }
+    ensures { (l : Link) (after : List SymbolId) (s : SymbolId) → symbols_of l ≡ s ∷ after → is_chosen l s ≡ true
+        → position_or_len (same_symbol s) (chosen_commons l) ≡ 0 }
 {
     chosen_commons_are_counted();
 }

@@ -17,7 +17,8 @@ things_listed l counts p whole = record {
 }
 
 pub laid_out : PlacesAreLaidOut
-laid_out l counts p whole = record { segments = whole.order.segments; names = whole.order.names; least = whole.least; sections = whole.sections }
+laid_out l counts p whole
+    = record { segments = whole.order.segments; names = whole.order.names; least = whole.least; sections = whole.sections }
 
 pub link_placed : LinksArePlaced
 link_placed l counts p sound = record {

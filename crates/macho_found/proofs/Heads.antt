@@ -32,7 +32,8 @@ use Rattle.macho_found.proofs.Found.{laid_out}
 use Rattle.macho_model.proofs.Outputs.{least_of, headers_same}
 
 pub headers_stand : HeadersStand
-headers_stand l counts p whole = record { are = headers-are l counts p whole.order.segments whole.placed.follow (whole.sections ∙ headers_same l counts p) }
+headers_stand l counts p whole
+    = record { are = headers-are l counts p whole.order.segments whole.placed.follow (whole.sections ∙ headers_same l counts p) }
 
 -- the tables one behind the other
 pub record TablesFollow (p : Placed) : Type 0 where

@@ -115,14 +115,16 @@ imported_plain : (l : Link) (name : List ℕ) → StubsArePlain l → is_importe
 unfolding first_definition libraries_with
 imported_plain l name plain e =
     let found = some_library (libraries_with l name) (bytes_eq name DSO_HANDLE)
-    (no_symbol (greatest_of l name) _ (no_symbol (weak_of l name) _ (no_symbol (strong_of l name) _ (ap is_library (sym (definition_is_first l name)) ∙ e)))) in
+    (no_symbol (greatest_of l name) _
+    (no_symbol (weak_of l name) _ (no_symbol (strong_of l name) _ (ap is_library (sym (definition_is_first l name)) ∙ e)))) in
     let m = map_contains (λ (i : ℕ × Input). i.0) (filter (λ i. offers name i.1) (enumerate_from 0 l.inputs)) found.0 found.1 in
     let of = filter_contains (λ (i : ℕ × Input). offers name i.1) (enumerate_from 0 l.inputs) m.0 m.1 in
     offered_plain l name m.0.0 m.0.1 plain (enumerate_contains l.inputs m.0 of.0) of.1
 
 pub imports_plain : ImportsArePlain
 imports_plain l plain =
-    subst (All IsPlain) (sym (imports_are l)) (contains_all IsPlain (distinct bytes_eq (filter (is_imported l) (filter_map (name_used l) (uses_of l))))
+    subst (All IsPlain) (sym (imports_are l))
+    (contains_all IsPlain (distinct bytes_eq (filter (is_imported l) (filter_map (name_used l) (uses_of l))))
     (λ name has. imported_plain l name plain
     (filter_contains (is_imported l) (filter_map (name_used l) (uses_of l)) name
     (of_distinct bytes_eq (filter (is_imported l) (filter_map (name_used l) (uses_of l))) name has)).1))

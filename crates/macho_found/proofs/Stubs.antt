@@ -71,7 +71,8 @@ slot_listed : (l : Link) (t : Target) → Contains (stubs_of l) t → Contains (
 slot_listed l t has =
     let made = of_filter_map (stub_of_use l) (uses_of l) t (of_distinct same_target (filter_map (stub_of_use l) (uses_of l)) t
     (subst (λ (ts : List Target). Contains ts t) (stubs_are l) has)) in
-    subst (λ (ts : List Target). Contains ts t) (sym (slots_are l)) (in_distinct same_target same_targets (filter_map (slot_of_use l) (uses_of l)) t
+    subst (λ (ts : List Target). Contains ts t) (sym (slots_are l))
+    (in_distinct same_target same_targets (filter_map (slot_of_use l) (uses_of l)) t
     (in_filter_map (slot_of_use l) (uses_of l) made.0 t made.1 (use_too l made.0 t made.2)))
 
 stub_has_slot : (l : Link) (counts : Counts) (p : Placed) (s : Stub) → IsPlaced l counts p → Contains p.stubs s

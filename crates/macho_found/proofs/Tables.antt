@@ -170,7 +170,8 @@ above : (l : Link) (counts : Counts) (p : Placed) (s : PlacedSegment) (fixups : 
 above l counts p s fixups sound run has = elim (cases_Bool (may_hold_pointers (text_of s.name))) [
   | inr none ↦ inl (no_pages l counts p s fixups sound run has none)
   | inl may ↦ inr
-      (segment_above l p has.0 s (in_order_of sound.placed.placed) sound.placed.placed.base (has.1, has.2) (pointers_above (text_of s.name) may))
+      (segment_above l p has.0 s (in_order_of sound.placed.placed) sound.placed.placed.base (has.1, has.2)
+      (pointers_above (text_of s.name) may))
 ]
 
 few_segments : (l : Link) (counts : Counts) (p : Placed) → IsSoundlyPlaced l counts p → length p.segments ≤ 6

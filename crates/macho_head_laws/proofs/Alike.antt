@@ -78,7 +78,8 @@ header_text h =
       bytes_cut4 h.reserved3,
     ) refl
 
-headers_text : (hs : List SectionHeader) → flat_map (spelling section_header_rows) (map header_cut hs) ≡ flat_map (spelling section_header_rows) hs
+headers_text : (hs : List SectionHeader)
+    → flat_map (spelling section_header_rows) (map header_cut hs) ≡ flat_map (spelling section_header_rows) hs
 headers_text [] = refl
 headers_text (h ∷ hs) =
     ap (λ (t : List ℕ). t ++ flat_map (spelling section_header_rows) (map header_cut hs)) (header_text h)

@@ -95,7 +95,8 @@ headers_back hs named = record {
   each = All-map (ReadsBack section_header_rows) header_cut hs (λ k d lt. header_back (get_or hs k d) (named k d lt));
 }
 
-headers_long : (hs : List SectionHeader) → All IsNamed hs → length (flat_map (spelling section_header_rows) (map header_cut hs)) ≡ 80 * length hs
+headers_long : (hs : List SectionHeader) → All IsNamed hs
+    → length (flat_map (spelling section_header_rows) (map header_cut hs)) ≡ 80 * length hs
 headers_long hs named =
     length-flat_map_same (spelling section_header_rows) 80 (map header_cut hs) (λ k d lt. ((headers_back hs named).each k d lt).long)
     ∙ ap (λ (n : ℕ). 80 * n) (length-map hs header_cut)

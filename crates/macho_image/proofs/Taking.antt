@@ -73,7 +73,8 @@ pub takes_stub : (xs next : List OwnedInput) (stub : StubText) (old now : Link) 
 takes_stub xs next stub old now is read view = record {
   says = stub.reading.0;
   stub = kept_stub (string_bytes stub.text) read stub.reading;
-  added = ap (λ (inputs : List Input). record old { inputs = inputs }) (ap (map input_of) is ∙ map-append input_of xs (owned.Stub stub ∷ []))
+  added = ap (λ (inputs : List Input). record old { inputs = inputs })
+      (ap (map input_of) is ∙ map-append input_of xs (owned.Stub stub ∷ []))
       ∙ ap (λ (l : Link). with_input l (Stub (string_bytes stub.text) stub.reading.0)) view;
 }
 

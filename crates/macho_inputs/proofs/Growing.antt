@@ -18,7 +18,8 @@ use Rattle.macho_inputs.specs.Owned.{input_of}
 pub inputs_more : (xs : List OwnedInput) (i : ℕ) (x : OwnedInput) → i < length xs → x ≡ get_or xs i x → map input_of (take (i + 1) xs)
     ≡ map input_of (take i xs) ++ input_of x ∷ []
 inputs_more xs i x lt is =
-    ap (map input_of) (take_more xs i x lt ∙ ap (λ (y : OwnedInput). take i xs ++ y ∷ []) (sym is)) ∙ map-append input_of (take i xs) (x ∷ [])
+    ap (map input_of) (take_more xs i x lt ∙ ap (λ (y : OwnedInput). take i xs ++ y ∷ []) (sym is))
+    ∙ map-append input_of (take i xs) (x ∷ [])
 
 -- the objects of one more
 pub objects_more : (xs : List OwnedInput) (i : ℕ) (x : OwnedInput) (old new : List (ℕ × List ℕ)) → i < length xs → x ≡ get_or xs i x
@@ -34,7 +35,8 @@ objects_more xs i x old new lt is so_far added =
     ∙ filter_map-append object_in (enumerate_from 0 before) ((i, input_of x) ∷ []))
 
 -- a library is no object
-pub no_object : (n : ℕ) (x : OwnedInput) → ((bytes : Vec ℕ Global) → x ≡ owned.Object bytes → ⊥) → filter_map object_in ((n, input_of x) ∷ []) ≡ []
+pub no_object : (n : ℕ) (x : OwnedInput) → ((bytes : Vec ℕ Global) → x ≡ owned.Object bytes → ⊥)
+    → filter_map object_in ((n, input_of x) ∷ []) ≡ []
 no_object n (owned.Object bytes) other = absurd (other bytes refl)
 no_object n (owned.Dylib bytes) other = refl
 no_object n (owned.Stub text) other = refl

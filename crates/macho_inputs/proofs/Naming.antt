@@ -29,7 +29,8 @@ abbrev is_needed : Link → List ℕ → Bool
 is_needed l library = list_any (λ name. bytes_eq (import_library l name) library) (imports_of l)
 
 -- the names of a set that a name was put into
-texts_put : (names : List (Bor (List ℕ))) (x : Bor (List ℕ)) → texts (insert_key same_text names x) ≡ insert_key bytes_eq (texts names) x.now
+texts_put : (names : List (Bor (List ℕ))) (x : Bor (List ℕ))
+    → texts (insert_key same_text names x) ≡ insert_key bytes_eq (texts names) x.now
 texts_put names x = by (list_any (same_text x) names) refl
   where
     same : list_any (bytes_eq x.now) (texts names) ≡ list_any (same_text x) names
@@ -73,8 +74,10 @@ library_is : (l : Link) (name : List ℕ) (i : Import) → IsImportOf l name i �
 library_is l name i of = of.2 ∙ sym (ap (λ (d : Option Definition). library_name l (library_file d)) of.1)
 
 -- the libraries that imports ask for
-pub asked_are : (l : Link) (imports : List Import) → ImportsAre l (imports_of l) imports → asked_of imports ≡ map (import_library l) (imports_of l)
-asked_are l imports are = by (imports_of l) imports are.long (λ k d lt. library_is l (get_or (imports_of l) k []) (get_or imports k d) (are.each k d lt))
+pub asked_are : (l : Link) (imports : List Import) → ImportsAre l (imports_of l) imports
+    → asked_of imports ≡ map (import_library l) (imports_of l)
+asked_are l imports are =
+    by (imports_of l) imports are.long (λ k d lt. library_is l (get_or (imports_of l) k []) (get_or imports k d) (are.each k d lt))
   where
     by : (names : List (List ℕ)) (is : List Import) → length is ≡ length names
         → ((k : ℕ) (d : Import) → k < length is → (get_or is k d).library.items ≡ import_library l (get_or names k []))
@@ -93,8 +96,10 @@ pub needed_are : (l : Link) (inputs : List Input) (imports : List Import) (dead 
     → filter (is_kept dead asked) (distinct bytes_eq (filter_map library_of_input inputs)) ≡ libraries_needed l
 unfolding libraries_needed
 needed_are l inputs imports dead asked held strips are names =
-    filter_agree (is_kept dead asked) (λ n. not l.dead_strip_dylibs || is_needed l n) same (distinct bytes_eq (filter_map library_of_input inputs))
-    ∙ ap (λ (xs : List Input). filter (λ n. not l.dead_strip_dylibs || is_needed l n) (distinct bytes_eq (filter_map library_of_input xs))) (sym held)
+    filter_agree (is_kept dead asked) (λ n. not l.dead_strip_dylibs || is_needed l n) same
+    (distinct bytes_eq (filter_map library_of_input inputs))
+    ∙ ap (λ (xs : List Input). filter (λ n. not l.dead_strip_dylibs || is_needed l n) (distinct bytes_eq (filter_map library_of_input xs)))
+    (sym held)
   where
     among : (n : List ℕ) → dead ≡ true → list_any (bytes_eq n) asked ≡ is_needed l n
     among n strip =

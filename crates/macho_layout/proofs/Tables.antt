@@ -1,7 +1,7 @@
 -- The tables of a plan, one section more.
 --
--- Names are put into a table unless they are there, which is what taking repeats out of one name more gives. A section that was there keeps the
--- place of its output section, since it is inside the table; the new one has the place of its name, also where it goes last.
+-- Names are put into a table unless they are there, which is what taking repeats out of one name more gives. A section that was there
+-- keeps the place of its output section, since it is inside the table; the new one has the place of its name, also where it goes last.
 use Rattle.std.proofs.Common.{◌≡◌, ℕ, ◌<◌, ◌≤◌, ◌==◌, ◌&&◌, Bool, List, [], ◌∷◌, ◌++◌, map, length, get_or, Decides, refl, sym, ap, ◌∙◌, subst, arith}
 use Rattle.std.specs.List.{list_any, position_or_len}
 use Rattle.std.proofs.lemmas.Bool.{and_parts, and_from, eqb-true, eq-eqb}

@@ -61,7 +61,8 @@ pub record FitSizes (p : Planning) (counts : Counts) : Type 0 where
 -- all cells
 unfoldable pub cells_of : Planning → Counts → List SegmentName → List Extent → List Cell
 cells_of p counts names extents =
-    map (λ number. merged_cell p names number (extent_at extents number)) (range_with_len 0 (length extents)) ++ made_cells p counts (length extents)
+    map (λ number. merged_cell p names number (extent_at extents number)) (range_with_len 0 (length extents))
+    ++ made_cells p counts (length extents)
 
 -- the classes of the template
 abbrev pub is_template_class : ℕ → Bool

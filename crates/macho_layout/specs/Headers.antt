@@ -40,7 +40,8 @@ no_segment = record { name = padded TEXT; address = 0; size = 0; file_offset = 0
 abbrev pub file_offset_of : List PlacedSegment → PlacedCell → ℕ
 file_offset_of segments q =
     if nat_lt (q.cell.rank / 9) (length segments) then
-    ((q.start + (2 ^ 64 - (get_or segments (q.cell.rank / 9) no_segment).address)) % 2 ^ 64 + (get_or segments (q.cell.rank / 9) no_segment).file_offset)
+    ((q.start + (2 ^ 64 - (get_or segments (q.cell.rank / 9) no_segment).address)) % 2 ^ 64 +
+    (get_or segments (q.cell.rank / 9) no_segment).file_offset)
     % 2 ^ 64 % 2 ^ 32
     else 0
 

@@ -57,10 +57,12 @@ abbrev pub made_start : List Extent → List ℕ → ℕ → ℕ
 made_start extents starts made = number_at starts (length extents + made)
 
 -- A placement is told by its members, its rows and the starts of its output sections.
-pub record IsFrom (p : Planning) (counts : Counts) (planned : List Planned) (extents : List Extent) (members : List PlacedMember) (rows : List PlacedSegment)
+pub record IsFrom (p : Planning) (counts : Counts) (planned : List Planned) (extents : List Extent) (members : List PlacedMember)
+    (rows : List PlacedSegment)
     (cells : List PlacedCell) (starts : List ℕ) (address offset : ℕ) (q : Placed) : Type 0 where
   pub base : q.base ≡ base_of p
-  pub segments : q.segments ≡ list_if p.executable (zero_page ∷ []) ++ rows ++ tables_segment address offset (tables_at counts offset (row_pages rows)) ∷ []
+  pub segments : q.segments ≡ list_if p.executable (zero_page ∷ []) ++ rows
+      ++ tables_segment address offset (tables_at counts offset (row_pages rows)) ∷ []
   pub sections : q.sections ≡ placed_sections (one_if p.executable) (mapped_names p) members starts planned
   pub commons : q.commons ≡ placed_commons (length p.sections) members starts p.commons
   pub slots : q.slots ≡ placed_slots (made_start extents starts 3) p.slots
@@ -83,7 +85,8 @@ pub record IsLaidOut (p : Planning) (counts : Counts) (q : Placed) : Type 0 wher
   pub offset : ℕ
   pub planned_are : specs_of planned ≡ p.sections
   pub stacked : AreStacked (first_flags p) (members_of p) extents members
-  pub rows : AreRows (mapped_names p) (cells_of p counts (mapped_names p) extents) (base_of p) (head_size p counts) (length (mapped_names p)) segments cells address offset
+  pub rows : AreRows (mapped_names p) (cells_of p counts (mapped_names p) extents) (base_of p) (head_size p counts)
+      (length (mapped_names p)) segments cells address offset
   pub have : HasStarts (length extents + 4) cells starts
   pub from_them : IsFrom p counts planned extents members segments cells starts address offset q
   -- each section's segment is one that it may stand in

@@ -23,7 +23,8 @@ ListsAreWhole = (l : Link) (p : Planning) (counts : Counts) (q : Placed) → IsP
 
 -- sections are listed by file, then section, and commons by number
 abbrev pub SectionsAreListed : Type 0
-SectionsAreListed = (l : Link) (p : Planning) (counts : Counts) (q : Placed) → IsPlanOf l p → IsLaidOut p counts q → map id_of q.sections ≡ carried_of l
+SectionsAreListed = (l : Link) (p : Planning) (counts : Counts) (q : Placed) → IsPlanOf l p → IsLaidOut p counts q
+    → map id_of q.sections ≡ carried_of l
 
 abbrev pub CommonsAreListed : Type 0
 CommonsAreListed =

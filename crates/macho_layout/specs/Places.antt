@@ -83,4 +83,5 @@ abbrev pub placed_slots : ℕ → List Target → List Slot
 placed_slots start targets = map (λ e. record { target = e.1; address = behind start (8 * e.0) }) (enumerate_from 0 targets)
 
 abbrev pub placed_stubs : ℕ → List StubSpec → List Stub
-placed_stubs start stubs = map (λ e. record { import = e.1.import; address = behind start (12 * e.0); slot = e.1.slot }) (enumerate_from 0 stubs)
+placed_stubs start stubs =
+    map (λ e. record { import = e.1.import; address = behind start (12 * e.0); slot = e.1.slot }) (enumerate_from 0 stubs)

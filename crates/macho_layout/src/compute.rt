@@ -102,7 +102,10 @@ impl Plan {
         requires fits { FitsLimits self.now counts.now }
         requires names { names.now ≡ mapped_names self.now }
         requires stacked { AreStacked (first_flags self.now) (members_of self.now) stacked.now.extents.items stacked.now.placed.items }
-        ensures { IfOk result (λ r. AreRows (mapped_names self.now) (cells_of self.now counts.now (mapped_names self.now) stacked.now.extents.items) (base_of self.now) (head_size self.now counts.now) (length (mapped_names self.now)) r.segments.items r.placed.items r.address r.offset) }
+        ensures { IfOk result
+            (λ r. AreRows (mapped_names self.now) (cells_of self.now counts.now (mapped_names self.now) stacked.now.extents.items)
+            (base_of self.now) (head_size self.now counts.now)
+            (length (mapped_names self.now)) r.segments.items r.placed.items r.address r.offset) }
     {
         let _executable = self.executable;
         let base = self.base();
@@ -123,7 +126,9 @@ impl Plan {
         requires fits { FitsLimits self.now counts.now }
         requires names { names.now ≡ mapped_names self.now }
         requires stacked { AreStacked (first_flags self.now) (members_of self.now) stacked.now.extents.items stacked.now.placed.items }
-        requires rows { AreRows (mapped_names self.now) (cells_of self.now counts.now (mapped_names self.now) stacked.now.extents.items) (base_of self.now) (head_size self.now counts.now) (length (mapped_names self.now)) rows.segments.items rows.placed.items rows.address rows.offset }
+        requires rows { AreRows (mapped_names self.now) (cells_of self.now counts.now (mapped_names self.now) stacked.now.extents.items)
+            (base_of self.now) (head_size self.now counts.now)
+            (length (mapped_names self.now)) rows.segments.items rows.placed.items rows.address rows.offset }
         ensures { IfOk result (λ q. IsLaidOut self.now counts.now (placed_of q)) }
     {
         let merged = stacked.extents.len();

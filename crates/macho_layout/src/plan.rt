@@ -30,9 +30,16 @@ impl Model for Plan {
     ghost use Rattle.macho_layout.specs.Keys.{specs_of};
     ghost use Rattle.macho_layout.specs.steps.Holding.{HoldNames, AreSound};
 
-    ghost view = { λ p. record { executable = p.executable; sections = specs_of p.sections.items; commons = p.commons.items; slots = p.slots.items; stubs = p.stubs.items } };
+    ghost view = { λ p. record {
+      executable = p.executable;
+      sections = specs_of p.sections.items;
+      commons = p.commons.items;
+      slots = p.slots.items;
+      stubs = p.stubs.items;
+    } };
 
-    ghost invariant = { λ p. HoldNames p.sections.items p.keys.keys p.segments.keys × AreSound (specs_of p.sections.items) p.commons.items };
+    ghost invariant = { λ p. HoldNames p.sections.items p.keys.keys p.segments.keys
+        × AreSound (specs_of p.sections.items) p.commons.items };
 }
 
 impl Plan {

@@ -70,7 +70,8 @@ of_section l p q x c =
 pub carried : (l : Link) (counts : Counts) (p : Placed) (q : PlacedSection) → IsPlaced l counts p → Contains p.sections q → Contains
     (carried_of l) (id_of q)
 carried l counts p q placed c =
-    Contains-permutation (map id_of p.sections) (carried_of l) (id_of q) (same_order placed.whole_list.sections) (in_map id_of p.sections q c)
+    Contains-permutation (map id_of p.sections) (carried_of l) (id_of q) (same_order placed.whole_list.sections)
+    (in_map id_of p.sections q c)
 
 -- Facts of the pointer of a placed section.
 record IsPointerAt (l : Link) (p : Placed) (q : PlacedSection) (a : ℕ) : Type 0 where

@@ -65,7 +65,8 @@ padding_is l a are = ap (λ (b : Bool). if b then inner a.arguments.executable e
     ∙ by l.headerpad l.executable
   where
     inner : Bool → ℕ
-    inner b = if b then 1024 * (length a.libraries.now + length a.arguments.rpaths.now) else 1024 * (length a.libraries.now + length a.arguments.rpaths.now + 1)
+    inner b = if b then 1024 * (length a.libraries.now + length a.arguments.rpaths.now)
+        else 1024 * (length a.libraries.now + length a.arguments.rpaths.now + 1)
 
     libraries : length a.libraries.now ≡ length (libraries_needed l)
     libraries = omega (arith, length-map a.libraries.now (λ (x : Vec ℕ Global). x.items), ap length are.libraries)

@@ -215,7 +215,8 @@ lists_skip l file n b old now done none = record {
         (filter (is_in_table l) (symbols_in file b n)))
 
 pub lists_add : (l : Link) (file n size : ℕ) (b : List ℕ) (old now next : TableSymbols) → Lists l (symbols_in file b n) old now
-    → Some size ≡ name_length l (symbol_id file n) → next.symbols.items ≡ now.symbols.items ++ record { file = file; symbol = n; length = size } ∷ []
+    → Some size ≡ name_length l (symbol_id file n)
+    → next.symbols.items ≡ now.symbols.items ++ record { file = file; symbol = n; length = size } ∷ []
     → next.strings ≡ now.strings + (size + 1) → Lists l (symbols_in file b (n + 1)) old next
 lists_add l file n size b old now next done some pushed counted = record {
   symbols_are =

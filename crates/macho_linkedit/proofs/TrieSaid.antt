@@ -38,7 +38,8 @@ use Rattle.macho_model.proofs.Uses.{imports_are}
 imported : (l : Link) (name : List ℕ) → Contains (imports_of l) name → is_imported l name ≡ true
 imported l name c =
     (from_filter (is_imported l) (filter_map (name_used l) (uses_of l)) name
-    (from_distinct bytes_eq (filter (is_imported l) (filter_map (name_used l) (uses_of l))) name (subst (λ (ns : List (List ℕ)). Contains ns name) (imports_are l) c))).1
+    (from_distinct bytes_eq (filter (is_imported l) (filter_map (name_used l) (uses_of l))) name
+    (subst (λ (ns : List (List ℕ)). Contains ns name) (imports_are l) c))).1
 
 -- a target has one value
 one_value : (l : Link) (p : Placed) (weak : ℕ) (t : Target) (e f : Exported) → IsWholeList l p → ValueOf l p weak t e → ValueOf l p weak t f

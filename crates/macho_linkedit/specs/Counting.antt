@@ -26,7 +26,8 @@ pub record FitCounts (a : SizesAsked) : Type 0 where
   pub rpaths : All IsPath a.arguments.rpaths.now
   pub libraries_few : length a.libraries.now < 2 ^ 28
   pub rpaths_few : length a.arguments.rpaths.now < 2 ^ 28
-  pub numbers : (name_bytes a.imports.now < 2 ^ 64) × (length a.imports.now + a.own_entries < 2 ^ 64) × (length a.arguments.name.now < 2 ^ 63)
+  pub numbers : (name_bytes a.imports.now < 2 ^ 64) × (length a.imports.now + a.own_entries < 2 ^ 64)
+      × (length a.arguments.name.now < 2 ^ 63)
 
 -- The arguments are those of a link.
 pub record AreArguments (l : Link) (a : SizeArguments) : Type 0 where

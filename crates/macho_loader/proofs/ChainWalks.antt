@@ -46,7 +46,8 @@ pub one_segment : (b : List ℕ) (i p j q a w v : ℕ) → StandApart b → IsNt
 one_segment b i p j q a w v apart at_i at_j has_w has_v =
     let one = nth_number b i p at_i in
     let other = nth_number b j q at_j in
-    one_holds (segments_of b) (segment_there b p) (segment_there b q) a (all_rise (segments_of b) apart.rise) (i, one.0, one.1) (j, other.0, other.1)
+    one_holds (segments_of b) (segment_there b p) (segment_there b q) a (all_rise (segments_of b) apart.rise) (i, one.0, one.1)
+    (j, other.0, other.1)
     (holds_address b i p a w apart at_i has_w) (holds_address b j q a v apart at_j has_v)
 
 -- and the word of the file is that one

@@ -32,7 +32,8 @@ impl<'a> Model for Loaded<'a> {
     ghost use Rattle.macho_model.specs.Images.{base_of, segments_of};
     ghost use Rattle.macho_model.specs.Loader.{IsAccepted};
 
-    ghost invariant = { λ l. IsAccepted l.bytes.now × (l.base ≡ base_of l.bytes.now) × (l.num_segments ≡ length (segments_of l.bytes.now)) };
+    ghost invariant = { λ l. IsAccepted l.bytes.now × (l.base ≡ base_of l.bytes.now)
+        × (l.num_segments ≡ length (segments_of l.bytes.now)) };
 }
 
 /// How many segments an image has.

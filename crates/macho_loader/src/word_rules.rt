@@ -34,7 +34,8 @@ pub(crate) fn fitting_word(bytes: &[u8], segment: Chained, page: u16, offset: u6
     requires apart { StandApart bytes.now }
     requires chained { IsChained bytes.now segment }
     ensures found { (w : ℕ) → result ≡ Some w → IsFittingWord bytes.now segment.place page (address_in bytes.now segment.place offset) w }
-    ensures only { result ≡ None → WordFits bytes.now (segment_there bytes.now segment.place) page (address_in bytes.now segment.place offset) → ⊥ }
+    ensures only { result ≡ None
+        → WordFits bytes.now (segment_there bytes.now segment.place) page (address_in bytes.now segment.place offset) → ⊥ }
 {
     let address = segment_at(bytes, segment.place).address as u128 + offset as u128;
     if !page_has(bytes, segment.place, page, address) {

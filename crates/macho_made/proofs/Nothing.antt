@@ -73,7 +73,8 @@ initializer_listed l s r slot there at =
     let t : Target = target_of_relocation l s r in
     let low : slot < (header_at l s).size / 8 = omega (arith, at.inside) in
     subst (λ (ts : List Target). Contains ts t) (sym (initializers_are l))
-    (contains_flat_map (λ q. flat_map (λ k. map (target_of_relocation l q) (relocations_at l q (8 * k))) (range_with_len 0 ((header_at l q).size / 8)))
+    (contains_flat_map
+    (λ q. flat_map (λ k. map (target_of_relocation l q) (relocations_at l q (8 * k))) (range_with_len 0 ((header_at l q).size / 8)))
     (initializer_sections l) s t there
     (contains_flat_map (λ k. map (target_of_relocation l s) (relocations_at l s (8 * k))) (range_with_len 0 ((header_at l s).size / 8))
     slot t

@@ -28,7 +28,7 @@ use Rattle.macho_unwind_pages.specs.declared.entries.UnwindInput.{UnwindInput}
 use Rattle.macho_unwind_pages.specs.declared.entries.ResolvedUnwindInfo.{ResolvedUnwindInfo}
 use Rattle.macho_unwind_pages.specs.Bounds.{unwind_bound_of}
 use Rattle.macho_unwind_pages.specs.Orders.{in_order}
-use Rattle.macho_unwind_pages.specs.Entries.{input_of, inputs_of, named_ids}
+use Rattle.macho_unwind_pages.specs.Entries.{input_of, inputs_of}
 use Rattle.macho_unwind_pages.specs.Plans.{IsFar, HasFarAddress, HasFarOffset}
 use Rattle.macho_unwind.specs.Entries.{HasFarPage}
 use Rattle.macho_unwind.proofs.OnePlace.{far_page}
@@ -168,7 +168,7 @@ large_room l counts p make large = by (in_segment_of make.placed.placed).unwind.
 
 -- no entries have little room
 no_room : (span : ℕ) (xs : List UnwindInput) → length xs ≡ 0 → unwind_bound_of xs span ≤ 40
-unfolding in_order named_ids
+unfolding in_order
 no_room span [] none = omega arith
 no_room span (x ∷ xs) none = absurd (omega arith)
 

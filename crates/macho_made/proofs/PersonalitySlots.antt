@@ -73,7 +73,8 @@ pub person_slotted : (l : Link) (d : EntryId) (r : ℕ) → Contains (entries_of
     → Contains (relocations_in_entry l d.of_section d.entry PERSONALITY_PLACE) r
     → Contains (slots_of l) (target_of_relocation l d.of_section r)
 person_slotted l d r has here =
-    subst (λ (ts : List Target). Contains ts (target_of_relocation l d.of_section r)) (sym (slots_are l)) (in_distinct same_target same_targets (filter_map (slot_of_use l) (uses_of l)) (target_of_relocation l d.of_section r)
+    subst (λ (ts : List Target). Contains ts (target_of_relocation l d.of_section r)) (sym (slots_are l))
+    (in_distinct same_target same_targets (filter_map (slot_of_use l) (uses_of l)) (target_of_relocation l d.of_section r)
     (in_filter_map (slot_of_use l) (uses_of l) (ByPersonality d.of_section r) (target_of_relocation l d.of_section r)
     (person_used l d r has here) refl))
 

@@ -19,7 +19,8 @@ use Rattle.macho_made.specs.Made.{IsToMake, IsOffsetsText, IsUnwindMade}
 -- the entries of a link at their addresses are such that unwind information can be made of them
 abbrev pub EntriesMayBeBuilt : Type 0
 EntriesMayBeBuilt =
-    (l : Link) (counts : Counts) (p : Placed) (look : Look) (slots : List Target) → IsToMake l counts p → Tells l p look → slots ≡ slots_of l
+    (l : Link) (counts : Counts) (p : Placed) (look : Look) (slots : List Target) → IsToMake l counts p → Tells l p look
+    → slots ≡ slots_of l
     → MayBeBuilt look.base (map (resolved_row look slots) (entry_rows l))
 
 -- a file in which the offsets stand at the start of their range says them
@@ -56,5 +57,6 @@ TextsFitRanges = (l : Link) (counts : Counts) (p : Placed) → IsToMake l counts
 -- where both are made, no address passes whose offset is written in 32 bits
 abbrev pub NothingWrittenPasses : Type 0
 NothingWrittenPasses =
-    (l : Link) (counts : Counts) (p : Placed) (offsets unwind : List ℕ) → IsToMake l counts p → IsOffsetsText l p offsets → IsUnwindMade l p unwind
+    (l : Link) (counts : Counts) (p : Placed) (offsets unwind : List ℕ) → IsToMake l counts p → IsOffsetsText l p offsets
+    → IsUnwindMade l p unwind
     → (x : ℕ) → IsWritten32 l p x → x < p.base + LIMIT_32

@@ -49,17 +49,22 @@ abbrev pub Holds_address : SegmentCommand → ℕ → Type 0
 Holds_address s a = (s.vmaddr ≤ a) × (a < s.vmaddr + s.vmsize)
 
 -- of segments that rise, one holds an address
-pub one_holds : (segments : List SegmentCommand) (s t : SegmentCommand) (a : ℕ) → AllPairs EndsBefore segments → Contains segments s → Contains segments t
+pub one_holds : (segments : List SegmentCommand) (s t : SegmentCommand) (a : ℕ) → AllPairs EndsBefore segments → Contains segments s
+    → Contains segments t
     → Holds_address s a → Holds_address t a → s ≡ t
 one_holds segments s t a rise (i, lt_i, at_i) (j, lt_j, at_j) in_s in_t =
     elim (cases_lt i j) [
       | inl before ↦
-          let ends : EndsBefore s t = rw (← at_i, ← at_j) (subst (λ x. EndsBefore x (get_or segments j t)) (get_or_default segments i t s lt_i) (rise i j t before lt_j)) in
+          let ends : EndsBefore s t =
+          rw (← at_i, ← at_j)
+          (subst (λ x. EndsBefore x (get_or segments j t)) (get_or_default segments i t s lt_i) (rise i j t before lt_j)) in
           absurd (omega (arith, ends, in_s.1, in_t.0))
       | inr le ↦
           elim (cases_lt j i) [
             | inl before ↦
-                let ends : EndsBefore t s = rw (← at_i, ← at_j) (subst (λ x. EndsBefore x (get_or segments i s)) (get_or_default segments j s t lt_j) (rise j i s before lt_i)) in
+                let ends : EndsBefore t s =
+                rw (← at_i, ← at_j)
+                (subst (λ x. EndsBefore x (get_or segments i s)) (get_or_default segments j s t lt_j) (rise j i s before lt_i)) in
                 absurd (omega (arith, ends, in_t.1, in_s.0))
             | inr ge ↦
                 let same : i ≡ j = omega (arith, le, ge) in
@@ -68,12 +73,15 @@ one_holds segments s t a rise (i, lt_i, at_i) (j, lt_j, at_j) in_s in_t =
     ]
 
 -- Two mapped segments of an accepted image share no address.
-pub share_no_address : (b : List ℕ) (s t : SegmentCommand) (a : ℕ) → IsAccepted b → Contains (mapped_segments b) s → Contains (mapped_segments b) t
+pub share_no_address : (b : List ℕ) (s t : SegmentCommand) (a : ℕ) → IsAccepted b → Contains (mapped_segments b) s
+    → Contains (mapped_segments b) t
     → Holds_address s a → Holds_address t a → s ≡ t
 share_no_address b s t a accepted one_s one_t in_s in_t = one_holds (mapped_segments b) s t a (mapped_rise b accepted) one_s one_t in_s in_t
 
 -- So a segment's byte at an address is one.
 pub one_segment_byte : (b : List ℕ) (a v w : ℕ) → IsAccepted b → IsSegmentByte b a v → IsSegmentByte b a w → v ≡ w
 one_segment_byte b a v w accepted first second =
-    let same = share_no_address b first.segment second.segment a accepted first.one second.one (first.from, first.to) (second.from, second.to) in
-    first.is ∙ ap (λ (s : SegmentCommand). if nat_lt (a - s.vmaddr) s.filesize then slice_index b (s.fileoff + (a - s.vmaddr)) else 0) same ∙ sym second.is
+    let same =
+    share_no_address b first.segment second.segment a accepted first.one second.one (first.from, first.to) (second.from, second.to) in
+    first.is ∙ ap (λ (s : SegmentCommand). if nat_lt (a - s.vmaddr) s.filesize then slice_index b (s.fileoff + (a - s.vmaddr)) else 0) same
+    ∙ sym second.is

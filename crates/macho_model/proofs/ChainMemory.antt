@@ -62,7 +62,8 @@ pub unfixed_byte_is_held : (b : List ℕ) (s : ℕ) (choice : Choice) (a v : ℕ
 unfixed_byte_is_held b s choice a v none byte = record { a = a; slid = refl; byte = inr (none, byte) }
 
 -- THE memory at a slide is memory at slide 0, moved, outside chain words.
-pub memory_moves : (b : List ℕ) (s : ℕ) (c d : Choice) (a v : ℕ) → ((word_at : ℕ) → Covers b word_at a → ⊥) → Holds b 0 c a v → Holds b s d (a + s) v
+pub memory_moves : (b : List ℕ) (s : ℕ) (c d : Choice) (a v : ℕ) → ((word_at : ℕ) → Covers b word_at a → ⊥) → Holds b 0 c a v
+    → Holds b s d (a + s) v
 memory_moves b s c d a v none held =
     let here : held.a ≡ a = omega (arith, held.slid) in
     elim held.byte [
@@ -71,7 +72,8 @@ memory_moves b s c d a v none held =
     ]
 
 -- and back: what memory holds there at a slide it holds at slide 0
-pub memory_moves_back : (b : List ℕ) (s : ℕ) (c d : Choice) (a v : ℕ) → ((word_at : ℕ) → Covers b word_at a → ⊥) → Holds b s c (a + s) v → Holds b 0 d a v
+pub memory_moves_back : (b : List ℕ) (s : ℕ) (c d : Choice) (a v : ℕ) → ((word_at : ℕ) → Covers b word_at a → ⊥) → Holds b s c (a + s) v
+    → Holds b 0 d a v
 memory_moves_back b s c d a v none held =
     let here : held.a ≡ a = omega (arith, held.slid) in
     elim held.byte [

@@ -61,7 +61,8 @@ at_least : (m n : ℕ) (inputs : List Input) → m ≤ n → AllByRecursion (λ 
 at_least m n [] le = tt
 at_least m n (x ∷ inputs) le =
     subst (AllByRecursion (λ s. m ≤ s.file)) (sym (flat_map-cons (λ i. symbols_of_file i.0 i.1) (n, x) (enumerate_from (n + 1) inputs)))
-    (all_joined (λ s. m ≤ s.file) (symbols_of_file n x) (symbols_from (n + 1) inputs) (file_at_least m n x le) (at_least m (n + 1) inputs (omega (arith, le))))
+    (all_joined (λ s. m ≤ s.file) (symbols_of_file n x) (symbols_from (n + 1) inputs) (file_at_least m n x le)
+    (at_least m (n + 1) inputs (omega (arith, le))))
 
 -- the symbols of a file stand before all of later files
 later : (file k : ℕ) (ys : List SymbolId) → AllByRecursion (λ s. file + 1 ≤ s.file) ys → AllByRecursion (Before (symbol_in file k)) ys
@@ -96,7 +97,8 @@ others : (s t : SymbolId) → Before t s → same_symbol s t ≡ false
 others s t (inl less) = grind (arith, nat_tests, less)
 others s t (inr same) = grind (arith, nat_tests, same.0, same.1)
 
-all_others : (before after : List SymbolId) (s : SymbolId) → Rises (before ++ s ∷ after) → AllByRecursion (λ t. same_symbol s t ≡ false) before
+all_others : (before after : List SymbolId) (s : SymbolId) → Rises (before ++ s ∷ after)
+    → AllByRecursion (λ t. same_symbol s t ≡ false) before
 all_others [] after s h = tt
 all_others (t ∷ before) after s h = (others s t (all_middle (Before t) before after s h.0), all_others before after s h.1)
 

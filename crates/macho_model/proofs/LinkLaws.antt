@@ -29,19 +29,24 @@ unfolding sections_of carried_of
 carried_agree l m same = ap (λ (xs : List Input). carried_of (record l { inputs = xs })) same
 
 pub imports_agree : ImportsAgree
-unfolding symbols_of strong_of commons_of greatest_of libraries_with definition_of sections_of carried_of initializer_sections unwind_sections carried_relocations initializer_relocations personality_relocations imports_of
+unfolding symbols_of strong_of commons_of greatest_of libraries_with definition_of sections_of carried_of initializer_sections
+    unwind_sections carried_relocations initializer_relocations personality_relocations imports_of
 imports_agree l m same lists =
     ap (λ (xs : List Input). imports_of (record l { inputs = xs })) same
     ∙ ap (λ (texts : List (List ℕ)). imports_of (record l { inputs = m.inputs; export_lists = texts })) lists
 
 pub slots_agree : SlotsAgree
-unfolding symbols_of strong_of commons_of greatest_of libraries_with definition_of chosen_commons sections_of carried_of initializer_sections unwind_sections carried_relocations initializer_relocations personality_relocations imports_of target_of target_of_relocation slots_of
+unfolding symbols_of strong_of commons_of greatest_of libraries_with definition_of chosen_commons sections_of carried_of
+    initializer_sections unwind_sections carried_relocations initializer_relocations personality_relocations imports_of target_of
+    target_of_relocation slots_of
 slots_agree l m same lists =
     ap (λ (xs : List Input). slots_of (record l { inputs = xs })) same
     ∙ ap (λ (texts : List (List ℕ)). slots_of (record l { inputs = m.inputs; export_lists = texts })) lists
 
 pub stubs_agree : StubsAgree
-unfolding symbols_of strong_of commons_of greatest_of libraries_with definition_of chosen_commons sections_of carried_of initializer_sections unwind_sections carried_relocations initializer_relocations personality_relocations imports_of target_of target_of_relocation stubs_of
+unfolding symbols_of strong_of commons_of greatest_of libraries_with definition_of chosen_commons sections_of carried_of
+    initializer_sections unwind_sections carried_relocations initializer_relocations personality_relocations imports_of target_of
+    target_of_relocation stubs_of
 stubs_agree l m same lists =
     ap (λ (xs : List Input). stubs_of (record l { inputs = xs })) same
     ∙ ap (λ (texts : List (List ℕ)). stubs_of (record l { inputs = m.inputs; export_lists = texts })) lists
@@ -51,7 +56,8 @@ unfolding target_of
 all_are_noted l s = refl
 
 -- the numbers of a list and one element more
-enumerate_more : {X : Type 0} (n : ℕ) (xs : List X) (x : X) → enumerate_from n (xs ++ x ∷ []) ≡ enumerate_from n xs ++ (n + length xs, x) ∷ []
+enumerate_more : {X : Type 0} (n : ℕ) (xs : List X) (x : X)
+    → enumerate_from n (xs ++ x ∷ []) ≡ enumerate_from n xs ++ (n + length xs, x) ∷ []
 enumerate_more n [] x = ap (λ k. (k, x) ∷ []) (omega arith)
 enumerate_more n (y ∷ xs) x =
     let same : n + 1 + length xs ≡ n + suc (length xs) = omega arith in
@@ -59,7 +65,8 @@ enumerate_more n (y ∷ xs) x =
 
 -- what is gathered by input, of one input more
 gathered_more : {X : Type 0} (f : ℕ → Input → List X) (inputs : List Input) (x : Input)
-    → flat_map (λ i. f i.0 i.1) (enumerate_from 0 (inputs ++ x ∷ [])) ≡ flat_map (λ i. f i.0 i.1) (enumerate_from 0 inputs) ++ f (length inputs) x
+    → flat_map (λ i. f i.0 i.1) (enumerate_from 0 (inputs ++ x ∷ [])) ≡ flat_map (λ i. f i.0 i.1) (enumerate_from 0 inputs)
+    ++ f (length inputs) x
 gathered_more {X = X} f inputs x =
     ap (flat_map (λ i. f i.0 i.1)) (enumerate_more 0 inputs x)
     ∙ flat_map-append (λ i. f i.0 i.1) (enumerate_from 0 inputs) ((0 + length inputs, x) ∷ [])

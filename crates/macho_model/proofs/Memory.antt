@@ -20,19 +20,22 @@ use Rattle.macho_model.proofs.Unchained.{uncovered}
 use Rattle.macho_model.proofs.ChainMemory.{unfixed_byte_is_held}
 
 -- a byte of a segment by its place in it
-pub segment_file_byte : (b : List ℕ) (segment : SegmentCommand) (i : ℕ) → Contains (mapped_segments b) segment → i < segment.filesize → i < segment.vmsize
+pub segment_file_byte : (b : List ℕ) (segment : SegmentCommand) (i : ℕ) → Contains (mapped_segments b) segment → i < segment.filesize
+    → i < segment.vmsize
     → IsSegmentByte b (segment.vmaddr + i) (slice_index b (segment.fileoff + i))
 segment_file_byte b segment i one in_file in_memory =
     record { segment = segment; one = one; from = omega arith; to = omega arith; is = value }
   where
     value : slice_index b (segment.fileoff + i)
-        ≡ (if nat_lt (segment.vmaddr + i - segment.vmaddr) segment.filesize then slice_index b (segment.fileoff + (segment.vmaddr + i - segment.vmaddr)) else 0)
+        ≡ (if nat_lt (segment.vmaddr + i - segment.vmaddr) segment.filesize
+        then slice_index b (segment.fileoff + (segment.vmaddr + i - segment.vmaddr)) else 0)
     value =
         let same : segment.vmaddr + i - segment.vmaddr ≡ i = omega arith in
         rw (same, lt-ltb i segment.filesize in_file) refl
 
 -- zero, behind the file bytes
-pub segment_zero : (b : List ℕ) (segment : SegmentCommand) (i : ℕ) → Contains (mapped_segments b) segment → segment.filesize ≤ i → i < segment.vmsize
+pub segment_zero : (b : List ℕ) (segment : SegmentCommand) (i : ℕ) → Contains (mapped_segments b) segment → segment.filesize ≤ i
+    → i < segment.vmsize
     → IsSegmentByte b (segment.vmaddr + i) 0
 segment_zero b segment i one behind in_memory =
     record { segment = segment; one = one; from = omega arith; to = omega arith; is = value }
@@ -40,7 +43,9 @@ segment_zero b segment i one behind in_memory =
     past : (m n : ℕ) → n ≤ m → nat_lt m n ≡ false
     past m n h = grind (arith, nat_tests)
 
-    value : 0 ≡ (if nat_lt (segment.vmaddr + i - segment.vmaddr) segment.filesize then slice_index b (segment.fileoff + (segment.vmaddr + i - segment.vmaddr)) else 0)
+    value : 0
+        ≡ (if nat_lt (segment.vmaddr + i - segment.vmaddr) segment.filesize
+        then slice_index b (segment.fileoff + (segment.vmaddr + i - segment.vmaddr)) else 0)
     value =
         let same : segment.vmaddr + i - segment.vmaddr ≡ i = omega arith in
         rw (same, past i segment.filesize behind) refl
@@ -50,13 +55,17 @@ pub all_free : (b : List ℕ) (a n : ℕ) → tables_of b ≡ [] → IsFree b a 
 all_free b a n none k within word_at covers = uncovered b none (a + k) word_at covers
 
 -- memory holds the file's byte at an offset in a segment, where the file has one
-pub file_byte_is_held : (b : List ℕ) (s : ℕ) (choice : Choice) (segment : SegmentCommand) (i : ℕ) → ((word_at : ℕ) → Covers b word_at (segment.vmaddr + i) → ⊥)
-    → Contains (mapped_segments b) segment → i < segment.filesize → i < segment.vmsize → Holds b s choice (segment.vmaddr + i + s) (slice_index b (segment.fileoff + i))
+pub file_byte_is_held : (b : List ℕ) (s : ℕ) (choice : Choice) (segment : SegmentCommand) (i : ℕ)
+    → ((word_at : ℕ) → Covers b word_at (segment.vmaddr + i) → ⊥)
+    → Contains (mapped_segments b) segment → i < segment.filesize → i < segment.vmsize
+    → Holds b s choice (segment.vmaddr + i + s) (slice_index b (segment.fileoff + i))
 file_byte_is_held b s choice segment i free one in_file in_memory =
-    unfixed_byte_is_held b s choice (segment.vmaddr + i) (slice_index b (segment.fileoff + i)) free (segment_file_byte b segment i one in_file in_memory)
+    unfixed_byte_is_held b s choice (segment.vmaddr + i) (slice_index b (segment.fileoff + i)) free
+    (segment_file_byte b segment i one in_file in_memory)
 
 -- and zero behind
-pub zero_is_held : (b : List ℕ) (s : ℕ) (choice : Choice) (segment : SegmentCommand) (i : ℕ) → ((word_at : ℕ) → Covers b word_at (segment.vmaddr + i) → ⊥)
+pub zero_is_held : (b : List ℕ) (s : ℕ) (choice : Choice) (segment : SegmentCommand) (i : ℕ)
+    → ((word_at : ℕ) → Covers b word_at (segment.vmaddr + i) → ⊥)
     → Contains (mapped_segments b) segment → segment.filesize ≤ i → i < segment.vmsize → Holds b s choice (segment.vmaddr + i + s) 0
 zero_is_held b s choice segment i free one behind in_memory =
     unfixed_byte_is_held b s choice (segment.vmaddr + i) 0 free (segment_zero b segment i one behind in_memory)
@@ -68,19 +77,24 @@ free_at b a n i k free within word_at covers =
     free k within word_at (subst (λ (x : ℕ). Covers b word_at x) here covers)
 
 -- a text of the file is held, where it stands in the file part of a segment
-pub text_is_held : (b : List ℕ) (s : ℕ) (choice : Choice) (segment : SegmentCommand) (i : ℕ) (text : List ℕ) → IsFree b (segment.vmaddr + i) (length text)
+pub text_is_held : (b : List ℕ) (s : ℕ) (choice : Choice) (segment : SegmentCommand) (i : ℕ) (text : List ℕ)
+    → IsFree b (segment.vmaddr + i) (length text)
     → Contains (mapped_segments b) segment → i + length text ≤ segment.filesize → segment.filesize ≤ segment.vmsize
     → Stands b (record { at = segment.fileoff + i; text = text }) → HoldsText b s choice (segment.vmaddr + i + s) text
 text_is_held b s choice segment i text free one fits small stands k within =
     let at_k : slice_index text k ≡ slice_index b (segment.fileoff + (i + k)) =
     ap (λ (t : List ℕ). get_or t k 0) (sym stands.same)
-    ∙ get_or-between b (segment.fileoff + i) (segment.fileoff + i + length text) k 0 (omega arith) ∙ ap (λ (j : ℕ). get_or b j 0) (omega arith) in
+    ∙ get_or-between b (segment.fileoff + i) (segment.fileoff + i + length text) k 0 (omega arith)
+    ∙ ap (λ (j : ℕ). get_or b j 0) (omega arith) in
     let here : segment.vmaddr + i + s + k ≡ segment.vmaddr + (i + k) + s = omega arith in
-    rw (here, at_k) (file_byte_is_held b s choice segment (i + k) (free_at b segment.vmaddr (length text) i k free within) one (omega arith) (omega arith))
+    rw (here, at_k)
+    (file_byte_is_held b s choice segment (i + k) (free_at b segment.vmaddr (length text) i k free within) one (omega arith)
+    (omega arith))
 
 -- zeros are held, where they stand behind the file part
 pub zeros_are_held : (b : List ℕ) (s : ℕ) (choice : Choice) (segment : SegmentCommand) (i n : ℕ) → IsFree b (segment.vmaddr + i) n
-    → Contains (mapped_segments b) segment → segment.filesize ≤ i → i + n ≤ segment.vmsize → (k : ℕ) → k < n → Holds b s choice (segment.vmaddr + i + k + s) 0
+    → Contains (mapped_segments b) segment → segment.filesize ≤ i → i + n ≤ segment.vmsize → (k : ℕ) → k < n
+    → Holds b s choice (segment.vmaddr + i + k + s) 0
 zeros_are_held b s choice segment i n free one behind fits k within =
     let here : segment.vmaddr + i + k ≡ segment.vmaddr + (i + k) = omega arith in
     rw here (zero_is_held b s choice segment (i + k) (free_at b segment.vmaddr n i k free within) one (omega arith) (omega arith))
@@ -97,7 +111,8 @@ le_at-between w bytes at = little_from-take 0 w (at + w - at) (drop at bytes) (o
 
 -- a number of the file is held, where it stands in the file part of a segment
 pub number_is_held : (b : List ℕ) (s : ℕ) (choice : Choice) (segment : SegmentCommand) (w i : ℕ) → IsFree b (segment.vmaddr + i) w
-    → Contains (mapped_segments b) segment → i + w ≤ segment.filesize → segment.filesize ≤ segment.vmsize → segment.fileoff + segment.filesize ≤ length b
+    → Contains (mapped_segments b) segment → i + w ≤ segment.filesize → segment.filesize ≤ segment.vmsize
+    → segment.fileoff + segment.filesize ≤ length b
     → HoldsNumber b s choice w (segment.vmaddr + i + s) (le_at w b (segment.fileoff + i))
 number_is_held b s choice segment w i free one fits small inside =
     rw (← le_at-between w b (segment.fileoff + i))
@@ -118,7 +133,8 @@ memory_found b s x v choice behind none byte =
     let here : x - s + s ≡ x = omega (arith, behind) in
     subst (λ y. Holds b s choice y v) here (unfixed_byte_is_held b s choice (x - s) v (uncovered b none (x - s)) byte)
 
-pub memory_lacks : (b : List ℕ) (s x v : ℕ) (choice : Choice) → tables_of b ≡ [] → (IsSegmentByte b (x - s) v → ⊥) → Holds b s choice x v → ⊥
+pub memory_lacks : (b : List ℕ) (s x v : ℕ) (choice : Choice) → tables_of b ≡ [] → (IsSegmentByte b (x - s) v → ⊥) → Holds b s choice x v
+    → ⊥
 memory_lacks b s x v choice none lacks held =
     let here : held.a ≡ x - s = omega (arith, held.slid) in
     elim held.byte [

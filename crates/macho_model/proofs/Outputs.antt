@@ -47,7 +47,8 @@ made_of l (Merged key) = merged l key
 made_of l InitOffsets = made_one TEXT (codes "__init_offsets") S_INIT_FUNC_OFFSETS 0 (λ p. range_piece 2 p.init_offsets ∷ [])
 made_of l UnwindInfo = made_one TEXT (codes "__unwind_info") 0 0 (λ p. range_piece 2 p.unwind ∷ [])
 made_of l Stubs =
-    made_one TEXT (codes "__stubs") (S_SYMBOL_STUBS + S_ATTR_PURE_INSTRUCTIONS + S_ATTR_SOME_INSTRUCTIONS) STUB_SIZE (λ p. map stub_piece p.stubs)
+    made_one TEXT (codes "__stubs") (S_SYMBOL_STUBS + S_ATTR_PURE_INSTRUCTIONS + S_ATTR_SOME_INSTRUCTIONS) STUB_SIZE
+    (λ p. map stub_piece p.stubs)
 made_of l Slots = made_one DATA_CONST (codes "__got") S_NON_LAZY_SYMBOL_POINTERS 0 (λ p. map slot_piece p.slots)
 
 pieces_same : (l : Link) (p : Placed) (o : OutputSection) → (made_of l o).pieces p ≡ pieces_of l p o
@@ -89,13 +90,15 @@ merges_same l key Slots = refl
 
 map_map : {A B C : Type 0} (g : B → C) (f : A → B) (h : A → C) → ((x : A) → g (f x) ≡ h x) → (xs : List A) → map g (map f xs) ≡ map h xs
 map_map g f h same [] = refl
-map_map {A} {B} {C} g f h same (x ∷ xs) = ap (λ (y : C). y ∷ map g (map f xs)) (same x) ∙ ap (λ (ys : List C). h x ∷ ys) (map_map g f h same xs)
+map_map {A} {B} {C} g f h same (x ∷ xs) = ap (λ (y : C). y ∷ map g (map f xs)) (same x)
+    ∙ ap (λ (ys : List C). h x ∷ ys) (map_map g f h same xs)
 
 map_if : (l : Link) (b : Bool) (o : OutputSection) → list_if b (made_of l o ∷ []) ≡ map (made_of l) (list_if b (o ∷ []))
 map_if l true o = refl
 map_if l false o = refl
 
-merged_same : (l : Link) (segment : List ℕ) (test : OutputKey → Bool) → records_in l segment test ≡ map (made_of l) (merged_in l segment test)
+merged_same : (l : Link) (segment : List ℕ) (test : OutputKey → Bool)
+    → records_in l segment test ≡ map (made_of l) (merged_in l segment test)
 merged_same l segment test =
     sym (map_map (made_of l) Merged (merged l) (λ key. refl) (filter (λ key. bytes_eq key.segment segment && test key) (output_keys_of l)))
 
@@ -105,7 +108,8 @@ beside : (l : Link) (xs ys : List Section) (us vs : List OutputSection) → xs �
 beside l xs ys us vs one two =
     ap (λ (zs : List Section). zs ++ ys) one ∙ ap (λ (zs : List Section). map (made_of l) us ++ zs) two ∙ sym (map-append (made_of l) us vs)
 
-in_same : (l : Link) (counts : Counts) (segment : List ℕ) → sections_of_segment l counts segment ≡ map (made_of l) (output_sections_in l counts segment)
+in_same : (l : Link) (counts : Counts) (segment : List ℕ)
+    → sections_of_segment l counts segment ≡ map (made_of l) (output_sections_in l counts segment)
 in_same l counts segment = by (bytes_eq segment TEXT) (bytes_eq segment DATA)
   where
     in_text : sections_of_text l counts ≡ map (made_of l) (kinds_of_text l counts)
@@ -149,7 +153,8 @@ sections_same : (l : Link) (counts : Counts) → all_sections l counts ≡ map (
 unfolding all_sections output_sections_of
 sections_same l counts = by (segment_names_of l)
   where
-    by : (names : List (List ℕ)) → flat_map (sections_of_segment l counts) names ≡ map (made_of l) (flat_map (output_sections_in l counts) names)
+    by : (names : List (List ℕ))
+        → flat_map (sections_of_segment l counts) names ≡ map (made_of l) (flat_map (output_sections_in l counts) names)
     by [] = refl
     by (name ∷ names) =
         flat_map-cons (sections_of_segment l counts) name names
@@ -160,7 +165,8 @@ sections_same l counts = by (segment_names_of l)
 pub headers_same : (l : Link) (counts : Counts) (p : Placed) → headers_for l counts p ≡ output_sections_for l counts p
 unfolding headers_for output_sections_for
 headers_same l counts p =
-    ap (map (header p)) (sections_same l counts) ∙ map_map (header p) (made_of l) (output_header l p) (header_same l p) (output_sections_of l counts)
+    ap (map (header p)) (sections_same l counts)
+    ∙ map_map (header p) (made_of l) (output_header l p) (header_same l p) (output_sections_of l counts)
 
 -- and so are the numbers of sections
 pub number_same : (l : Link) (counts : Counts) (key : OutputKey)
@@ -174,7 +180,8 @@ number_same l counts key =
     by (o ∷ os) = step (merges key (made_of l o)) (is_merged key o) (merges_same l key o) (by os)
       where
         step : (a b : Bool) → a ≡ b → position_or_len (merges key) (map (made_of l) os) ≡ position_or_len (is_merged key) os
-            → cond (not a) (1 + position_or_len (merges key) (map (made_of l) os)) 0 ≡ cond (not b) (1 + position_or_len (is_merged key) os) 0
+            → cond (not a) (1 + position_or_len (merges key) (map (made_of l) os)) 0
+            ≡ cond (not b) (1 + position_or_len (is_merged key) os) 0
         step a true e same = ap (λ (c : Bool). cond (not c) (1 + position_or_len (merges key) (map (made_of l) os)) 0) e
         step a false e same =
             ap (λ (c : Bool). cond (not c) (1 + position_or_len (merges key) (map (made_of l) os)) 0) e ∙ ap (λ (n : ℕ). 1 + n) same
@@ -183,14 +190,16 @@ number_same l counts key =
 row_same : (l : Link) (counts : Counts) (p : Placed) (s : PlacedSegment) (os : List OutputSection)
     → row l counts p s (map (made_of l) os) ≡ row_of l counts p s os
 unfolding row row_of
-row_same l counts p s os = ap (λ (cs : List Piece). front_of counts p s ∷ cs) (map_map (extent p) (made_of l) (extent_of l p) (extent_same l p) os)
+row_same l counts p s os =
+    ap (λ (cs : List Piece). front_of counts p s ∷ cs) (map_map (extent p) (made_of l) (extent_of l p) (extent_same l p) os)
 
 whole_row : (l : Link) (counts : Counts) (p : Placed) (s : PlacedSegment)
     → row l counts p s (sections_of_segment l counts (text_of s.name)) ≡ row_of l counts p s (sections_in l counts s)
 whole_row l counts p s = ap (row l counts p s) (in_same l counts (text_of s.name)) ∙ row_same l counts p s (sections_in l counts s)
 
 filled_same : (l : Link) (os : List OutputSection)
-    → filter (λ (o : Section). not (is_zeros o.key)) (map (made_of l) os) ≡ map (made_of l) (filter (λ o. not (is_zeros (key_of_output o))) os)
+    → filter (λ (o : Section). not (is_zeros o.key)) (map (made_of l) os)
+    ≡ map (made_of l) (filter (λ o. not (is_zeros (key_of_output o))) os)
 filled_same l [] = refl
 filled_same l (o ∷ os) =
     ap (λ (b : Bool). cond (not b) (made_of l o ∷ rest) rest) (zeros_same l o) ∙ by (is_zeros (key_of_output o)) (filled_same l os)
@@ -206,7 +215,8 @@ filled_same l (o ∷ os) =
     by false e = ap (λ (ts : List Section). made_of l o ∷ ts) e
 
 filled_row : (l : Link) (counts : Counts) (p : Placed) (s : PlacedSegment)
-    → row l counts p s (filter (λ o. not (is_zeros o.key)) (sections_of_segment l counts (text_of s.name))) ≡ row_of l counts p s (filled_in l counts s)
+    → row l counts p s (filter (λ o. not (is_zeros o.key)) (sections_of_segment l counts (text_of s.name)))
+    ≡ row_of l counts p s (filled_in l counts s)
 filled_row l counts p s =
     ap (λ (os : List Section). row l counts p s (filter (λ (o : Section). not (is_zeros o.key)) os)) (in_same l counts (text_of s.name))
     ∙ ap (row l counts p s) (filled_same l (sections_in l counts s)) ∙ row_same l counts p s (filled_in l counts s)
@@ -217,7 +227,8 @@ size_same l counts p s =
     else if bytes_eq (text_of s.name) LINKEDIT then rounded_up SEGMENT_PAGE (p.linkedit.signature.end - s.file_offset)
     else rounded_up SEGMENT_PAGE (used_by s cs)) (whole_row l counts p s)
 
-file_size_same : (l : Link) (counts : Counts) (p : Placed) (s : PlacedSegment) → file_size_of_row l counts p s ≡ least_file_size l counts p s
+file_size_same : (l : Link) (counts : Counts) (p : Placed) (s : PlacedSegment)
+    → file_size_of_row l counts p s ≡ least_file_size l counts p s
 file_size_same l counts p s =
     ap (λ (cs : List Piece). if bytes_eq (text_of s.name) PAGEZERO then 0
     else if bytes_eq (text_of s.name) LINKEDIT then p.linkedit.signature.end - s.file_offset

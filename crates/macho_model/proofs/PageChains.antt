@@ -24,7 +24,8 @@ pub no_page_chain : (b : List ℕ) → tables_of b ≡ [] → (s : ChainSegment)
 no_page_chain b none s page a one on = unchained b none a (page_on_chain (chain_segments b) b s page a one on)
 
 -- a segment with its number is one that chains see
-pub with_number : (b : List ℕ) (number : ℕ) (s : SegmentCommand) → IsNumber (segments_of b) number s → Contains (enumerate_from 0 (segments_of b)) (number, s)
+pub with_number : (b : List ℕ) (number : ℕ) (s : SegmentCommand) → IsNumber (segments_of b) number s
+    → Contains (enumerate_from 0 (segments_of b)) (number, s)
 with_number b number s is = (
   number,
   omega (arith, is.0, length-enumerate_from 0 (segments_of b)),

@@ -15,7 +15,7 @@ use Rattle.macho_model.specs.declared.placed.PlacedSection.{PlacedSection}
 use Rattle.macho_model.specs.declared.placed.Range64.{Range64}
 use Rattle.macho_model.specs.Links.{Link}
 use Rattle.macho_model.specs.Segments.{TEXT, DATA_CONST, DATA, LINKEDIT, segment_names_of}
-use Rattle.macho_model.specs.Placement.{Placed, Piece, section_piece, common_piece, slot_piece, stub_piece, range_piece, table_piece, head_size, pieces_with}
+use Rattle.macho_model.specs.Placement.{Placed, Piece, section_piece, common_piece, slot_piece, stub_piece, range_piece, mapped_table, head_size, pieces_with}
 use Rattle.macho_model.specs.Placement.{linkedit_ranges, AreApart as ArePiecesApart, LiesIn as PieceLies, IsInNamed, SectionLies as SectionPieceLies}
 use Rattle.macho_model.specs.Placement.{IsInSegment as ArePiecesIn, TemplateHolds as PieceTemplate, IsWholeList, IsPlaced}
 use Rattle.macho_model.specs.Zeros.{Span}
@@ -48,7 +48,8 @@ pairs_map R f [] h i j d before within = absurd (omega (arith, within))
 pairs_map {X} {Y} R f (x ∷ xs) h i j d before within =
     let long = length-map (x ∷ xs) f in
     subst (λ a. R a (get_or (map f (x ∷ xs)) j d)) (sym (get_or-map f (x ∷ xs) i x d (omega (arith, before, within, long))))
-    (subst (R (f (get_or (x ∷ xs) i x))) (sym (get_or-map f (x ∷ xs) j x d (omega (arith, within, long)))) (h i j x before (omega (arith, within, long))))
+    (subst (R (f (get_or (x ∷ xs) i x))) (sym (get_or-map f (x ∷ xs) j x d (omega (arith, within, long))))
+    (h i j x before (omega (arith, within, long))))
 
 pairs_unmap : {X Y : Type 0} (R : Y → Y → Type 0) (f : X → Y) (xs : List X) → AllPairs R (map f xs) → AllPairs (λ a b. R (f a) (f b)) xs
 pairs_unmap R f xs h i j d before within =
@@ -58,17 +59,19 @@ pairs_unmap R f xs h i j d before within =
 
 map_twice : {X : Type 0} (f : X → Piece) (g : X → Span) → ((x : X) → span (f x) ≡ g x) → (xs : List X) → map span (map f xs) ≡ map g xs
 map_twice f g same [] = refl
-map_twice {X} f g same (x ∷ xs) = ap (λ (s : Span). s ∷ map span (map f xs)) (same x) ∙ ap (λ (ss : List Span). g x ∷ ss) (map_twice f g same xs)
+map_twice {X} f g same (x ∷ xs) = ap (λ (s : Span). s ∷ map span (map f xs)) (same x)
+    ∙ ap (λ (ss : List Span). g x ∷ ss) (map_twice f g same xs)
 
 -- THE lists are the same
-pub spans_are : (l : Link) (counts : Counts) (p : Placed) (ss : List PlacedSection) → map span (pieces_with l counts p ss) ≡ spans_with l counts p ss
+pub spans_are : (l : Link) (counts : Counts) (p : Placed) (ss : List PlacedSection)
+    → map span (pieces_with l counts p ss) ≡ spans_with l counts p ss
 unfolding pieces_with spans_with
 spans_are l counts p ss =
     let S : List Piece = map (section_piece l) ss in
     let C : List Piece = map (common_piece l) p.commons in
     let G : List Piece = map slot_piece p.slots in
     let B : List Piece = map stub_piece p.stubs in
-    let J : List Piece = range_piece 0 p.init_offsets ∷ range_piece 0 p.unwind ∷ map (table_piece p) (linkedit_ranges p) in
+    let J : List Piece = range_piece 0 p.init_offsets ∷ range_piece 0 p.unwind ∷ map (mapped_table p) (linkedit_ranges p) in
     let s : map span S ≡ map (section_span l) ss = map_twice (section_piece l) (section_span l) (λ q. refl) ss in
     let c : map span C ≡ map (common_span l) p.commons = map_twice (common_piece l) (common_span l) (λ q. refl) p.commons in
     let g : map span G ≡ map slot_span p.slots = map_twice slot_piece slot_span (λ q. refl) p.slots in
@@ -90,7 +93,7 @@ module _ (l : Link) (counts : Counts) (p : Placed) where
       let C : List Piece = map (common_piece l) p.commons in
       let G : List Piece = map slot_piece p.slots in
       let B : List Piece = map stub_piece p.stubs in
-      let J : List Piece = range_piece 0 p.init_offsets ∷ range_piece 0 p.unwind ∷ map (table_piece p) (linkedit_ranges p) in
+      let J : List Piece = range_piece 0 p.init_offsets ∷ range_piece 0 p.unwind ∷ map (mapped_table p) (linkedit_ranges p) in
       let front : Piece = record { start = p.base; size = head_size counts p; exponent = 0 } in
       let four = all_left IsEven (S ++ C ++ G ++ B) J (All-tail IsEven front (S ++ C ++ G ++ B ++ J) h) in
       let three = all_left IsEven (S ++ C ++ G) B four in
@@ -109,7 +112,7 @@ module _ (l : Link) (counts : Counts) (p : Placed) where
       let C : List Piece = map (common_piece l) p.commons in
       let G : List Piece = map slot_piece p.slots in
       let B : List Piece = map stub_piece p.stubs in
-      let T : List Piece = map (table_piece p) (linkedit_ranges p) in
+      let T : List Piece = map (mapped_table p) (linkedit_ranges p) in
       let J : List Piece = range_piece 0 p.init_offsets ∷ range_piece 0 p.unwind ∷ T in
       let front : Piece = record { start = p.base; size = head_size counts p; exponent = 0 } in
       All-cons IsEven front (S ++ C ++ G ++ B ++ J) (one p.base)
@@ -121,16 +124,18 @@ module _ (l : Link) (counts : Counts) (p : Placed) where
       (All-map IsEven stub_piece p.stubs h.stubs))
       (All-cons IsEven (range_piece 0 p.init_offsets) (range_piece 0 p.unwind ∷ T) (one p.init_offsets.start)
       (All-cons IsEven (range_piece 0 p.unwind) T (one p.unwind.start)
-      (All-map IsEven (table_piece p) (linkedit_ranges p) (λ k d lt. one (table_piece p (get_or (linkedit_ranges p) k d)).start)))))
+      (All-map IsEven (mapped_table p) (linkedit_ranges p) (λ k d lt. one (mapped_table p (get_or (linkedit_ranges p) k d)).start)))))
     where
       one : (n : ℕ) → n % 2 ^ 0 ≡ 0
       one n = omega arith
 
   -- ranges that are apart
-  pub apart_parts : (ss : List PlacedSection) → AllPairs ArePiecesApart (pieces_with l counts p ss) → AllPairs AreApart (spans_with l counts p ss)
+  pub apart_parts : (ss : List PlacedSection) → AllPairs ArePiecesApart (pieces_with l counts p ss)
+      → AllPairs AreApart (spans_with l counts p ss)
   apart_parts ss h = subst (AllPairs AreApart) (spans_are l counts p ss) (pairs_map AreApart span (pieces_with l counts p ss) h)
 
-  pub apart_pieces : (ss : List PlacedSection) → AllPairs AreApart (spans_with l counts p ss) → AllPairs ArePiecesApart (pieces_with l counts p ss)
+  pub apart_pieces : (ss : List PlacedSection) → AllPairs AreApart (spans_with l counts p ss)
+      → AllPairs ArePiecesApart (pieces_with l counts p ss)
   apart_pieces ss h = pairs_unmap AreApart span (pieces_with l counts p ss) (subst (AllPairs AreApart) (sym (spans_are l counts p ss)) h)
 
   -- the template
@@ -139,7 +144,8 @@ module _ (l : Link) (counts : Counts) (p : Placed) where
   template_parts (Some r) h = record {
     some = h.some;
     holds = h.holds;
-    apart = subst (All (AreApart (range_span r))) (spans_are l counts p _) (All-map (AreApart (range_span r)) span (pieces_with l counts p _) h.apart);
+    apart = subst (All (AreApart (range_span r))) (spans_are l counts p _)
+        (All-map (AreApart (range_span r)) span (pieces_with l counts p _) h.apart);
   }
 
   pub template_pieces : (t : Option Range64) → TemplateHolds l counts p t → PieceTemplate l counts p t
@@ -147,7 +153,8 @@ module _ (l : Link) (counts : Counts) (p : Placed) where
   template_pieces (Some r) h = record {
     some = h.some;
     holds = h.holds;
-    apart = all_unmap (AreApart (range_span r)) span (pieces_with l counts p _) (subst (All (AreApart (range_span r))) (sym (spans_are l counts p _)) h.apart);
+    apart = all_unmap (AreApart (range_span r)) span (pieces_with l counts p _)
+        (subst (All (AreApart (range_span r))) (sym (spans_are l counts p _)) h.apart);
   }
 
   -- parts in their segments

@@ -21,20 +21,24 @@ use Rattle.macho_model.proofs.EachBelow.{true_or_false, and_right, or_right}
 use Rattle.macho_model.proofs.FieldSlides.{defined_moves, number_moves}
 
 -- an offset from the template: the target and the template's start move alike
-offset_stays : (template : Option Range64) (word x y s : ℕ) → y ≡ x + s → PointerSays true template 0 word x → PointerSays true template s word y
+offset_stays : (template : Option Range64) (word x y s : ℕ) → y ≡ x + s → PointerSays true template 0 word x
+    → PointerSays true template s word y
 offset_stays None word x y s is h = h
 offset_stays (Some r) word x y s is h = omega (arith, h, is)
 
 -- what lies in the template moves with the image, an absolute value stays
-template_moves : (l : Link) (p : Placed) (c d : Choice) (t : Target) (x s : ℕ) → is_in_template l t ≡ true → IsAt l p 0 c t x → IsAt l p s d t (x + s)
-template_moves l p c d (target.Section file section offset) x s is at = defined_moves l p c d (target.Section file section offset) x s refl at
+template_moves : (l : Link) (p : Placed) (c d : Choice) (t : Target) (x s : ℕ) → is_in_template l t ≡ true → IsAt l p 0 c t x
+    → IsAt l p s d t (x + s)
+template_moves l p c d (target.Section file section offset) x s is at =
+    defined_moves l p c d (target.Section file section offset) x s refl at
 template_moves l p c d (target.Common id) x s is at = absurd (true_or_false false is refl)
 template_moves l p c d (target.Import id) x s is at = absurd (true_or_false false is refl)
 template_moves l p c d target.Base x s is at = absurd (true_or_false false is refl)
 template_moves l p c d (target.Absolute value) x s is at = absurd (true_or_false false is refl)
 template_moves l p c d target.None x s is at = absurd (true_or_false false is refl)
 
-absolute_stays : (l : Link) (p : Placed) (c d : Choice) (t : Target) (x s : ℕ) → is_absolute_target t ≡ true → IsAt l p 0 c t x → IsAt l p s d t x
+absolute_stays : (l : Link) (p : Placed) (c d : Choice) (t : Target) (x s : ℕ) → is_absolute_target t ≡ true → IsAt l p 0 c t x
+    → IsAt l p s d t x
 absolute_stays l p c d (target.Section file section offset) x s is at = absurd (true_or_false false is refl)
 absolute_stays l p c d (target.Common id) x s is at = absurd (true_or_false false is refl)
 absolute_stays l p c d (target.Import id) x s is at = absurd (true_or_false false is refl)
@@ -51,7 +55,8 @@ pointer_stays l p c d id f word s plain h = by (is_template_offset l id f) refl
     by : (t : Bool) → is_template_offset l id f ≡ t → Says l p s d id f 0 word 0 Pointer
     by true is = (
       h.0 + s,
-      template_moves l p c d f.target h.0 s (and_right (type_of (header_at l id) == S_THREAD_LOCAL_VARIABLES) (is_in_template l f.target) is) h.1,
+      template_moves l p c d f.target h.0 s
+          (and_right (type_of (header_at l id) == S_THREAD_LOCAL_VARIABLES) (is_in_template l f.target) is) h.1,
       subst (λ (t : Bool). PointerSays t p.template s word (h.0 + s + f.addend)) (sym is)
           (offset_stays p.template word (h.0 + f.addend) (h.0 + s + f.addend) s (omega arith)
           (subst (λ (t : Bool). PointerSays t p.template 0 word (h.0 + f.addend)) is h.2)),
@@ -77,6 +82,7 @@ plain_pointer_stays l b p s c d q f kind plain free h =
     says in
     record {
       word = h.word;
-      held = number_moves b s c d f.width (q.address + f.offset) h.word free (subst (λ x. HoldsNumber b 0 c f.width x h.word) zero_slide h.held);
+      held = number_moves b s c d f.width (q.address + f.offset) h.word free
+          (subst (λ x. HoldsNumber b 0 c f.width x h.word) zero_slide h.held);
       says = rw kind moved;
     }

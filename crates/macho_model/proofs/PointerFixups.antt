@@ -38,7 +38,8 @@ moved_same : (n x s : ℕ) → Same n x → Same ((n + s) % 2 ^ 64) (x + s)
 moved_same n x s h = omega (arith, h)
 
 -- A pointer of 8 bytes to a target that moves denotes at every slide, where its chain word says the target at slide 0.
-pub pointer_denotes : (l : Link) (b : List ℕ) (p : Placed) (c : Choice) (q : PlacedSection) (f : Field) (word x : ℕ) → MovesAt b (q.address + f.offset) word
+pub pointer_denotes : (l : Link) (b : List ℕ) (p : Placed) (c : Choice) (q : PlacedSection) (f : Field) (word x : ℕ)
+    → MovesAt b (q.address + f.offset) word
     → f.width ≡ 8 → kind_of f.type (is_some f.subtrahend) ≡ Pointer → is_template_offset l (id_of q) f ≡ false → is_defined f.target ≡ true
     → IsAt l p 0 c f.target x → Same (rebase_target word + rebase_high word * 2 ^ 56 + base_of b) (x + f.addend)
     → (s : ℕ) (choice : Choice) → Denotes l b p s choice q f
@@ -53,8 +54,10 @@ pointer_denotes l b p c q f word x h wide kind plain moves at same s choice =
     }
 
 -- So does a slot of a target that moves.
-pub slot_denotes : (l : Link) (b : List ℕ) (p : Placed) (c : Choice) (slot : Slot) (word x : ℕ) → MovesAt b slot.address word → is_defined slot.target ≡ true
-    → IsAt l p 0 c slot.target x → Same (rebase_target word + rebase_high word * 2 ^ 56 + base_of b) x → (s : ℕ) (choice : Choice) → SlotStands l b p s choice slot
+pub slot_denotes : (l : Link) (b : List ℕ) (p : Placed) (c : Choice) (slot : Slot) (word x : ℕ) → MovesAt b slot.address word
+    → is_defined slot.target ≡ true
+    → IsAt l p 0 c slot.target x → Same (rebase_target word + rebase_high word * 2 ^ 56 + base_of b) x → (s : ℕ) (choice : Choice)
+    → SlotStands l b p s choice slot
 slot_denotes l b p c slot word x h moves at same s choice =
     record {
       word = moved_value b word s;
@@ -70,12 +73,15 @@ pub bound_is_held : (l : Link) (b : List ℕ) (a id addend : ℕ) → BindsAt l 
     → HoldsNumber b s choice POINTER_SIZE (a + s) ((x + addend) % 2 ^ 64)
 bound_is_held l b a id addend h s choice x chooses =
     fixed_word_is_held b s choice a ((x + addend) % 2 ^ 64)
-    (record { on = h.on; word = h.word; stands = h.stands; becomes = rw h.binds (h.bound choice x chooses) }) (mod-lt (x + addend) (omega arith)) h.alone
+    (record { on = h.on; word = h.word; stands = h.stands; becomes = rw h.binds (h.bound choice x chooses) })
+    (mod-lt (x + addend) (omega arith)) h.alone
 
 -- A pointer of 8 bytes to an import denotes at every slide, for every choice that has the import.
-pub import_pointer_denotes : (l : Link) (b : List ℕ) (p : Placed) (q : PlacedSection) (f : Field) (id : ℕ) → BindsAt l b (q.address + f.offset) id f.addend
+pub import_pointer_denotes : (l : Link) (b : List ℕ) (p : Placed) (q : PlacedSection) (f : Field) (id : ℕ)
+    → BindsAt l b (q.address + f.offset) id f.addend
     → f.width ≡ 8 → kind_of f.type (is_some f.subtrahend) ≡ Pointer → is_template_offset l (id_of q) f ≡ false → f.target ≡ target.Import id
-    → (s : ℕ) (choice : Choice) (x : ℕ) → chosen choice (import_library l (get_or (imports_of l) id [])) (get_or (imports_of l) id []) ≡ Some x
+    → (s : ℕ) (choice : Choice) (x : ℕ)
+    → chosen choice (import_library l (get_or (imports_of l) id [])) (get_or (imports_of l) id []) ≡ Some x
     → Denotes l b p s choice q f
 import_pointer_denotes l b p q f id h wide kind plain is s choice x chooses =
     let points : PointsTo ((x + f.addend) % 2 ^ 64) (x + f.addend) = omega arith in
@@ -87,8 +93,10 @@ import_pointer_denotes l b p q f id h wide kind plain is s choice x chooses =
     }
 
 -- So does the slot of an import.
-pub import_slot_denotes : (l : Link) (b : List ℕ) (p : Placed) (slot : Slot) (id : ℕ) → BindsAt l b slot.address id 0 → slot.target ≡ target.Import id
-    → (s : ℕ) (choice : Choice) (x : ℕ) → chosen choice (import_library l (get_or (imports_of l) id [])) (get_or (imports_of l) id []) ≡ Some x
+pub import_slot_denotes : (l : Link) (b : List ℕ) (p : Placed) (slot : Slot) (id : ℕ) → BindsAt l b slot.address id 0
+    → slot.target ≡ target.Import id
+    → (s : ℕ) (choice : Choice) (x : ℕ)
+    → chosen choice (import_library l (get_or (imports_of l) id [])) (get_or (imports_of l) id []) ≡ Some x
     → SlotStands l b p s choice slot
 import_slot_denotes l b p slot id h is s choice x chooses =
     record {

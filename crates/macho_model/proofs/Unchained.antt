@@ -14,7 +14,8 @@ use Rattle.macho_model.specs.Memory.{Covers}
 -- segments without page starts have no chain
 pub chain_needs_starts : (segments : List ChainSegment) (b : List ℕ) → ((s : ChainSegment) → Contains segments s → s.starts ≡ []) → (a : ℕ)
     → OnChain segments b a → ⊥
-chain_needs_starts segments b none _ (first s page one within starts) = let empty = ap (λ (xs : List ℕ). length xs) (none s one) in omega arith
+chain_needs_starts segments b none _ (first s page one within starts) = let empty = ap (λ (xs : List ℕ). length xs) (none s one) in
+    omega arith
 chain_needs_starts segments b none _ (next a word on stands goes) = chain_needs_starts segments b none a on
 
 -- without tables a segment has no page starts

@@ -62,7 +62,8 @@ made_in_records {Y = Y} c numbers each ss =
 
 -- the places of records that are told by their first byte
 first_bytes : {Y : Type 0} (c : SectionId → ℕ → Y) (l : Link) (s : SectionId) (ks : List ℕ)
-    → flat_map (λ k. map (c s) (relocations_at l s (POINTER_SIZE * k + 0))) ks ≡ flat_map (λ k. map (c s) (relocations_at l s (POINTER_SIZE * k))) ks
+    → flat_map (λ k. map (c s) (relocations_at l s (POINTER_SIZE * k + 0))) ks
+    ≡ flat_map (λ k. map (c s) (relocations_at l s (POINTER_SIZE * k))) ks
 first_bytes c l s ks =
     flat_alike (λ k. map (c s) (relocations_at l s (POINTER_SIZE * k + 0))) (λ k. map (c s) (relocations_at l s (POINTER_SIZE * k))) ks
     (λ k. ap (λ (place : ℕ). map (c s) (relocations_at l s place)) (omega arith))
@@ -75,7 +76,8 @@ made_of_carried c l = made_of_all c (relocations_of l) (carried_of l)
 
 pub made_of_initializers : {Y : Type 0} (c : SectionId → ℕ → Y) (l : Link)
     → map (λ (u : RelocationId). c u.0 u.1) (initializer_relocations l)
-    ≡ flat_map (λ s. flat_map (λ k. map (c s) (relocations_at l s (POINTER_SIZE * k))) (range_with_len 0 ((header_at l s).size / POINTER_SIZE)))
+    ≡ flat_map
+    (λ s. flat_map (λ k. map (c s) (relocations_at l s (POINTER_SIZE * k))) (range_with_len 0 ((header_at l s).size / POINTER_SIZE)))
     (initializer_sections l)
 unfolding initializer_relocations
 made_of_initializers c l =
@@ -113,11 +115,14 @@ pub uses_are : (l : Link)
     ++ map by_personality (personality_relocations l) ++ map ByName (names_listed l)
 unfolding uses_of
 uses_are l =
-    ap (λ us. us ++ flat_map (initializer_uses l) (initializer_sections l) ++ flat_map (personality_uses l) (unwind_sections l) ++ map ByName (names_listed l))
+    ap (λ us. us ++ flat_map (initializer_uses l) (initializer_sections l) ++ flat_map (personality_uses l) (unwind_sections l)
+    ++ map ByName (names_listed l))
     (sym (made_of_carried ByRelocation l))
-    ∙ ap (λ us. map by_relocation (carried_relocations l) ++ us ++ flat_map (personality_uses l) (unwind_sections l) ++ map ByName (names_listed l))
+    ∙ ap (λ us. map by_relocation (carried_relocations l) ++ us ++ flat_map (personality_uses l) (unwind_sections l)
+    ++ map ByName (names_listed l))
     (sym (made_of_initializers ByInitializer l))
-    ∙ ap (λ us. map by_relocation (carried_relocations l) ++ map by_initializer (initializer_relocations l) ++ us ++ map ByName (names_listed l))
+    ∙ ap (λ us. map by_relocation (carried_relocations l) ++ map by_initializer (initializer_relocations l) ++ us
+    ++ map ByName (names_listed l))
     (sym (made_of_personalities ByPersonality l))
 
 -- what is asked of lists that are made of others
@@ -133,7 +138,8 @@ asked_all : {X Z : Type 0} (g : X → Z) (xs : List X) → filter_map (λ x. Som
 asked_all g [] = refl
 asked_all g (x ∷ xs) = ap (λ zs. g x ∷ zs) (asked_all g xs)
 
-asked_if : {X Z : Type 0} (p : X → Bool) (g : X → Z) (xs : List X) → filter_map (λ x. if p x then Some (g x) else None) xs ≡ map g (filter p xs)
+asked_if : {X Z : Type 0} (p : X → Bool) (g : X → Z) (xs : List X)
+    → filter_map (λ x. if p x then Some (g x) else None) xs ≡ map g (filter p xs)
 asked_if p g [] = refl
 asked_if {X = X} {Z = Z} p g (x ∷ xs) = by (p x) (asked_if p g xs)
   where
@@ -159,7 +165,8 @@ asked_both {X = X} {Z = Z} p q g (x ∷ xs) = by (p x) (q (g x)) refl (asked_bot
 
 asked_alike : {X Z : Type 0} (f g : X → Option Z) (xs : List X) → ((x : X) → f x ≡ g x) → filter_map f xs ≡ filter_map g xs
 asked_alike f g [] same = refl
-asked_alike f g (x ∷ xs) same = ap (λ o. cons_option o (filter_map f xs)) (same x) ∙ ap (λ zs. cons_option (g x) zs) (asked_alike f g xs same)
+asked_alike f g (x ∷ xs) same = ap (λ o. cons_option o (filter_map f xs)) (same x)
+    ∙ ap (λ zs. cons_option (g x) zs) (asked_alike f g xs same)
 
 -- what is asked of all uses
 asked : {Y : Type 0} (f : Use → Option Y) (l : Link)
@@ -280,7 +287,8 @@ pub initializers_are : (l : Link)
 unfolding initializers_of
 initializers_are l = made_of_initializers (target_of_relocation l) l
 
-flat_flat : {X Y Z : Type 0} (h : Y → List Z) (f : X → List Y) (xs : List X) → flat_map h (flat_map f xs) ≡ flat_map (λ x. flat_map h (f x)) xs
+flat_flat : {X Y Z : Type 0} (h : Y → List Z) (f : X → List Y) (xs : List X)
+    → flat_map h (flat_map f xs) ≡ flat_map (λ x. flat_map h (f x)) xs
 flat_flat h f [] = refl
 flat_flat h f (x ∷ xs) = flat_map-append h (f x) (flat_map f xs) ∙ ap (λ zs. flat_map h (f x) ++ zs) (flat_flat h f xs)
 
@@ -288,7 +296,8 @@ flat_flat h f (x ∷ xs) = flat_map-append h (f x) (flat_map f xs) ∙ ap (λ zs
 pub personalities_are : (l : Link)
     → personality_targets l
     ≡ distinct same_target
-    (flat_map (λ d. map (target_of_relocation l d.of_section) (relocations_in_entry l d.of_section d.entry PERSONALITY_PLACE)) (entries_of_link l))
+    (flat_map (λ d. map (target_of_relocation l d.of_section) (relocations_in_entry l d.of_section d.entry PERSONALITY_PLACE))
+    (entries_of_link l))
 unfolding personality_targets entries_of_link
 personalities_are l =
     ap (distinct same_target) (made_of_personalities (target_of_relocation l) l
@@ -325,7 +334,8 @@ names_asked l (u ∷ us) = by (symbol_at_use l u) (names_asked l us)
     by (Some s) same = case (is_global (entry_at l s))
       where
         case : (b : Bool) → cons_option (if b then Some (name_at l s) else None) rest
-            ≡ map (name_at l) (if b then s ∷ filter (λ t. is_global (entry_at l t)) symbols else filter (λ t. is_global (entry_at l t)) symbols)
+            ≡ map (name_at l)
+            (if b then s ∷ filter (λ t. is_global (entry_at l t)) symbols else filter (λ t. is_global (entry_at l t)) symbols)
         case true = ap (λ (ns : List (List ℕ)). name_at l s ∷ ns) same
         case false = same
 

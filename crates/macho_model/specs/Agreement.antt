@@ -56,9 +56,11 @@ pub record EntryAgrees (l : Link) (b : List ℕ) (p : Placed) : Type 0 where
 
 -- What the load commands say is what the placement says.
 pub record CommandsAgree (l : Link) (counts : Counts) (b : List ℕ) (p : Placed) : Type 0 where
+  -- segments, in order, with their names and ranges
   pub segments : SegmentsAgree b p
   -- the load commands of the file end, with the padding behind them, where the placement's head ends
   pub head : commands_end b + counts.padding ≡ head_size counts p
   -- the section headers of the file are the placement's output sections, in order
   pub headers : section_headers_of b ≡ p.output_sections
+  -- where an executable begins; a library begins nowhere
   pub entry : EntryAgrees l b p

@@ -100,8 +100,11 @@ head_for l p commands =
     + (if list_any (λ h. type_of h == S_THREAD_LOCAL_VARIABLES) p.output_sections then MH_HAS_TLV_DESCRIPTORS else 0)) ∷ 0 ∷ [])
     ++ concat commands
 
--- The file begins with this head, with an exports trie of some size. The versions that were given fit their fields.
+-- The file begins with this head.
 pub record HeadSays (l : Link) (counts : Counts) (uuid : List ℕ) (b : List ℕ) (p : Placed) : Type 0 where
+  -- the versions that were given fit their fields
   pub versions : IfSome l.versions (λ v. (v.0 < 2 ^ 32) × (v.1 < 2 ^ 32))
+  -- how many bytes the command of the exports trie tells
   pub trie : ℕ
+  -- header and load commands, byte for byte
   pub text : Stands b (record { at = 0; text = head_for l p (commands_for l counts p uuid trie) })

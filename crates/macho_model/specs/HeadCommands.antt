@@ -68,7 +68,8 @@ command_in b c =
     else if c.number == LC_UUID then Uuid (reading uuid_command b c.at)
     else if c.number == LC_BUILD_VERSION then BuildVersion (reading build_version_command b c.at) (tools_at b c.at)
     else if c.number == LC_LOAD_DYLINKER then Dylinker (reading dylinker_command b c.at) (behind b c (size_of dylinker_command))
-    else if (c.number == LC_ID_DYLIB) || (c.number == LC_LOAD_DYLIB) then Dylib (reading dylib_command b c.at) (behind b c (size_of dylib_command))
+    else if (c.number == LC_ID_DYLIB) || (c.number == LC_LOAD_DYLIB)
+    then Dylib (reading dylib_command b c.at) (behind b c (size_of dylib_command))
     else if c.number == LC_RPATH then Rpath (reading rpath_command b c.at) (behind b c (size_of rpath_command))
     else if c.number == LC_SYMTAB then Symtab (reading symtab_command b c.at)
     else if (c.number == LC_DYLD_CHAINED_FIXUPS) || (c.number == LC_DYLD_EXPORTS_TRIE) || (c.number == LC_CODE_SIGNATURE)
@@ -141,7 +142,11 @@ versions_for (Some (minimum, sdk)) =
 
 abbrev pub dylinker_for : HeadCommand
 dylinker_for = Dylinker
-    (record { cmd = LC_LOAD_DYLINKER; cmdsize = path_command_size (size_of dylinker_command) DYLINKER; name_offset = size_of dylinker_command })
+    (record {
+      cmd = LC_LOAD_DYLINKER;
+      cmdsize = path_command_size (size_of dylinker_command) DYLINKER;
+      name_offset = size_of dylinker_command;
+    })
     (path_filled (size_of dylinker_command) DYLINKER)
 
 abbrev pub dylib_for : ℕ → ℕ → ℕ → ℕ → List ℕ → HeadCommand
@@ -216,7 +221,8 @@ size_said (Other number size) = size
 -- slid; and where thread-local variables are described, that they are
 abbrev pub flags_for : Link → Placed → ℕ
 flags_for l p =
-    MH_NOUNDEFS + MH_DYLDLINK + MH_TWOLEVEL + (if l.executable then MH_PIE else 0) + (if describes_thread_locals p then MH_HAS_TLV_DESCRIPTORS else 0)
+    MH_NOUNDEFS + MH_DYLDLINK + MH_TWOLEVEL + (if l.executable then MH_PIE else 0) +
+    (if describes_thread_locals p then MH_HAS_TLV_DESCRIPTORS else 0)
 
 -- the header in front of so many load commands, which have so many bytes
 abbrev pub header_with : Link → Placed → ℕ → ℕ → MachHeader

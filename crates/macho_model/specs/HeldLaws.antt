@@ -41,13 +41,15 @@ ZerosAreHeld =
 abbrev pub NumbersAreHeld : Type 0
 NumbersAreHeld =
     (b : List ℕ) (s : ℕ) (choice : Choice) (segment : SegmentCommand) (w i : ℕ) → IsFree b (segment.vmaddr + i) w
-    → Contains (mapped_segments b) segment → i + w ≤ segment.filesize → segment.filesize ≤ segment.vmsize → segment.fileoff + segment.filesize ≤ length b
+    → Contains (mapped_segments b) segment → i + w ≤ segment.filesize → segment.filesize ≤ segment.vmsize
+    → segment.fileoff + segment.filesize ≤ length b
     → HoldsNumber b s choice w (segment.vmaddr + i + s) (le_at w b (segment.fileoff + i))
 
 -- A slot of a target that moves stands at every slide, where its chain word says the target at slide 0.
 abbrev pub SlotsMove : Type 0
 SlotsMove =
-    (l : Link) (b : List ℕ) (p : Placed) (c : Choice) (slot : Slot) (word x : ℕ) → MovesAt b slot.address word → is_defined slot.target ≡ true
+    (l : Link) (b : List ℕ) (p : Placed) (c : Choice) (slot : Slot) (word x : ℕ)
+    → MovesAt b slot.address word → is_defined slot.target ≡ true
     → IsAt l p 0 c slot.target x → Same (rebase_target word + rebase_high word * 2 ^ 56 + base_of b) x
     → (s : ℕ) (choice : Choice) → SlotStands l b p s choice slot
 
@@ -55,7 +57,8 @@ SlotsMove =
 abbrev pub ImportSlotsBind : Type 0
 ImportSlotsBind =
     (l : Link) (b : List ℕ) (p : Placed) (slot : Slot) (id : ℕ) → BindsAt l b slot.address id 0 → slot.target ≡ target.Import id
-    → (s : ℕ) (choice : Choice) (x : ℕ) → chosen choice (import_library l (get_or (imports_of l) id [])) (get_or (imports_of l) id []) ≡ Some x
+    → (s : ℕ) (choice : Choice) (x : ℕ)
+    → chosen choice (import_library l (get_or (imports_of l) id [])) (get_or (imports_of l) id []) ≡ Some x
     → SlotStands l b p s choice slot
 
 -- A pointer that no fixup moves, an offset from the thread-local template or an absolute value, denotes at every slide where it

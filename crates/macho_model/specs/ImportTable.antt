@@ -39,14 +39,18 @@ pub record EntrySays (l : Link) (b : List ℕ) (t : Table) (k : ℕ) : Type 0 wh
   pub name : import_name b t (import_entry b t k) ≡ name_of_entry l k
   pub addend : (import_entry b t k).addend ≡ (entry_of_link l k).addend
 
--- THE import table of the file is that of the link: as many entries in the same order, with addends exactly where some pointer
--- needs one, and the names, each once.
+-- THE import table of the file is that of the link.
 pub record ImportTableSays (l : Link) (b : List ℕ) : Type 0 where
+  -- the file's one fixup table, which the import table is in
   pub table : Table
   pub one : tables_of b ≡ table ∷ []
+  -- the entries have room for addends exactly where some pointer needs one
   pub format : (fixups_header b table).imports_format ≡ import_format l
+  -- there are as many entries as the link has
   pub count : (fixups_header b table).imports_count ≡ length (import_entries_of l)
+  -- each with its library, name and addend, and none weak
   pub entries : (k : ℕ) → k < length (import_entries_of l) → EntrySays l b table k
+  -- the names, each once, in order
   pub names : slice_range b (table.at + (fixups_header b table).symbols_offset)
       (table.at + (fixups_header b table).symbols_offset + length (names_text l)) ≡ names_text l
 

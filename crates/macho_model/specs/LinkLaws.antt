@@ -13,7 +13,8 @@ abbrev pub DefinitionsAgree : Type 0
 DefinitionsAgree = (l m : Link) (name : List ℕ) → l.inputs ≡ m.inputs → definition_of l name ≡ definition_of m name
 
 abbrev pub NotedTargetsAgree : Type 0
-NotedTargetsAgree = (l m : Link) (noted : List (List ℕ)) (s : SymbolId) → l.inputs ≡ m.inputs → target_with l noted s ≡ target_with m noted s
+NotedTargetsAgree = (l m : Link) (noted : List (List ℕ)) (s : SymbolId) → l.inputs ≡ m.inputs
+    → target_with l noted s ≡ target_with m noted s
 
 -- the commons and the carried sections are those of the inputs
 abbrev pub CommonsAgree : Type 0

@@ -101,7 +101,8 @@ WordFails b place =
 -- An image breaks a rule of the loader at a place.
 abbrev pub ImageBreaks : List ℕ → LoadRule → ℕ → Type 0
 ImageBreaks b L1 place = (place ≡ 0) × (image_head_fits b ≡ false)
-ImageBreaks b L2 place = ((place ≡ 0) × (commands_inside b ≡ false)) ⊎ CommandFails (commands_of b) place (command_fits (needed_in_image b) b)
+ImageBreaks b L2 place = ((place ≡ 0) × (commands_inside b ≡ false))
+    ⊎ CommandFails (commands_of b) place (command_fits (needed_in_image b) b)
 ImageBreaks b L3 place = CommandFails (numbered LC_SEGMENT_64 b) place (λ c. protections_fit (segment_in b c))
 ImageBreaks b L4 place = CommandFails (numbered LC_SEGMENT_64 b) place (λ c. file_part_inside b (segment_in b c))
 ImageBreaks b L5 place = CommandFails (numbered LC_SEGMENT_64 b) place (λ c. segment_is_paged (segment_in b c))

@@ -48,8 +48,8 @@ merged l key =
     ++ list_if (same_key common_key key) (map (common_piece l) p.commons) in
     record { key = key; is_merged = true; flags = flags_of_key l key; stub_size = 0; pieces = pieces }
 
--- a section that the linker makes where something is in it: its segment, its name, its flags (the low byte is the type), the size of a stub,
--- its pieces
+-- a section that the linker makes where something is in it: its segment, its name, its flags (the low byte is the type), the size of a
+-- stub, its pieces
 abbrev pub made : Bool → List ℕ → List ℕ → ℕ → ℕ → (Placed → List Piece) → List OutputSection
 made some segment name flags stub_size pieces =
     let key : OutputKey = record { segment = segment; name = name; type = flags % 256 } in

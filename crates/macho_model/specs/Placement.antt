@@ -89,8 +89,8 @@ is_segment_named name s = bytes_eq (text_of s.name) name
 
 -- a table of `__LINKEDIT` has a file range; in memory it stands where the segment's file bytes are mapped to (`table_pieces` of `Order` has
 -- the tables by file offsets)
-abbrev pub table_piece : Placed → Range64 → Piece
-table_piece p r = record (range_piece 0 r) {
+abbrev pub mapped_table : Placed → Range64 → Piece
+mapped_table p r = record (range_piece 0 r) {
   start = of_first r.start (λ s. s.address + r.start - s.file_offset) (filter (is_segment_named LINKEDIT) p.segments);
 }
 
@@ -102,7 +102,7 @@ unfoldable pub pieces_with : Link → Counts → Placed → List PlacedSection �
 pieces_with l counts p sections =
     record { start = p.base; size = head_size counts p; exponent = 0 } ∷ map (section_piece l) sections ++ map (common_piece l) p.commons
     ++ map slot_piece p.slots ++ map stub_piece p.stubs
-    ++ range_piece 0 p.init_offsets ∷ range_piece 0 p.unwind ∷ map (table_piece p) (linkedit_ranges p)
+    ++ range_piece 0 p.init_offsets ∷ range_piece 0 p.unwind ∷ map (mapped_table p) (linkedit_ranges p)
 
 -- a piece lies in a segment, and in its file part where it has bytes in the file
 abbrev pub LiesIn : Bool → Piece → PlacedSegment → Type 0
@@ -119,12 +119,17 @@ SectionLies l p q =
     (s : PlacedSegment) × IsNumber p.segments q.segment s × (is_segment_named (segment_name_of (header_at l (id_of q))) s ≡ true)
     × LiesIn (not (is_zerofill (header_at l (id_of q))) && not ((header_at l (id_of q)).size == 0)) (section_piece l q) s
 
--- each thing of a link has its place, and nothing else has one: sections are listed by file, then section, and commons by number
+-- each thing of a link has its place, and nothing else has one
 pub record IsWholeList (l : Link) (p : Placed) : Type 0 where
+  -- the carried sections, by file, then section
   pub sections : map id_of p.sections ≡ carried_of l
+  -- the chosen commons, by number
   pub commons : map (λ c. c.id) p.commons ≡ range_with_len 0 (length (chosen_commons l))
+  -- the slots, by first need
   pub slots : map (λ s. s.target) p.slots ≡ slots_of l
+  -- the stubs, by first call
   pub stubs : map (λ s. target.Import s.import) p.stubs ≡ stubs_of l
+  -- each stub goes through the slot of its import
   pub stub_slots : All (λ s. s.slot ≡ slot_number l (target.Import s.import)) p.stubs
 
 -- each part lies whole in its segment; what has bytes in the file lies in its file part

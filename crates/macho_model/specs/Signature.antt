@@ -15,7 +15,7 @@ use Rattle.macho_model.specs.WrittenSum.{SIGNED_PAGE, DIGEST_SIZE}
 use Rattle.macho_model.specs.Images.{signatures_of, segments_named}
 use Rattle.macho_model.specs.Faults.{last_part}
 
--- the 16 bytes of a UUID as they are written: version 3 in the upper half of byte 6, the variant 10 in the highest bits of byte 8 (RFC 9562)
+-- the 16 bytes of a UUID as they are written: version 3 in the upper half of byte 6, variant 10 in the highest bits of byte 8 (RFC 9562)
 unfoldable pub uuid_written : List ℕ → List ℕ
 uuid_written uuid =
     map (λ k. let byte = slice_index uuid k in if k == 6 then 0x30 + byte % 16 else if k == 8 then 0x80 + byte % 64 else byte)
@@ -56,11 +56,11 @@ DIRECTORY_PLACE = 20
 abbrev pub DIRECTORY_HEAD : ℕ
 DIRECTORY_HEAD = 88
 
--- The bytes of a signature. The super blob (`CSMAGIC_EMBEDDED_SIGNATURE`): its length, and one blob by its type and place. The code directory
--- (`CSMAGIC_CODEDIRECTORY`): its length, version and flags (`CS_ADHOC`, `CS_LINKER_SIGNED`), the places of digests and identifier, no special
--- digests, the number of digests and the limit; the size and type of a digest (`CS_HASHTYPE_SHA256`), no platform, pages of 2 ^ 12 bytes;
--- four fields that are not used, and no limit of 64 bits; the file range of `__TEXT`, and an executable's `CS_EXECSEG_MAIN_BINARY`. Then the
--- identifier and the digests.
+-- The bytes of a signature. The super blob (`CSMAGIC_EMBEDDED_SIGNATURE`): its length, and one blob by its type and place. The code
+-- directory (`CSMAGIC_CODEDIRECTORY`): its length, version and flags (`CS_ADHOC`, `CS_LINKER_SIGNED`), the places of digests and
+-- identifier, no special digests, the number of digests and the limit; the size and type of a digest (`CS_HASHTYPE_SHA256`), no platform,
+-- pages of 2 ^ 12 bytes; four fields that are not used, and no limit of 64 bits; the file range of `__TEXT`, and an executable's
+-- `CS_EXECSEG_MAIN_BINARY`. Then the identifier and the digests.
 unfoldable pub signature_text : Signed → List ℕ → List ℕ
 signature_text s b =
     let digests : ℕ = DIRECTORY_HEAD + length (identifier_text s.name) in
@@ -81,13 +81,17 @@ signed_of l text limit = record {
   limit = limit;
 }
 
--- The file is signed: its one signature begins at the limit of what it signs, ends with the file, and is the text of what
--- stands in front of it in these very bytes.
+-- The file is signed: its signature is that of its own bytes.
 pub record IsSigned (l : Link) (b : List ℕ) : Type 0 where
+  -- the place of the signature, where the signed bytes end, and its size
   pub limit : ℕ
   pub size : ℕ
+  -- the file has this signature alone
   pub one : signatures_of b ≡ record { at = limit; size = size } ∷ []
+  -- the signature ends the file
   pub ends : length b ≡ limit + size
+  -- the segment `__TEXT`, of which there is one
   pub text : SegmentCommand
   pub text_is : segments_named TEXT b ≡ text ∷ []
+  -- the signature's bytes are those of `signature_text`, for what stands in front of it
   pub says : slice_range b limit (length b) ≡ signature_text (signed_of l text limit) b

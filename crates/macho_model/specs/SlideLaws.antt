@@ -63,7 +63,8 @@ pub record BindsAt (l : Link) (b : List ℕ) (a id addend : ℕ) : Type 0 where
   pub stands : IsFileWord (chain_segments b) b a word
   pub binds : is_bind word ≡ true
   pub alone : (other : ℕ) → OnChainOf b other → (other ≤ a) ⊎ (a + POINTER_SIZE ≤ other)
-  pub bound : (choice : Choice) (x : ℕ) → chosen choice (import_library l (get_or (imports_of l) id [])) (get_or (imports_of l) id []) ≡ Some x
+  pub bound : (choice : Choice) (x : ℕ)
+      → chosen choice (import_library l (get_or (imports_of l) id [])) (get_or (imports_of l) id []) ≡ Some x
       → IsBound b choice word ((x + addend) % 2 ^ 64)
 
 -- A pointer of 8 bytes to an import denotes at every slide, for every choice that has the import.
@@ -71,5 +72,6 @@ abbrev pub ImportPointersBind : Type 0
 ImportPointersBind =
     (l : Link) (b : List ℕ) (p : Placed) (q : PlacedSection) (f : Field) (id : ℕ) → BindsAt l b (q.address + f.offset) id f.addend
     → f.width ≡ 8 → kind_of f.type (is_some f.subtrahend) ≡ Pointer → is_template_offset l (id_of q) f ≡ false → f.target ≡ target.Import id
-    → (s : ℕ) (choice : Choice) (x : ℕ) → chosen choice (import_library l (get_or (imports_of l) id [])) (get_or (imports_of l) id []) ≡ Some x
+    → (s : ℕ) (choice : Choice) (x : ℕ)
+    → chosen choice (import_library l (get_or (imports_of l) id [])) (get_or (imports_of l) id []) ≡ Some x
     → Denotes l b p s choice q f

@@ -51,15 +51,7 @@ CallIsAt l p s choice t x = IsAt l p s choice t x
 
 -- What a relocated field is, by the type of its relocation.
 pub data Kind : Type 0 where
-  Pointer : Kind
-  Difference : Kind
-  Branch : Kind
-  Page : Kind
-  Offset : Kind
-  SlotPage : Kind
-  SlotOffset : Kind
-  SlotDistance : Kind
-  NoKind : Kind
+  Pointer Difference Branch Page Offset SlotPage SlotOffset SlotDistance NoKind : Kind
 
 abbrev pub kind_of : ℕ → Bool → Kind
 kind_of type has_subtrahend =
@@ -153,10 +145,13 @@ pub record StubStands (b : List ℕ) (p : Placed) (s : ℕ) (choice : Choice) (s
 
 -- THE image stands, at a slide and for a choice of import addresses.
 pub record ImageStands (l : Link) (b : List ℕ) (p : Placed) (s : ℕ) (choice : Choice) : Type 0 where
+  -- each carried section has its input's bytes outside its fields, and each field denotes
   pub sections : All (SectionStands l b p s choice) p.sections
   -- a chosen common is zeros over its size
   pub commons : All (λ c. (i : ℕ) → i < common_size_of (entry_at l (common_of l c.id)) → Holds b s choice (c.address + i + s) 0) p.commons
+  -- each slot holds its target's address
   pub slots : All (SlotStands l b p s choice) p.slots
+  -- each stub goes on through its slot
   pub stubs : All (StubStands b p s choice) p.stubs
 
 -- THE promise of a link: its parts are placed, the loader accepts the bytes, and at every slide of whole pages by which no mapped segment

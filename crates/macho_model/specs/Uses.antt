@@ -24,7 +24,8 @@ carried_uses l s = map (ByRelocation s) (relocations_of l s)
 
 abbrev pub initializer_uses : Link → SectionId → List Use
 initializer_uses l s =
-    flat_map (λ slot. map (ByInitializer s) (relocations_at l s (POINTER_SIZE * slot))) (range_with_len 0 ((header_at l s).size / POINTER_SIZE))
+    flat_map (λ slot. map (ByInitializer s) (relocations_at l s (POINTER_SIZE * slot)))
+    (range_with_len 0 ((header_at l s).size / POINTER_SIZE))
 
 abbrev pub personality_uses : Link → SectionId → List Use
 personality_uses l s =

@@ -41,7 +41,8 @@ stays_inside l (target.Import id) addend = fits_signed 32 addend
 stays_inside l target.Base addend = addend == 0
 stays_inside l t addend = false
 
--- A field is sure to fit, by its kind. A pointer that the loader writes is aligned, in a segment that may hold it, and leads into its target.
+-- A field is sure to fit, by its kind. A pointer that the loader writes is aligned, in a segment that may hold it, and leads into its
+-- target.
 abbrev pub field_fits : Link → SectionId → Field → Kind → Bool
 field_fits l s f Pointer =
     not (needs_fixup l s f)

@@ -17,8 +17,8 @@ pub record Span : Type 0 where
 abbrev pub span_of : Placed → Piece → Span
 span_of p c = record { start = offset_in_file p c.start; size = c.size }
 
--- the ranges of the file that have content: of the range of unwind information as many bytes as are told, of a fixup table what ends with its
--- names, of any other table its whole range
+-- the ranges of the file that have content: of the range of unwind information as many bytes as are told, of a fixup table what ends with
+-- its names, of any other table its whole range
 unfoldable pub contents_of : Link → List ℕ → Placed → ℕ → List Span
 contents_of l b p unwind =
     record { start = 0; size = commands_end b }

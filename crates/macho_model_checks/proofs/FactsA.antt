@@ -31,7 +31,8 @@ pub section_of_a : header_at link_a (section 0 0) ≡ record header_a { addr = 0
 unfolding header_of commands_from commands_of commands_end num_sections section_place section_at section_bytes symtab_of
     num_symbols symbol_place symbol_at strings_of symbol_name relocation_place relocation_at sections_of carried_of template_exponent
     placed_exponent symbols_of strong_of commons_of greatest_of libraries_with definition_of chosen_commons
-    initializer_sections unwind_sections uses_of carried_relocations initializer_relocations personality_relocations imports_of libraries_needed target_of target_of_relocation slots_of stubs_of
+    initializer_sections unwind_sections uses_of carried_relocations initializer_relocations personality_relocations imports_of
+    libraries_needed target_of target_of_relocation slots_of stubs_of
     fields_of is_supported plain_entries all_entries entries_of other_segments segment_rank segment_names_of output_keys_of
     output_count content_sum command_sum unsigned_sum written_sum_of spans_with personality_targets entries_of_link le_at
     le_bytes row_bytes reading words8 words name16 object_a
@@ -41,7 +42,8 @@ pub bytes_of_a : section_bytes object_a 0 ≡ 0x00 ∷ 0x00 ∷ 0x80 ∷ 0x52 �
 unfolding header_of commands_from commands_of commands_end num_sections section_place section_at section_bytes symtab_of
     num_symbols symbol_place symbol_at strings_of symbol_name relocation_place relocation_at sections_of carried_of template_exponent
     placed_exponent symbols_of strong_of commons_of greatest_of libraries_with definition_of chosen_commons
-    initializer_sections unwind_sections uses_of carried_relocations initializer_relocations personality_relocations imports_of libraries_needed target_of target_of_relocation slots_of stubs_of
+    initializer_sections unwind_sections uses_of carried_relocations initializer_relocations personality_relocations imports_of
+    libraries_needed target_of target_of_relocation slots_of stubs_of
     fields_of is_supported plain_entries all_entries entries_of other_segments segment_rank segment_names_of output_keys_of
     output_count content_sum command_sum unsigned_sum written_sum_of spans_with personality_targets entries_of_link le_at
     le_bytes row_bytes reading words8 words name16 object_a
@@ -51,7 +53,8 @@ pub carried_a : carried_of link_a ≡ section 0 0 ∷ []
 unfolding header_of commands_from commands_of commands_end num_sections section_place section_at section_bytes symtab_of
     num_symbols symbol_place symbol_at strings_of symbol_name relocation_place relocation_at sections_of carried_of template_exponent
     placed_exponent symbols_of strong_of commons_of greatest_of libraries_with definition_of chosen_commons
-    initializer_sections unwind_sections uses_of carried_relocations initializer_relocations personality_relocations imports_of libraries_needed target_of target_of_relocation slots_of stubs_of
+    initializer_sections unwind_sections uses_of carried_relocations initializer_relocations personality_relocations imports_of
+    libraries_needed target_of target_of_relocation slots_of stubs_of
     fields_of is_supported plain_entries all_entries entries_of other_segments segment_rank segment_names_of output_keys_of
     output_count content_sum command_sum unsigned_sum written_sum_of spans_with personality_targets entries_of_link le_at
     le_bytes row_bytes reading words8 words name16 object_a
@@ -61,7 +64,8 @@ pub exponent_a : placed_exponent link_a (section 0 0) ≡ 2
 unfolding header_of commands_from commands_of commands_end num_sections section_place section_at section_bytes symtab_of
     num_symbols symbol_place symbol_at strings_of symbol_name relocation_place relocation_at sections_of carried_of template_exponent
     placed_exponent symbols_of strong_of commons_of greatest_of libraries_with definition_of chosen_commons
-    initializer_sections unwind_sections uses_of carried_relocations initializer_relocations personality_relocations imports_of libraries_needed target_of target_of_relocation slots_of stubs_of
+    initializer_sections unwind_sections uses_of carried_relocations initializer_relocations personality_relocations imports_of
+    libraries_needed target_of target_of_relocation slots_of stubs_of
     fields_of is_supported plain_entries all_entries entries_of other_segments segment_rank segment_names_of output_keys_of
     output_count content_sum command_sum unsigned_sum written_sum_of spans_with personality_targets entries_of_link le_at
     le_bytes row_bytes reading words8 words name16 object_a
@@ -71,7 +75,8 @@ pub symbols_a : symbols_of link_a ≡ symbol 0 0 ∷ []
 unfolding header_of commands_from commands_of commands_end num_sections section_place section_at section_bytes symtab_of
     num_symbols symbol_place symbol_at strings_of symbol_name relocation_place relocation_at sections_of carried_of template_exponent
     placed_exponent symbols_of strong_of commons_of greatest_of libraries_with definition_of chosen_commons
-    initializer_sections unwind_sections uses_of carried_relocations initializer_relocations personality_relocations imports_of libraries_needed target_of target_of_relocation slots_of stubs_of
+    initializer_sections unwind_sections uses_of carried_relocations initializer_relocations personality_relocations imports_of
+    libraries_needed target_of target_of_relocation slots_of stubs_of
     fields_of is_supported plain_entries all_entries entries_of other_segments segment_rank segment_names_of output_keys_of
     output_count content_sum command_sum unsigned_sum written_sum_of spans_with personality_targets entries_of_link le_at
     le_bytes row_bytes reading words8 words name16 object_a
@@ -82,7 +87,8 @@ pub commons_a : chosen_commons link_a ≡ []
 unfolding header_of commands_from commands_of commands_end num_sections section_place section_at section_bytes symtab_of
     num_symbols symbol_place symbol_at strings_of symbol_name relocation_place relocation_at sections_of carried_of template_exponent
     placed_exponent symbols_of strong_of commons_of greatest_of libraries_with definition_of chosen_commons
-    initializer_sections unwind_sections uses_of carried_relocations initializer_relocations personality_relocations imports_of libraries_needed target_of target_of_relocation slots_of stubs_of
+    initializer_sections unwind_sections uses_of carried_relocations initializer_relocations personality_relocations imports_of
+    libraries_needed target_of target_of_relocation slots_of stubs_of
     fields_of is_supported plain_entries all_entries entries_of other_segments segment_rank segment_names_of output_keys_of
     output_count content_sum command_sum unsigned_sum written_sum_of spans_with personality_targets entries_of_link le_at
     le_bytes row_bytes reading words8 words name16 object_a
@@ -92,7 +98,8 @@ pub uses_a : uses_of link_a ≡ []
 unfolding header_of commands_from commands_of commands_end num_sections section_place section_at section_bytes symtab_of
     num_symbols symbol_place symbol_at strings_of symbol_name relocation_place relocation_at sections_of carried_of template_exponent
     placed_exponent symbols_of strong_of commons_of greatest_of libraries_with definition_of chosen_commons
-    initializer_sections unwind_sections uses_of carried_relocations initializer_relocations personality_relocations imports_of libraries_needed target_of target_of_relocation slots_of stubs_of
+    initializer_sections unwind_sections uses_of carried_relocations initializer_relocations personality_relocations imports_of
+    libraries_needed target_of target_of_relocation slots_of stubs_of
     fields_of is_supported plain_entries all_entries entries_of other_segments segment_rank segment_names_of output_keys_of
     output_count content_sum command_sum unsigned_sum written_sum_of spans_with personality_targets entries_of_link le_at
     le_bytes row_bytes reading words8 words name16 object_a
@@ -102,7 +109,8 @@ pub slots_a : slots_of link_a ≡ []
 unfolding header_of commands_from commands_of commands_end num_sections section_place section_at section_bytes symtab_of
     num_symbols symbol_place symbol_at strings_of symbol_name relocation_place relocation_at sections_of carried_of template_exponent
     placed_exponent symbols_of strong_of commons_of greatest_of libraries_with definition_of chosen_commons
-    initializer_sections unwind_sections uses_of carried_relocations initializer_relocations personality_relocations imports_of libraries_needed target_of target_of_relocation slots_of stubs_of
+    initializer_sections unwind_sections uses_of carried_relocations initializer_relocations personality_relocations imports_of
+    libraries_needed target_of target_of_relocation slots_of stubs_of
     fields_of is_supported plain_entries all_entries entries_of other_segments segment_rank segment_names_of output_keys_of
     output_count content_sum command_sum unsigned_sum written_sum_of spans_with personality_targets entries_of_link le_at
     le_bytes row_bytes reading words8 words name16 object_a
@@ -112,7 +120,8 @@ pub stubs_a : stubs_of link_a ≡ []
 unfolding header_of commands_from commands_of commands_end num_sections section_place section_at section_bytes symtab_of
     num_symbols symbol_place symbol_at strings_of symbol_name relocation_place relocation_at sections_of carried_of template_exponent
     placed_exponent symbols_of strong_of commons_of greatest_of libraries_with definition_of chosen_commons
-    initializer_sections unwind_sections uses_of carried_relocations initializer_relocations personality_relocations imports_of libraries_needed target_of target_of_relocation slots_of stubs_of
+    initializer_sections unwind_sections uses_of carried_relocations initializer_relocations personality_relocations imports_of
+    libraries_needed target_of target_of_relocation slots_of stubs_of
     fields_of is_supported plain_entries all_entries entries_of other_segments segment_rank segment_names_of output_keys_of
     output_count content_sum command_sum unsigned_sum written_sum_of spans_with personality_targets entries_of_link le_at
     le_bytes row_bytes reading words8 words name16 object_a
@@ -122,7 +131,8 @@ pub fields_a : fields_of link_a (section 0 0) ≡ []
 unfolding header_of commands_from commands_of commands_end num_sections section_place section_at section_bytes symtab_of
     num_symbols symbol_place symbol_at strings_of symbol_name relocation_place relocation_at sections_of carried_of template_exponent
     placed_exponent symbols_of strong_of commons_of greatest_of libraries_with definition_of chosen_commons
-    initializer_sections unwind_sections uses_of carried_relocations initializer_relocations personality_relocations imports_of libraries_needed target_of target_of_relocation slots_of stubs_of
+    initializer_sections unwind_sections uses_of carried_relocations initializer_relocations personality_relocations imports_of
+    libraries_needed target_of target_of_relocation slots_of stubs_of
     fields_of is_supported plain_entries all_entries entries_of other_segments segment_rank segment_names_of output_keys_of
     output_count content_sum command_sum unsigned_sum written_sum_of spans_with personality_targets entries_of_link le_at
     le_bytes row_bytes reading words8 words name16 object_a
@@ -132,7 +142,8 @@ pub initializers_a : initializer_sections link_a ≡ []
 unfolding header_of commands_from commands_of commands_end num_sections section_place section_at section_bytes symtab_of
     num_symbols symbol_place symbol_at strings_of symbol_name relocation_place relocation_at sections_of carried_of template_exponent
     placed_exponent symbols_of strong_of commons_of greatest_of libraries_with definition_of chosen_commons
-    initializer_sections unwind_sections uses_of carried_relocations initializer_relocations personality_relocations imports_of libraries_needed target_of target_of_relocation slots_of stubs_of
+    initializer_sections unwind_sections uses_of carried_relocations initializer_relocations personality_relocations imports_of
+    libraries_needed target_of target_of_relocation slots_of stubs_of
     fields_of is_supported plain_entries all_entries entries_of other_segments segment_rank segment_names_of output_keys_of
     output_count content_sum command_sum unsigned_sum written_sum_of spans_with personality_targets entries_of_link le_at
     le_bytes row_bytes reading words8 words name16 object_a
@@ -142,7 +153,8 @@ pub unwind_a : unwind_sections link_a ≡ []
 unfolding header_of commands_from commands_of commands_end num_sections section_place section_at section_bytes symtab_of
     num_symbols symbol_place symbol_at strings_of symbol_name relocation_place relocation_at sections_of carried_of template_exponent
     placed_exponent symbols_of strong_of commons_of greatest_of libraries_with definition_of chosen_commons
-    initializer_sections unwind_sections uses_of carried_relocations initializer_relocations personality_relocations imports_of libraries_needed target_of target_of_relocation slots_of stubs_of
+    initializer_sections unwind_sections uses_of carried_relocations initializer_relocations personality_relocations imports_of
+    libraries_needed target_of target_of_relocation slots_of stubs_of
     fields_of is_supported plain_entries all_entries entries_of other_segments segment_rank segment_names_of output_keys_of
     output_count content_sum command_sum unsigned_sum written_sum_of spans_with personality_targets entries_of_link le_at
     le_bytes row_bytes reading words8 words name16 object_a
@@ -152,7 +164,8 @@ pub listed_a : plain_entries link_a.export_lists ≡ []
 unfolding header_of commands_from commands_of commands_end num_sections section_place section_at section_bytes symtab_of
     num_symbols symbol_place symbol_at strings_of symbol_name relocation_place relocation_at sections_of carried_of template_exponent
     placed_exponent symbols_of strong_of commons_of greatest_of libraries_with definition_of chosen_commons
-    initializer_sections unwind_sections uses_of carried_relocations initializer_relocations personality_relocations imports_of libraries_needed target_of target_of_relocation slots_of stubs_of
+    initializer_sections unwind_sections uses_of carried_relocations initializer_relocations personality_relocations imports_of
+    libraries_needed target_of target_of_relocation slots_of stubs_of
     fields_of is_supported plain_entries all_entries entries_of other_segments segment_rank segment_names_of output_keys_of
     output_count content_sum command_sum unsigned_sum written_sum_of spans_with personality_targets entries_of_link le_at
     le_bytes row_bytes reading words8 words name16 object_a
@@ -162,7 +175,8 @@ pub entry_a : entry_is_defined link_a ≡ true
 unfolding header_of commands_from commands_of commands_end num_sections section_place section_at section_bytes symtab_of
     num_symbols symbol_place symbol_at strings_of symbol_name relocation_place relocation_at sections_of carried_of template_exponent
     placed_exponent symbols_of strong_of commons_of greatest_of libraries_with definition_of chosen_commons
-    initializer_sections unwind_sections uses_of carried_relocations initializer_relocations personality_relocations imports_of libraries_needed target_of target_of_relocation slots_of stubs_of
+    initializer_sections unwind_sections uses_of carried_relocations initializer_relocations personality_relocations imports_of
+    libraries_needed target_of target_of_relocation slots_of stubs_of
     fields_of is_supported plain_entries all_entries entries_of other_segments segment_rank segment_names_of output_keys_of
     output_count content_sum command_sum unsigned_sum written_sum_of spans_with personality_targets entries_of_link le_at
     le_bytes row_bytes reading words8 words name16 object_a
@@ -173,7 +187,8 @@ pub names_a : segment_names_of link_a ≡ codes "__PAGEZERO" ∷ codes "__TEXT" 
 unfolding header_of commands_from commands_of commands_end num_sections section_place section_at section_bytes symtab_of
     num_symbols symbol_place symbol_at strings_of symbol_name relocation_place relocation_at sections_of carried_of template_exponent
     placed_exponent symbols_of strong_of commons_of greatest_of libraries_with definition_of chosen_commons
-    initializer_sections unwind_sections uses_of carried_relocations initializer_relocations personality_relocations imports_of libraries_needed target_of target_of_relocation slots_of stubs_of
+    initializer_sections unwind_sections uses_of carried_relocations initializer_relocations personality_relocations imports_of
+    libraries_needed target_of target_of_relocation slots_of stubs_of
     fields_of is_supported plain_entries all_entries entries_of other_segments segment_rank segment_names_of output_keys_of
     output_count content_sum command_sum unsigned_sum written_sum_of spans_with personality_targets entries_of_link le_at
     le_bytes row_bytes reading words8 words name16 object_a
@@ -183,7 +198,8 @@ pub ranks_a : map (segment_rank link_a) (codes "__PAGEZERO" ∷ codes "__TEXT" �
 unfolding header_of commands_from commands_of commands_end num_sections section_place section_at section_bytes symtab_of
     num_symbols symbol_place symbol_at strings_of symbol_name relocation_place relocation_at sections_of carried_of template_exponent
     placed_exponent symbols_of strong_of commons_of greatest_of libraries_with definition_of chosen_commons
-    initializer_sections unwind_sections uses_of carried_relocations initializer_relocations personality_relocations imports_of libraries_needed target_of target_of_relocation slots_of stubs_of
+    initializer_sections unwind_sections uses_of carried_relocations initializer_relocations personality_relocations imports_of
+    libraries_needed target_of target_of_relocation slots_of stubs_of
     fields_of is_supported plain_entries all_entries entries_of other_segments segment_rank segment_names_of output_keys_of
     output_count content_sum command_sum unsigned_sum written_sum_of spans_with personality_targets entries_of_link le_at
     le_bytes row_bytes reading words8 words name16 object_a
@@ -195,7 +211,8 @@ pub sum_a : written_sum_of link_a counts_a ≡ 14 + 32 + 216 + 80 + 56 + 216 + 4
 unfolding header_of commands_from commands_of commands_end num_sections section_place section_at section_bytes symtab_of
     num_symbols symbol_place symbol_at strings_of symbol_name relocation_place relocation_at sections_of carried_of template_exponent
     placed_exponent symbols_of strong_of commons_of greatest_of libraries_with definition_of chosen_commons
-    initializer_sections unwind_sections uses_of carried_relocations initializer_relocations personality_relocations imports_of libraries_needed target_of target_of_relocation slots_of stubs_of
+    initializer_sections unwind_sections uses_of carried_relocations initializer_relocations personality_relocations imports_of
+    libraries_needed target_of target_of_relocation slots_of stubs_of
     fields_of is_supported plain_entries all_entries entries_of other_segments segment_rank segment_names_of output_keys_of
     output_count content_sum command_sum unsigned_sum written_sum_of spans_with personality_targets entries_of_link le_at
     le_bytes row_bytes reading words8 words name16 object_a
@@ -211,7 +228,8 @@ pub limits_a : map (limited link_a counts_a) (limit.Segments ∷ limit.Libraries
 unfolding header_of commands_from commands_of commands_end num_sections section_place section_at section_bytes symtab_of
     num_symbols symbol_place symbol_at strings_of symbol_name relocation_place relocation_at sections_of carried_of template_exponent
     placed_exponent symbols_of strong_of commons_of greatest_of libraries_with definition_of chosen_commons
-    initializer_sections unwind_sections uses_of carried_relocations initializer_relocations personality_relocations imports_of libraries_needed target_of target_of_relocation slots_of stubs_of
+    initializer_sections unwind_sections uses_of carried_relocations initializer_relocations personality_relocations imports_of
+    libraries_needed target_of target_of_relocation slots_of stubs_of
     fields_of is_supported plain_entries all_entries entries_of other_segments segment_rank segment_names_of output_keys_of
     output_count content_sum command_sum unsigned_sum written_sum_of spans_with personality_targets entries_of_link le_at
     le_bytes row_bytes reading words8 words name16 object_a

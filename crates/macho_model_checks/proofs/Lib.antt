@@ -38,6 +38,8 @@ pub mod RowsCallTrie
 pub mod RowsCallCounts
 pub mod RowsCallZeros
 pub mod RowsCallChanges
+pub mod RowsCallTold
+pub mod RowsCallReadBack
 pub mod RowsMade
 pub mod RowsUnwind
 pub mod RowsSignature

@@ -63,7 +63,8 @@ unfolding commands_end commands_of commands_from header_of reading le_at row_byt
     head_of_call fixups_of_call tables_of_call be_at be_bytes big_words signature_of_call call_image num_sections section_place
     section_at section_bytes symtab_of num_symbols symbol_place symbol_at strings_of symbol_name relocation_place relocation_at
     sections_of carried_of template_exponent placed_exponent symbols_of strong_of commons_of greatest_of libraries_with
-    definition_of chosen_commons initializer_sections unwind_sections carried_relocations initializer_relocations personality_relocations imports_of libraries_needed target_of
+    definition_of chosen_commons initializer_sections unwind_sections carried_relocations initializer_relocations personality_relocations
+    imports_of libraries_needed target_of
     target_of_relocation slots_of stubs_of fields_of plain_entries all_entries entries_of other_segments segment_names_of
     output_keys_of own_entries import_entries_of entries_have_addends fixup_count names_text
 call_needs = (refl, refl)
@@ -73,7 +74,8 @@ unfolding commands_end commands_of commands_from header_of reading le_at row_byt
     head_of_call fixups_of_call tables_of_call be_at be_bytes big_words signature_of_call call_image num_sections section_place
     section_at section_bytes symtab_of num_symbols symbol_place symbol_at strings_of symbol_name relocation_place relocation_at
     sections_of carried_of template_exponent placed_exponent symbols_of strong_of commons_of greatest_of libraries_with
-    definition_of chosen_commons initializer_sections unwind_sections carried_relocations initializer_relocations personality_relocations imports_of libraries_needed target_of
+    definition_of chosen_commons initializer_sections unwind_sections carried_relocations initializer_relocations personality_relocations
+    imports_of libraries_needed target_of
     target_of_relocation slots_of stubs_of fields_of plain_entries all_entries entries_of other_segments segment_names_of
     output_keys_of table_symbols symbol_entries output_sections_of all_sections output_sections_for pieces_of
     segments_for
@@ -94,18 +96,21 @@ unfolding commands_end commands_of commands_from header_of reading le_at row_byt
     head_of_call fixups_of_call tables_of_call be_at be_bytes big_words signature_of_call call_image num_sections section_place
     section_at section_bytes symtab_of num_symbols symbol_place symbol_at strings_of symbol_name relocation_place relocation_at
     sections_of carried_of template_exponent placed_exponent symbols_of strong_of commons_of greatest_of libraries_with
-    definition_of chosen_commons initializer_sections unwind_sections carried_relocations initializer_relocations personality_relocations imports_of libraries_needed target_of
+    definition_of chosen_commons initializer_sections unwind_sections carried_relocations initializer_relocations personality_relocations
+    imports_of libraries_needed target_of
     target_of_relocation slots_of stubs_of fields_of plain_entries all_entries entries_of other_segments segment_names_of
     output_keys_of section_address common_address slot_address head.commands_for head_for spelling
     section_headers_of section_headers_at uuid_written
 head_long = refl
 
-head_stands : slice_range call_image 0 920 ≡ head_for calling placed_call (head.commands_for calling counts_of_call placed_call uuid_given 14)
+head_stands : slice_range call_image 0 920
+    ≡ head_for calling placed_call (head.commands_for calling counts_of_call placed_call uuid_given 14)
 unfolding commands_end commands_of commands_from header_of reading le_at row_bytes le_bytes words8 words halves name16 entry calls_exit
     head_of_call fixups_of_call tables_of_call be_at be_bytes big_words signature_of_call call_image num_sections section_place
     section_at section_bytes symtab_of num_symbols symbol_place symbol_at strings_of symbol_name relocation_place relocation_at
     sections_of carried_of template_exponent placed_exponent symbols_of strong_of commons_of greatest_of libraries_with
-    definition_of chosen_commons initializer_sections unwind_sections carried_relocations initializer_relocations personality_relocations imports_of libraries_needed target_of
+    definition_of chosen_commons initializer_sections unwind_sections carried_relocations initializer_relocations personality_relocations
+    imports_of libraries_needed target_of
     target_of_relocation slots_of stubs_of fields_of plain_entries all_entries entries_of other_segments segment_names_of
     output_keys_of section_address common_address slot_address head.commands_for head_for spelling
     section_headers_of section_headers_at uuid_written
@@ -127,7 +132,8 @@ unfolding commands_end commands_of commands_from header_of reading le_at row_byt
     head_of_call fixups_of_call tables_of_call be_at be_bytes big_words signature_of_call call_image num_sections section_place
     section_at section_bytes symtab_of num_symbols symbol_place symbol_at strings_of symbol_name relocation_place relocation_at
     sections_of carried_of template_exponent placed_exponent symbols_of strong_of commons_of greatest_of libraries_with
-    definition_of chosen_commons initializer_sections unwind_sections carried_relocations initializer_relocations personality_relocations imports_of libraries_needed target_of
+    definition_of chosen_commons initializer_sections unwind_sections carried_relocations initializer_relocations personality_relocations
+    imports_of libraries_needed target_of
     target_of_relocation slots_of stubs_of fields_of plain_entries all_entries entries_of other_segments segment_names_of
     output_keys_of section_address common_address slot_address commands_in command_in commands_for header_for
     section_headers_of section_headers_at uuid_written
@@ -139,7 +145,8 @@ unfolding commands_end commands_of commands_from header_of reading le_at row_byt
 call_uuid = refl
 
 -- the placement
-pub call_agrees : SegmentsAgree call_image placed_call × (commands_end call_image + counts_of_call.padding ≡ head_size counts_of_call placed_call)
+pub call_agrees : SegmentsAgree call_image placed_call
+    × (commands_end call_image + counts_of_call.padding ≡ head_size counts_of_call placed_call)
     × (section_headers_of call_image ≡ placed_call.output_sections)
     × (entries_of_file call_image ≡ 0x398 ∷ []) × (base_of call_image ≡ 0x100000000)
 unfolding commands_end commands_of commands_from header_of reading le_at row_bytes le_bytes words8 words halves name16 entry calls_exit
@@ -168,7 +175,8 @@ unfolding commands_end commands_of commands_from header_of reading le_at row_byt
     head_of_call fixups_of_call tables_of_call be_at be_bytes big_words signature_of_call call_image num_sections section_place
     section_at section_bytes symtab_of num_symbols symbol_place symbol_at strings_of symbol_name relocation_place relocation_at
     sections_of carried_of template_exponent placed_exponent symbols_of strong_of commons_of greatest_of libraries_with
-    definition_of chosen_commons initializer_sections unwind_sections carried_relocations initializer_relocations personality_relocations imports_of libraries_needed target_of
+    definition_of chosen_commons initializer_sections unwind_sections carried_relocations initializer_relocations personality_relocations
+    imports_of libraries_needed target_of
     target_of_relocation slots_of stubs_of fields_of plain_entries all_entries entries_of other_segments segment_names_of
     output_keys_of table_symbols symbol_entries strings_text
     output_sections_of all_sections output_sections_for pieces_of segments_for section_address common_address slot_address
@@ -187,7 +195,8 @@ unfolding commands_end commands_of commands_from header_of reading le_at row_byt
     head_of_call fixups_of_call tables_of_call be_at be_bytes big_words signature_of_call call_image num_sections section_place
     section_at section_bytes symtab_of num_symbols symbol_place symbol_at strings_of symbol_name relocation_place relocation_at
     sections_of carried_of template_exponent placed_exponent symbols_of strong_of commons_of greatest_of libraries_with
-    definition_of chosen_commons initializer_sections unwind_sections carried_relocations initializer_relocations personality_relocations imports_of libraries_needed target_of
+    definition_of chosen_commons initializer_sections unwind_sections carried_relocations initializer_relocations personality_relocations
+    imports_of libraries_needed target_of
     target_of_relocation slots_of stubs_of fields_of plain_entries all_entries entries_of other_segments segment_names_of
     output_keys_of own_entries import_entries_of entries_have_addends fixup_count names_text segments_of
     mapped_segments base_of libraries_of tables_of tries_of signatures_of symbol_tables_of string_tables_of
@@ -199,7 +208,8 @@ unfolding commands_end commands_of commands_from header_of reading le_at row_byt
     head_of_call fixups_of_call tables_of_call be_at be_bytes big_words signature_of_call call_image num_sections section_place
     section_at section_bytes symtab_of num_symbols symbol_place symbol_at strings_of symbol_name relocation_place relocation_at
     sections_of carried_of template_exponent placed_exponent symbols_of strong_of commons_of greatest_of libraries_with
-    definition_of chosen_commons initializer_sections unwind_sections carried_relocations initializer_relocations personality_relocations imports_of libraries_needed target_of
+    definition_of chosen_commons initializer_sections unwind_sections carried_relocations initializer_relocations personality_relocations
+    imports_of libraries_needed target_of
     target_of_relocation slots_of stubs_of fields_of plain_entries all_entries entries_of other_segments segment_names_of
     output_keys_of own_entries import_entries_of entries_have_addends fixup_count names_text segments_of
     mapped_segments base_of libraries_of tables_of tries_of signatures_of symbol_tables_of string_tables_of
@@ -215,7 +225,8 @@ unfolding commands_end commands_of commands_from header_of reading le_at row_byt
     head_of_call fixups_of_call tables_of_call be_at be_bytes big_words signature_of_call call_image num_sections section_place
     section_at section_bytes symtab_of num_symbols symbol_place symbol_at strings_of symbol_name relocation_place relocation_at
     sections_of carried_of template_exponent placed_exponent symbols_of strong_of commons_of greatest_of libraries_with
-    definition_of chosen_commons initializer_sections unwind_sections carried_relocations initializer_relocations personality_relocations imports_of libraries_needed target_of
+    definition_of chosen_commons initializer_sections unwind_sections carried_relocations initializer_relocations personality_relocations
+    imports_of libraries_needed target_of
     target_of_relocation slots_of stubs_of fields_of plain_entries all_entries entries_of other_segments segment_names_of
     output_keys_of own_entries import_entries_of entries_have_addends fixup_count names_text segments_of
     mapped_segments base_of libraries_of tables_of tries_of signatures_of symbol_tables_of string_tables_of
@@ -234,7 +245,8 @@ unfolding commands_end commands_of commands_from header_of reading le_at row_byt
     head_of_call fixups_of_call tables_of_call be_at be_bytes big_words signature_of_call call_image num_sections section_place
     section_at section_bytes symtab_of num_symbols symbol_place symbol_at strings_of symbol_name relocation_place relocation_at
     sections_of carried_of template_exponent placed_exponent symbols_of strong_of commons_of greatest_of libraries_with
-    definition_of chosen_commons initializer_sections unwind_sections carried_relocations initializer_relocations personality_relocations imports_of libraries_needed target_of
+    definition_of chosen_commons initializer_sections unwind_sections carried_relocations initializer_relocations personality_relocations
+    imports_of libraries_needed target_of
     target_of_relocation slots_of stubs_of fields_of plain_entries all_entries entries_of other_segments segment_names_of
     output_keys_of segments_of mapped_segments base_of libraries_of tables_of tries_of signatures_of symbol_tables_of
     string_tables_of entries_of_file
@@ -392,7 +404,8 @@ version_is_asked says =
 unfoldable pub with_another_value : List ℕ
 with_another_value = changed call_image 0xc0f0 (words8 (0x10000039c ∷ []))
 
-value_there : map (λ e. e.n_value) (map (symbol_at with_another_value) (range_with_len 0 (num_symbols with_another_value))) ≡ 0x10000039c ∷ []
+value_there : map (λ e. e.n_value) (map (symbol_at with_another_value) (range_with_len 0 (num_symbols with_another_value))) ≡ 0x10000039c
+    ∷ []
 unfolding changed with_another_value commands_end commands_of commands_from header_of reading le_at row_bytes le_bytes words8 words halves
     name16 entry calls_exit head_of_call fixups_of_call tables_of_call be_at be_bytes big_words signature_of_call call_image
     num_sections section_place section_at section_bytes symtab_of num_symbols symbol_place symbol_at strings_of symbol_name
@@ -404,7 +417,8 @@ unfolding commands_end commands_of commands_from header_of reading le_at row_byt
     head_of_call fixups_of_call tables_of_call be_at be_bytes big_words signature_of_call call_image num_sections section_place
     section_at section_bytes symtab_of num_symbols symbol_place symbol_at strings_of symbol_name relocation_place relocation_at
     sections_of carried_of template_exponent placed_exponent symbols_of strong_of commons_of greatest_of libraries_with
-    definition_of chosen_commons initializer_sections unwind_sections carried_relocations initializer_relocations personality_relocations imports_of libraries_needed target_of
+    definition_of chosen_commons initializer_sections unwind_sections carried_relocations initializer_relocations personality_relocations
+    imports_of libraries_needed target_of
     target_of_relocation slots_of stubs_of fields_of plain_entries all_entries entries_of other_segments segment_names_of
     output_keys_of table_symbols symbol_entries output_sections_of all_sections output_sections_for pieces_of
     segments_for section_address common_address slot_address
@@ -427,7 +441,8 @@ unfolding changed with_another_library commands_end commands_of commands_from he
     halves name16 entry calls_exit head_of_call fixups_of_call tables_of_call be_at be_bytes big_words signature_of_call call_image
     num_sections section_place section_at section_bytes symtab_of num_symbols symbol_place symbol_at strings_of symbol_name
     relocation_place relocation_at sections_of carried_of template_exponent placed_exponent symbols_of strong_of weak_of
-    commons_of greatest_of libraries_with definition_of chosen_commons initializer_sections unwind_sections carried_relocations initializer_relocations personality_relocations imports_of
+    commons_of greatest_of libraries_with definition_of chosen_commons initializer_sections unwind_sections carried_relocations
+    initializer_relocations personality_relocations imports_of
     libraries_needed target_of target_of_relocation slots_of stubs_of fields_of plain_entries all_entries entries_of
     other_segments segment_names_of output_keys_of own_entries import_entries_of entries_have_addends fixup_count
     names_text segments_of mapped_segments base_of libraries_of tables_of tries_of signatures_of symbol_tables_of
@@ -460,7 +475,8 @@ unfolding commands_end commands_of commands_from header_of reading le_at row_byt
     head_of_call fixups_of_call tables_of_call be_at be_bytes big_words signature_of_call call_image num_sections section_place
     section_at section_bytes symtab_of num_symbols symbol_place symbol_at strings_of symbol_name relocation_place relocation_at
     sections_of carried_of template_exponent placed_exponent symbols_of strong_of commons_of greatest_of libraries_with
-    definition_of chosen_commons initializer_sections unwind_sections carried_relocations initializer_relocations personality_relocations imports_of libraries_needed target_of
+    definition_of chosen_commons initializer_sections unwind_sections carried_relocations initializer_relocations personality_relocations
+    imports_of libraries_needed target_of
     target_of_relocation slots_of stubs_of fields_of plain_entries all_entries entries_of other_segments segment_names_of
     output_keys_of
 names_asked = refl

@@ -54,7 +54,7 @@ segments_in_chain =
 abbrev pub words_in_chain : List ℕ
 words_in_chain = 0x100004000 ∷ 0x100008000 ∷ []
 
-call_segments : chain_segments call_image ≡ segments_in_chain
+pub call_segments : chain_segments call_image ≡ segments_in_chain
 unfolding chain_segments commands_end commands_of commands_from header_of reading le_at row_bytes le_bytes words8 words halves name16
     entry calls_exit head_of_call fixups_of_call tables_of_call be_at be_bytes big_words signature_of_call call_image segments_of
     mapped_segments base_of libraries_of tables_of tries_of signatures_of symbol_tables_of string_tables_of entries_of_file
@@ -66,10 +66,10 @@ unfolding commands_end commands_of commands_from header_of reading le_at row_byt
 call_closed = refl
 
 -- they are on the chain, and none other
-slot_on : OnChainOf call_image 0x100004000
+pub slot_on : OnChainOf call_image 0x100004000
 slot_on = rw call_segments (chain.OnChain.first constants_in_chain 0 (2, omega arith, refl) (omega arith) (λ same. omega (arith, same)))
 
-pointer_on : OnChainOf call_image 0x100008000
+pub pointer_on : OnChainOf call_image 0x100008000
 pointer_on = rw call_segments (chain.OnChain.first data_in_chain 0 (3, omega arith, refl) (omega arith) (λ same. omega (arith, same)))
 
 abbrev is_word : ℕ → Bool
@@ -96,7 +96,8 @@ unfolding commands_end commands_of commands_from header_of reading le_at row_byt
     head_of_call fixups_of_call tables_of_call be_at be_bytes big_words signature_of_call call_image num_sections section_place
     section_at section_bytes symtab_of num_symbols symbol_place symbol_at strings_of symbol_name relocation_place relocation_at
     sections_of carried_of template_exponent placed_exponent symbols_of strong_of commons_of greatest_of libraries_with
-    definition_of chosen_commons initializer_sections unwind_sections carried_relocations initializer_relocations personality_relocations imports_of libraries_needed target_of
+    definition_of chosen_commons initializer_sections unwind_sections carried_relocations initializer_relocations personality_relocations
+    imports_of libraries_needed target_of
     target_of_relocation slots_of stubs_of fields_of plain_entries all_entries entries_of other_segments segment_names_of
     output_keys_of
 fields_there = refl
@@ -118,7 +119,8 @@ unfolding commands_end commands_of commands_from header_of reading le_at row_byt
     head_of_call fixups_of_call tables_of_call be_at be_bytes big_words signature_of_call call_image num_sections section_place
     section_at section_bytes symtab_of num_symbols symbol_place symbol_at strings_of symbol_name relocation_place relocation_at
     sections_of carried_of template_exponent placed_exponent symbols_of strong_of commons_of greatest_of libraries_with
-    definition_of chosen_commons initializer_sections unwind_sections carried_relocations initializer_relocations personality_relocations imports_of libraries_needed target_of
+    definition_of chosen_commons initializer_sections unwind_sections carried_relocations initializer_relocations personality_relocations
+    imports_of libraries_needed target_of
     target_of_relocation slots_of stubs_of fields_of plain_entries all_entries entries_of other_segments segment_names_of
     output_keys_of
 data_fields = (refl, refl)

@@ -51,14 +51,15 @@ main_is_strong : is_weak_of (entry_at calling main_symbol) ≡ false
 unfolding header_of commands_from commands_of commands_end num_sections section_place section_at section_bytes symtab_of
     num_symbols symbol_place symbol_at strings_of symbol_name relocation_place relocation_at sections_of carried_of template_exponent
     placed_exponent symbols_of strong_of commons_of greatest_of libraries_with definition_of chosen_commons
-    initializer_sections unwind_sections carried_relocations initializer_relocations personality_relocations imports_of libraries_needed target_of target_of_relocation slots_of stubs_of
+    initializer_sections unwind_sections carried_relocations initializer_relocations personality_relocations imports_of libraries_needed
+    target_of target_of_relocation slots_of stubs_of
     fields_of is_supported plain_entries all_entries entries_of other_segments segment_rank segment_names_of output_keys_of
     output_count le_at le_bytes row_bytes reading words8 words halves name16 entry counts_with commands_size uuid_written
     initializers_of import_entries_of own_entries entries_have_addends table_symbols entries_of_link
     output_sections_of segments_for calls_exit
 main_is_strong = refl
 
-main_is_told : IsToldExport calling (codes "_main") false
+pub main_is_told : IsToldExport calling (codes "_main") false
 main_is_told =
     subst (λ (weak : Bool). IsToldExport calling (codes "_main") weak) main_is_strong
     (told.IsToldExport.from_object main_symbol main_is_exported)
@@ -67,7 +68,7 @@ only_main_told : (name : List ℕ) (weak : Bool) → IsToldExport calling name w
 only_main_told name _ (told.IsToldExport.from_object s exported) = (0, omega arith, sym (named_main name s exported.0).0)
 only_main_told name _ (told.IsToldExport.from_library (imported, lists, listed)) = absurd (let no : false ≡ true = lists in cc)
 
-exports_of_call : ExportsAreTold calling (told_main ∷ [])
+pub exports_of_call : ExportsAreTold calling (told_main ∷ [])
 exports_of_call = record {
   rising = λ i j d before within. absurd (omega (arith, before, within));
   each = All-cons (λ (e : ToldExport). IsToldExport calling e.name e.weak × (e.target ≡ target_of_name calling e.name)) told_main []
@@ -107,11 +108,12 @@ kept_text = inr (
   },
 )
 
-sizes_of_call : counts_of_call ≡ counts_with calling 22
+pub sizes_of_call : counts_of_call ≡ counts_with calling 22
 unfolding header_of commands_from commands_of commands_end num_sections section_place section_at section_bytes symtab_of
     num_symbols symbol_place symbol_at strings_of symbol_name relocation_place relocation_at sections_of carried_of template_exponent
     placed_exponent symbols_of strong_of commons_of greatest_of libraries_with definition_of chosen_commons
-    initializer_sections unwind_sections carried_relocations initializer_relocations personality_relocations imports_of libraries_needed target_of target_of_relocation slots_of stubs_of
+    initializer_sections unwind_sections carried_relocations initializer_relocations personality_relocations imports_of libraries_needed
+    target_of target_of_relocation slots_of stubs_of
     fields_of is_supported plain_entries all_entries entries_of other_segments segment_rank segment_names_of output_keys_of
     output_count le_at le_bytes row_bytes reading words8 words halves name16 entry counts_with commands_size uuid_written
     initializers_of import_entries_of own_entries entries_have_addends table_symbols entries_of_link

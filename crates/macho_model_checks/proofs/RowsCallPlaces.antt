@@ -62,7 +62,8 @@ are_sizes_least p =
 
 -- placements that pass the tests stand as low as they may
 least_places : (p : Placed) → ((s : PlacedSegment) → IsNumber p.segments 0 s → s.file_offset ≡ 0) → are_rows_least p ≡ true
-    → are_pieces_least p ≡ true → are_least (table_pieces p) ≡ true → are_sizes_least p ≡ true → HaveRoom counts_of_call p → AreLeast calling counts_of_call p
+    → are_pieces_least p ≡ true → are_least (table_pieces p) ≡ true → are_sizes_least p ≡ true → HaveRoom counts_of_call p
+    → AreLeast calling counts_of_call p
 least_places p front rows pieces tables sizes rooms = record {
   front = front;
   rows = λ k d lt. least_pieces (row_with p (get_or p.segments k d))
@@ -108,7 +109,8 @@ unfolding commands_end commands_of commands_from header_of reading le_at row_byt
     head_of_call fixups_of_call tables_of_call be_at be_bytes big_words signature_of_call call_image num_sections section_place
     section_at section_bytes symtab_of num_symbols symbol_place symbol_at strings_of symbol_name relocation_place relocation_at
     sections_of carried_of template_exponent placed_exponent symbols_of strong_of commons_of greatest_of libraries_with
-    definition_of chosen_commons initializer_sections unwind_sections carried_relocations initializer_relocations personality_relocations imports_of libraries_needed target_of
+    definition_of chosen_commons initializer_sections unwind_sections carried_relocations initializer_relocations personality_relocations
+    imports_of libraries_needed target_of
     target_of_relocation slots_of stubs_of fields_of plain_entries all_entries entries_of other_segments segment_names_of
     output_keys_of table_symbols output_sections_of output_sections_for pieces_of
     segments_for row_of
@@ -120,7 +122,8 @@ unfolding commands_end commands_of commands_from header_of reading le_at row_byt
     head_of_call fixups_of_call tables_of_call be_at be_bytes big_words signature_of_call call_image num_sections section_place
     section_at section_bytes symtab_of num_symbols symbol_place symbol_at strings_of symbol_name relocation_place relocation_at
     sections_of carried_of template_exponent placed_exponent symbols_of strong_of commons_of greatest_of libraries_with
-    definition_of chosen_commons initializer_sections unwind_sections carried_relocations initializer_relocations personality_relocations imports_of libraries_needed target_of
+    definition_of chosen_commons initializer_sections unwind_sections carried_relocations initializer_relocations personality_relocations
+    imports_of libraries_needed target_of
     target_of_relocation slots_of stubs_of fields_of plain_entries all_entries entries_of other_segments segment_names_of
     output_keys_of table_symbols output_sections_of output_sections_for pieces_of
     segments_for row_of
@@ -136,7 +139,8 @@ unfolding commands_end commands_of commands_from header_of reading le_at row_byt
     head_of_call fixups_of_call tables_of_call be_at be_bytes big_words signature_of_call call_image num_sections section_place
     section_at section_bytes symtab_of num_symbols symbol_place symbol_at strings_of symbol_name relocation_place relocation_at
     sections_of carried_of template_exponent placed_exponent symbols_of strong_of commons_of greatest_of libraries_with
-    definition_of chosen_commons initializer_sections unwind_sections carried_relocations initializer_relocations personality_relocations imports_of libraries_needed target_of
+    definition_of chosen_commons initializer_sections unwind_sections carried_relocations initializer_relocations personality_relocations
+    imports_of libraries_needed target_of
     target_of_relocation slots_of stubs_of fields_of plain_entries all_entries entries_of other_segments segment_names_of
     output_keys_of table_symbols output_sections_of output_sections_for pieces_of
     segments_for row_of
@@ -163,7 +167,8 @@ unfolding commands_end commands_of commands_from header_of reading le_at row_byt
     head_of_call fixups_of_call tables_of_call be_at be_bytes big_words signature_of_call call_image num_sections section_place
     section_at section_bytes symtab_of num_symbols symbol_place symbol_at strings_of symbol_name relocation_place relocation_at
     sections_of carried_of template_exponent placed_exponent symbols_of strong_of commons_of greatest_of libraries_with
-    definition_of chosen_commons initializer_sections unwind_sections carried_relocations initializer_relocations personality_relocations imports_of libraries_needed target_of
+    definition_of chosen_commons initializer_sections unwind_sections carried_relocations initializer_relocations personality_relocations
+    imports_of libraries_needed target_of
     target_of_relocation slots_of stubs_of fields_of plain_entries all_entries entries_of other_segments segment_names_of
     output_keys_of table_symbols output_sections_of output_sections_for pieces_of
     segments_for row_of
@@ -209,7 +214,8 @@ unfolding commands_end commands_of commands_from header_of reading le_at row_byt
     head_of_call fixups_of_call tables_of_call be_at be_bytes big_words signature_of_call call_image num_sections section_place
     section_at section_bytes symtab_of num_symbols symbol_place symbol_at strings_of symbol_name relocation_place relocation_at
     sections_of carried_of template_exponent placed_exponent symbols_of strong_of commons_of greatest_of libraries_with
-    definition_of chosen_commons initializer_sections unwind_sections carried_relocations initializer_relocations personality_relocations imports_of libraries_needed target_of
+    definition_of chosen_commons initializer_sections unwind_sections carried_relocations initializer_relocations personality_relocations
+    imports_of libraries_needed target_of
     target_of_relocation slots_of stubs_of fields_of plain_entries all_entries entries_of other_segments segment_names_of
     output_keys_of table_symbols output_sections_of output_sections_for pieces_of
     segments_for row_of

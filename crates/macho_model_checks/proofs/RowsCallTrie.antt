@@ -95,8 +95,10 @@ definition_here : (name : List ℕ) → definition_of calling name
 unfolding commands_end commands_of commands_from header_of reading le_at row_bytes le_bytes words8 words halves name16 entry calls_exit
     head_of_call fixups_of_call tables_of_call be_at be_bytes big_words signature_of_call call_image num_sections section_place
     section_at section_bytes symtab_of num_symbols symbol_place symbol_at strings_of symbol_name relocation_place relocation_at
-    sections_of carried_of template_exponent placed_exponent symbols_of strong_of weak_of commons_of greatest_of definition_of first_definition
-    chosen_commons initializer_sections unwind_sections carried_relocations initializer_relocations personality_relocations imports_of libraries_needed target_of target_of_relocation
+    sections_of carried_of template_exponent placed_exponent symbols_of strong_of weak_of commons_of greatest_of definition_of
+    first_definition
+    chosen_commons initializer_sections unwind_sections carried_relocations initializer_relocations personality_relocations imports_of
+    libraries_needed target_of target_of_relocation
     slots_of stubs_of fields_of plain_entries all_entries entries_of other_segments segment_names_of output_keys_of
     own_entries import_entries_of entries_have_addends fixup_count names_text
 definition_here name = definition_is_first calling name
@@ -114,7 +116,8 @@ unfolding commands_end commands_of commands_from header_of reading le_at row_byt
     head_of_call fixups_of_call tables_of_call be_at be_bytes big_words signature_of_call call_image num_sections section_place
     section_at section_bytes symtab_of num_symbols symbol_place symbol_at strings_of symbol_name relocation_place relocation_at
     sections_of carried_of template_exponent placed_exponent symbols_of strong_of weak_of commons_of greatest_of libraries_with
-    definition_of chosen_commons initializer_sections unwind_sections carried_relocations initializer_relocations personality_relocations imports_of libraries_needed target_of
+    definition_of chosen_commons initializer_sections unwind_sections carried_relocations initializer_relocations personality_relocations
+    imports_of libraries_needed target_of
     target_of_relocation slots_of stubs_of fields_of plain_entries all_entries entries_of other_segments segment_names_of
     output_keys_of own_entries import_entries_of entries_have_addends fixup_count names_text
 main_facts = (refl, refl, refl)
@@ -144,7 +147,8 @@ unfolding commands_end commands_of commands_from header_of reading le_at row_byt
     head_of_call fixups_of_call tables_of_call be_at be_bytes big_words signature_of_call call_image num_sections section_place
     section_at section_bytes symtab_of num_symbols symbol_place symbol_at strings_of symbol_name relocation_place relocation_at
     sections_of carried_of template_exponent placed_exponent symbols_of strong_of weak_of commons_of greatest_of libraries_with
-    definition_of chosen_commons initializer_sections unwind_sections carried_relocations initializer_relocations personality_relocations imports_of libraries_needed target_of
+    definition_of chosen_commons initializer_sections unwind_sections carried_relocations initializer_relocations personality_relocations
+    imports_of libraries_needed target_of
     target_of_relocation slots_of stubs_of fields_of plain_entries all_entries entries_of other_segments segment_names_of
     output_keys_of own_entries import_entries_of entries_have_addends fixup_count names_text
 main_is_exported = (refl, refl, refl)
@@ -154,7 +158,8 @@ unfolding commands_end commands_of commands_from header_of reading le_at row_byt
     head_of_call fixups_of_call tables_of_call be_at be_bytes big_words signature_of_call call_image num_sections section_place
     section_at section_bytes symtab_of num_symbols symbol_place symbol_at strings_of symbol_name relocation_place relocation_at
     sections_of carried_of template_exponent placed_exponent symbols_of strong_of weak_of commons_of greatest_of libraries_with
-    definition_of chosen_commons initializer_sections unwind_sections carried_relocations initializer_relocations personality_relocations imports_of libraries_needed target_of
+    definition_of chosen_commons initializer_sections unwind_sections carried_relocations initializer_relocations personality_relocations
+    imports_of libraries_needed target_of
     target_of_relocation slots_of stubs_of fields_of plain_entries all_entries entries_of other_segments segment_names_of
     output_keys_of own_entries import_entries_of entries_have_addends fixup_count names_text
 main_exported = from_object main_symbol (as_value 0 0x398) main_is_exported

@@ -64,7 +64,8 @@ pub a_start_by_symbol : kept_by by_symbol 0 ≡ true ∷ true ∷ true ∷ false
 unfolding header_of commands_from commands_of commands_end num_sections section_place section_at section_bytes symtab_of
     num_symbols symbol_place symbol_at strings_of symbol_name relocation_place relocation_at sections_of carried_of template_exponent
     placed_exponent symbols_of strong_of commons_of greatest_of libraries_with definition_of chosen_commons
-    initializer_sections unwind_sections carried_relocations initializer_relocations personality_relocations imports_of libraries_needed target_of target_of_relocation slots_of stubs_of
+    initializer_sections unwind_sections carried_relocations initializer_relocations personality_relocations imports_of libraries_needed
+    target_of target_of_relocation slots_of stubs_of
     fields_of is_supported plain_entries all_entries entries_of personality_targets entries_of_link le_at le_bytes row_bytes
     reading words8 words halves name16 entry text_object data_object unwind_object unwind_entry
 a_start_by_symbol = refl
@@ -78,7 +79,8 @@ pub two_starts_by_symbol : kept_by two_by_symbol 1 ≡ true ∷ true ∷ true �
 unfolding header_of commands_from commands_of commands_end num_sections section_place section_at section_bytes symtab_of
     num_symbols symbol_place symbol_at strings_of symbol_name relocation_place relocation_at sections_of carried_of template_exponent
     placed_exponent symbols_of strong_of commons_of greatest_of libraries_with definition_of chosen_commons
-    initializer_sections unwind_sections carried_relocations initializer_relocations personality_relocations imports_of libraries_needed target_of target_of_relocation slots_of stubs_of
+    initializer_sections unwind_sections carried_relocations initializer_relocations personality_relocations imports_of libraries_needed
+    target_of target_of_relocation slots_of stubs_of
     fields_of is_supported plain_entries all_entries entries_of personality_targets entries_of_link le_at le_bytes row_bytes
     reading words8 words halves name16 entry text_object data_object unwind_object unwind_entry
 two_starts_by_symbol = refl
@@ -91,7 +93,8 @@ pub an_absent_start : kept_by no_start 0 ≡ true ∷ true ∷ true ∷ false �
 unfolding header_of commands_from commands_of commands_end num_sections section_place section_at section_bytes symtab_of
     num_symbols symbol_place symbol_at strings_of symbol_name relocation_place relocation_at sections_of carried_of template_exponent
     placed_exponent symbols_of strong_of commons_of greatest_of libraries_with definition_of chosen_commons
-    initializer_sections unwind_sections carried_relocations initializer_relocations personality_relocations imports_of libraries_needed target_of target_of_relocation slots_of stubs_of
+    initializer_sections unwind_sections carried_relocations initializer_relocations personality_relocations imports_of libraries_needed
+    target_of target_of_relocation slots_of stubs_of
     fields_of is_supported plain_entries all_entries entries_of personality_targets entries_of_link le_at le_bytes row_bytes
     reading words8 words halves name16 entry text_object data_object unwind_object unwind_entry
 an_absent_start = refl
@@ -106,7 +109,8 @@ pub a_personality : (personality_targets with_personality ≡ target.Section 0 0
 unfolding header_of commands_from commands_of commands_end num_sections section_place section_at section_bytes symtab_of
     num_symbols symbol_place symbol_at strings_of symbol_name relocation_place relocation_at sections_of carried_of template_exponent
     placed_exponent symbols_of strong_of commons_of greatest_of libraries_with definition_of chosen_commons
-    initializer_sections unwind_sections carried_relocations initializer_relocations personality_relocations imports_of libraries_needed target_of target_of_relocation slots_of stubs_of
+    initializer_sections unwind_sections carried_relocations initializer_relocations personality_relocations imports_of libraries_needed
+    target_of target_of_relocation slots_of stubs_of
     fields_of is_supported plain_entries all_entries entries_of personality_targets entries_of_link le_at le_bytes row_bytes
     reading words8 words halves name16 entry text_object data_object unwind_object unwind_entry
 a_personality = (refl, refl, refl)
@@ -128,7 +132,8 @@ pub what_it_offers : map (λ name. offers name (Dylib library)) (codes "_a" ∷ 
 unfolding header_of commands_from commands_of commands_end num_sections section_place section_at section_bytes symtab_of
     num_symbols symbol_place symbol_at strings_of symbol_name relocation_place relocation_at sections_of carried_of template_exponent
     placed_exponent symbols_of strong_of commons_of greatest_of libraries_with definition_of chosen_commons
-    initializer_sections unwind_sections carried_relocations initializer_relocations personality_relocations imports_of libraries_needed target_of target_of_relocation slots_of stubs_of
+    initializer_sections unwind_sections carried_relocations initializer_relocations personality_relocations imports_of libraries_needed
+    target_of target_of_relocation slots_of stubs_of
     fields_of is_supported plain_entries all_entries entries_of install_name_of le_at le_bytes row_bytes reading words8 words
     halves name16 entry text_object library
 what_it_offers = refl

@@ -131,7 +131,8 @@ a_stub_slid = record {
 }
 
 -- a pointer has 8 bytes: one of 4 says nothing, whatever word is there
-pub short_pointer_says_nothing : (l : Link) (p : Placed) (s : ℕ) (choice : Choice) (id : SectionId) (f : Field) (place word input : ℕ) → f.width ≡ 4
+pub short_pointer_says_nothing : (l : Link) (p : Placed) (s : ℕ) (choice : Choice) (id : SectionId) (f : Field) (place word input : ℕ)
+    → f.width ≡ 4
     → Says l p s choice id f place word input Pointer → ⊥
 short_pointer_says_nothing l p s choice id f place word input four says = absurd (omega (arith, four, says.3))
 

@@ -43,7 +43,8 @@ pub each_name_has_its_definition : AllByRecursion (λ a. definition_of resolving
 unfolding header_of commands_from commands_of commands_end num_sections section_place section_at section_bytes symtab_of
     num_symbols symbol_place symbol_at strings_of symbol_name relocation_place relocation_at sections_of carried_of template_exponent
     placed_exponent symbols_of strong_of commons_of greatest_of libraries_with definition_of chosen_commons
-    initializer_sections unwind_sections carried_relocations initializer_relocations personality_relocations imports_of libraries_needed target_of target_of_relocation slots_of stubs_of
+    initializer_sections unwind_sections carried_relocations initializer_relocations personality_relocations imports_of libraries_needed
+    target_of target_of_relocation slots_of stubs_of
     fields_of is_supported plain_entries all_entries entries_of le_at le_bytes row_bytes reading words8 words halves name16
     object_b entry text_object asks defines_strongly defines_weakly finds_addresses asks_too_much
 each_name_has_its_definition = (refl, (refl, (refl, (refl, (refl, (refl, (refl, tt)))))))
@@ -53,7 +54,8 @@ pub one_common_is_chosen : chosen_commons resolving ≡ symbol 1 2 ∷ []
 unfolding header_of commands_from commands_of commands_end num_sections section_place section_at section_bytes symtab_of
     num_symbols symbol_place symbol_at strings_of symbol_name relocation_place relocation_at sections_of carried_of template_exponent
     placed_exponent symbols_of strong_of commons_of greatest_of libraries_with definition_of chosen_commons
-    initializer_sections unwind_sections carried_relocations initializer_relocations personality_relocations imports_of libraries_needed target_of target_of_relocation slots_of stubs_of
+    initializer_sections unwind_sections carried_relocations initializer_relocations personality_relocations imports_of libraries_needed
+    target_of target_of_relocation slots_of stubs_of
     fields_of is_supported plain_entries all_entries entries_of le_at le_bytes row_bytes reading words8 words halves name16
     object_b entry text_object asks defines_strongly defines_weakly finds_addresses asks_too_much
 one_common_is_chosen = refl
@@ -64,7 +66,8 @@ pub symbols_lead_to : map (target_of resolving) (symbol 0 0 ∷ symbol 0 1 ∷ s
 unfolding header_of commands_from commands_of commands_end num_sections section_place section_at section_bytes symtab_of
     num_symbols symbol_place symbol_at strings_of symbol_name relocation_place relocation_at sections_of carried_of template_exponent
     placed_exponent symbols_of strong_of commons_of greatest_of libraries_with definition_of chosen_commons
-    initializer_sections unwind_sections carried_relocations initializer_relocations personality_relocations imports_of libraries_needed target_of target_of_relocation slots_of stubs_of
+    initializer_sections unwind_sections carried_relocations initializer_relocations personality_relocations imports_of libraries_needed
+    target_of target_of_relocation slots_of stubs_of
     fields_of is_supported plain_entries all_entries entries_of le_at le_bytes row_bytes reading words8 words halves name16
     object_b entry text_object asks defines_strongly defines_weakly finds_addresses asks_too_much
 symbols_lead_to = refl
@@ -74,7 +77,8 @@ pub two_strong_ones : strong_of doubled (codes "_f") ≡ symbol 0 0 ∷ symbol 2
 unfolding header_of commands_from commands_of commands_end num_sections section_place section_at section_bytes symtab_of
     num_symbols symbol_place symbol_at strings_of symbol_name relocation_place relocation_at sections_of carried_of template_exponent
     placed_exponent symbols_of strong_of commons_of greatest_of libraries_with definition_of chosen_commons
-    initializer_sections unwind_sections carried_relocations initializer_relocations personality_relocations imports_of libraries_needed target_of target_of_relocation slots_of stubs_of
+    initializer_sections unwind_sections carried_relocations initializer_relocations personality_relocations imports_of libraries_needed
+    target_of target_of_relocation slots_of stubs_of
     fields_of is_supported plain_entries all_entries entries_of le_at le_bytes row_bytes reading words8 words halves name16
     object_b entry text_object asks defines_strongly defines_weakly finds_addresses asks_too_much
 two_strong_ones = refl
@@ -84,7 +88,8 @@ pub carried_sections : carried_of linked_b ≡ section 0 0 ∷ section 0 1 ∷ s
 unfolding header_of commands_from commands_of commands_end num_sections section_place section_at section_bytes symtab_of
     num_symbols symbol_place symbol_at strings_of symbol_name relocation_place relocation_at sections_of carried_of template_exponent
     placed_exponent symbols_of strong_of commons_of greatest_of libraries_with definition_of chosen_commons
-    initializer_sections unwind_sections carried_relocations initializer_relocations personality_relocations imports_of libraries_needed target_of target_of_relocation slots_of stubs_of
+    initializer_sections unwind_sections carried_relocations initializer_relocations personality_relocations imports_of libraries_needed
+    target_of target_of_relocation slots_of stubs_of
     fields_of is_supported plain_entries all_entries entries_of le_at le_bytes row_bytes reading words8 words halves name16
     object_b entry text_object asks defines_strongly defines_weakly finds_addresses asks_too_much
 carried_sections = refl
@@ -105,7 +110,8 @@ pub fields_of_data : fields_of linked_b (section 0 1) ≡
 unfolding header_of commands_from commands_of commands_end num_sections section_place section_at section_bytes symtab_of
     num_symbols symbol_place symbol_at strings_of symbol_name relocation_place relocation_at sections_of carried_of template_exponent
     placed_exponent symbols_of strong_of commons_of greatest_of libraries_with definition_of chosen_commons
-    initializer_sections unwind_sections carried_relocations initializer_relocations personality_relocations imports_of libraries_needed target_of target_of_relocation slots_of stubs_of
+    initializer_sections unwind_sections carried_relocations initializer_relocations personality_relocations imports_of libraries_needed
+    target_of target_of_relocation slots_of stubs_of
     fields_of is_supported plain_entries all_entries entries_of le_at le_bytes row_bytes reading words8 words halves name16
     object_b entry text_object asks defines_strongly defines_weakly finds_addresses asks_too_much
 fields_of_data = refl
@@ -116,7 +122,8 @@ pub fields_of_text : fields_of linked_b (section 0 0) ≡
 unfolding header_of commands_from commands_of commands_end num_sections section_place section_at section_bytes symtab_of
     num_symbols symbol_place symbol_at strings_of symbol_name relocation_place relocation_at sections_of carried_of template_exponent
     placed_exponent symbols_of strong_of commons_of greatest_of libraries_with definition_of chosen_commons
-    initializer_sections unwind_sections carried_relocations initializer_relocations personality_relocations imports_of libraries_needed target_of target_of_relocation slots_of stubs_of
+    initializer_sections unwind_sections carried_relocations initializer_relocations personality_relocations imports_of libraries_needed
+    target_of target_of_relocation slots_of stubs_of
     fields_of is_supported plain_entries all_entries entries_of le_at le_bytes row_bytes reading words8 words halves name16
     object_b entry text_object asks defines_strongly defines_weakly finds_addresses asks_too_much
 fields_of_text = refl
@@ -128,7 +135,8 @@ pub needs_of_a_call : (imports_of linked_b ≡ codes "_exit" ∷ []) × (stubs_o
 unfolding header_of commands_from commands_of commands_end num_sections section_place section_at section_bytes symtab_of
     num_symbols symbol_place symbol_at strings_of symbol_name relocation_place relocation_at sections_of carried_of template_exponent
     placed_exponent symbols_of strong_of commons_of greatest_of libraries_with definition_of chosen_commons
-    initializer_sections unwind_sections carried_relocations initializer_relocations personality_relocations imports_of libraries_needed target_of target_of_relocation slots_of stubs_of
+    initializer_sections unwind_sections carried_relocations initializer_relocations personality_relocations imports_of libraries_needed
+    target_of target_of_relocation slots_of stubs_of
     fields_of is_supported plain_entries all_entries entries_of le_at le_bytes row_bytes reading words8 words halves name16
     object_b entry text_object asks defines_strongly defines_weakly finds_addresses asks_too_much
 needs_of_a_call = (refl, refl, refl, refl)
@@ -143,7 +151,8 @@ pub fields_with_addends : fields_of finding (section 0 0) ≡
 unfolding header_of commands_from commands_of commands_end num_sections section_place section_at section_bytes symtab_of
     num_symbols symbol_place symbol_at strings_of symbol_name relocation_place relocation_at sections_of carried_of template_exponent
     placed_exponent symbols_of strong_of commons_of greatest_of libraries_with definition_of chosen_commons
-    initializer_sections unwind_sections carried_relocations initializer_relocations personality_relocations imports_of libraries_needed target_of target_of_relocation slots_of stubs_of
+    initializer_sections unwind_sections carried_relocations initializer_relocations personality_relocations imports_of libraries_needed
+    target_of target_of_relocation slots_of stubs_of
     fields_of is_supported plain_entries all_entries entries_of le_at le_bytes row_bytes reading words8 words halves name16
     object_b entry text_object asks defines_strongly defines_weakly finds_addresses asks_too_much
 fields_with_addends = refl
@@ -153,7 +162,8 @@ pub needs_of_a_load : (slots_of finding ≡ target.Import 0 ∷ []) × (stubs_of
 unfolding header_of commands_from commands_of commands_end num_sections section_place section_at section_bytes symtab_of
     num_symbols symbol_place symbol_at strings_of symbol_name relocation_place relocation_at sections_of carried_of template_exponent
     placed_exponent symbols_of strong_of commons_of greatest_of libraries_with definition_of chosen_commons
-    initializer_sections unwind_sections carried_relocations initializer_relocations personality_relocations imports_of libraries_needed target_of target_of_relocation slots_of stubs_of
+    initializer_sections unwind_sections carried_relocations initializer_relocations personality_relocations imports_of libraries_needed
+    target_of target_of_relocation slots_of stubs_of
     fields_of is_supported plain_entries all_entries entries_of le_at le_bytes row_bytes reading words8 words halves name16
     object_b entry text_object asks defines_strongly defines_weakly finds_addresses asks_too_much
 needs_of_a_load = (refl, refl)
@@ -163,7 +173,8 @@ pub supported_ones : map (is_supported finding (section 0 0)) (0 ∷ 1 ∷ 2 ∷
 unfolding header_of commands_from commands_of commands_end num_sections section_place section_at section_bytes symtab_of
     num_symbols symbol_place symbol_at strings_of symbol_name relocation_place relocation_at sections_of carried_of template_exponent
     placed_exponent symbols_of strong_of commons_of greatest_of libraries_with definition_of chosen_commons
-    initializer_sections unwind_sections carried_relocations initializer_relocations personality_relocations imports_of libraries_needed target_of target_of_relocation slots_of stubs_of
+    initializer_sections unwind_sections carried_relocations initializer_relocations personality_relocations imports_of libraries_needed
+    target_of target_of_relocation slots_of stubs_of
     fields_of is_supported plain_entries all_entries entries_of le_at le_bytes row_bytes reading words8 words halves name16
     object_b entry text_object asks defines_strongly defines_weakly finds_addresses asks_too_much
 supported_ones = refl
@@ -173,7 +184,8 @@ pub pairs : (share_byte finding (section 0 0) 0 1 ≡ true) × (are_pair finding
 unfolding header_of commands_from commands_of commands_end num_sections section_place section_at section_bytes symtab_of
     num_symbols symbol_place symbol_at strings_of symbol_name relocation_place relocation_at sections_of carried_of template_exponent
     placed_exponent symbols_of strong_of commons_of greatest_of libraries_with definition_of chosen_commons
-    initializer_sections unwind_sections carried_relocations initializer_relocations personality_relocations imports_of libraries_needed target_of target_of_relocation slots_of stubs_of
+    initializer_sections unwind_sections carried_relocations initializer_relocations personality_relocations imports_of libraries_needed
+    target_of target_of_relocation slots_of stubs_of
     fields_of is_supported plain_entries all_entries entries_of le_at le_bytes row_bytes reading words8 words halves name16
     object_b entry text_object asks defines_strongly defines_weakly finds_addresses asks_too_much
 pairs = (refl, refl, refl)
@@ -184,7 +196,8 @@ pub unsupported_ones : map (is_supported unsupported (section 0 0)) (0 ∷ 1 ∷
 unfolding header_of commands_from commands_of commands_end num_sections section_place section_at section_bytes symtab_of
     num_symbols symbol_place symbol_at strings_of symbol_name relocation_place relocation_at sections_of carried_of template_exponent
     placed_exponent symbols_of strong_of commons_of greatest_of libraries_with definition_of chosen_commons
-    initializer_sections unwind_sections carried_relocations initializer_relocations personality_relocations imports_of libraries_needed target_of target_of_relocation slots_of stubs_of
+    initializer_sections unwind_sections carried_relocations initializer_relocations personality_relocations imports_of libraries_needed
+    target_of target_of_relocation slots_of stubs_of
     fields_of is_supported plain_entries all_entries entries_of le_at le_bytes row_bytes reading words8 words halves name16
     object_b entry text_object asks defines_strongly defines_weakly finds_addresses asks_too_much
 unsupported_ones = refl
@@ -194,7 +207,8 @@ pub overlap : (share_byte unsupported (section 0 0) 3 4 ≡ true) × (are_pair u
 unfolding header_of commands_from commands_of commands_end num_sections section_place section_at section_bytes symtab_of
     num_symbols symbol_place symbol_at strings_of symbol_name relocation_place relocation_at sections_of carried_of template_exponent
     placed_exponent symbols_of strong_of commons_of greatest_of libraries_with definition_of chosen_commons
-    initializer_sections unwind_sections carried_relocations initializer_relocations personality_relocations imports_of libraries_needed target_of target_of_relocation slots_of stubs_of
+    initializer_sections unwind_sections carried_relocations initializer_relocations personality_relocations imports_of libraries_needed
+    target_of target_of_relocation slots_of stubs_of
     fields_of is_supported plain_entries all_entries entries_of le_at le_bytes row_bytes reading words8 words halves name16
     object_b entry text_object asks defines_strongly defines_weakly finds_addresses asks_too_much
 overlap = (refl, refl)

@@ -132,7 +132,44 @@ load_changes =
 load_verdicts : AllByRecursion (λ c. load_verdict (changed_image c) ≡ load_all_but c.rule) load_changes
 unfolding load_verdict tables_of base_of segments_of commands_of commands_from commands_end header_of libraries_of reading le_at row_bytes
     le_bytes words8 words halves name16 image_with_fixups one_page changed
-load_verdicts = (refl, (refl, (refl, (refl, (refl, (refl, (refl, (refl, (refl, (refl, (refl, (refl, (refl, (refl, (refl, (refl, (refl, (refl, (refl, (refl, (refl, (refl, (refl, (refl, (refl, tt)))))))))))))))))))))))))
+load_verdicts
+    = (
+      refl,
+      (
+        refl,
+        (
+          refl,
+          (
+            refl,
+            (
+              refl,
+              (
+                refl,
+                (
+                  refl,
+                  (
+                    refl,
+                    (
+                      refl,
+                      (
+                        refl,
+                        (
+                          refl,
+                          (
+                            refl,
+                            (refl, (refl, (refl, (refl, (refl, (refl, (refl, (refl, (refl, (refl, (refl, (refl, (refl, tt))))))))))))),
+                          ),
+                        ),
+                      ),
+                    ),
+                  ),
+                ),
+              ),
+            ),
+          ),
+        ),
+      ),
+    )
 
 -- Each change breaks its rule, and no other one that has a test.
 pub each_load_change_breaks_its_rule : All (λ c. LoadBreaksAlone (changed_image c) c.rule) load_changes

@@ -46,19 +46,23 @@ pub offsets_are_said : InitOffsetsSay two_initializers (offsets_file 16) placed_
 unfolding header_of commands_from commands_of commands_end num_sections section_place section_at section_bytes symtab_of
     num_symbols symbol_place symbol_at strings_of symbol_name relocation_place relocation_at sections_of carried_of template_exponent
     placed_exponent symbols_of strong_of commons_of greatest_of libraries_with definition_of chosen_commons
-    initializer_sections unwind_sections carried_relocations initializer_relocations personality_relocations imports_of libraries_needed target_of target_of_relocation slots_of stubs_of
+    initializer_sections unwind_sections carried_relocations initializer_relocations personality_relocations imports_of libraries_needed
+    target_of target_of_relocation slots_of stubs_of
     fields_of plain_entries all_entries entries_of le_at le_bytes row_bytes reading words8 words halves name16 entry
     text_object data_object initializers_object offset_in_file section_address initializers_of offsets_file
 offsets_are_said = refl
 
 offsets_there :
-    (map (λ k. placed_initializers.base + le_at 4 (offsets_file 20) (offset_in_file placed_initializers (placed_initializers.init_offsets.start + 4 * k))) (range_with_len 0 (length (initializers_of two_initializers)))
+    (map (λ k. placed_initializers.base + le_at 4 (offsets_file 20)
+    (offset_in_file placed_initializers (placed_initializers.init_offsets.start + 4 * k)))
+    (range_with_len 0 (length (initializers_of two_initializers)))
     ≡ 0x100000010 ∷ 0x100000014 ∷ [])
     × (map (address_of placed_initializers) (initializers_of two_initializers) ≡ 0x100000010 ∷ 0x100000010 ∷ [])
 unfolding header_of commands_from commands_of commands_end num_sections section_place section_at section_bytes symtab_of
     num_symbols symbol_place symbol_at strings_of symbol_name relocation_place relocation_at sections_of carried_of template_exponent
     placed_exponent symbols_of strong_of commons_of greatest_of libraries_with definition_of chosen_commons
-    initializer_sections unwind_sections carried_relocations initializer_relocations personality_relocations imports_of libraries_needed target_of target_of_relocation slots_of stubs_of
+    initializer_sections unwind_sections carried_relocations initializer_relocations personality_relocations imports_of libraries_needed
+    target_of target_of_relocation slots_of stubs_of
     fields_of plain_entries all_entries entries_of le_at le_bytes row_bytes reading words8 words halves name16 entry
     text_object data_object initializers_object offset_in_file section_address initializers_of offsets_file
 offsets_there = (refl, refl)

@@ -195,7 +195,8 @@ pub part_holds : (base start address size : ℕ) (template : Option Range64) (pa
 part_holds base start address size template Base h = is_equal base 0x100000000 h
 part_holds base start address size template WholeList h = whole base start address size template
 part_holds base start address size template Aligned h =
-    even_pieces link_a counts_a (placed_with base start address size template) (aligned base start address size template (is_equal (address % 4) 0 h))
+    even_pieces link_a counts_a (placed_with base start address size template)
+    (aligned base start address size template (is_equal (address % 4) 0 h))
 part_holds base start address size template InSegment h =
     pieces_in link_a counts_a (placed_with base start address size template)
     (in_segment base start address size template (leb-true start address (and_left (nat_le start address)
@@ -215,7 +216,8 @@ part_holds base start address size template InOrder h =
     (leb-true 0x4000 size (and_left (nat_le 0x4000 size) (start == 0x100000000) rest))
     (is_equal start 0x100000000 (and_right (nat_le 0x4000 size) (start == 0x100000000) rest))
 part_holds base start address size template Template h =
-    template_pieces link_a counts_a (placed_with base start address size template) template (no_template base start address size template (none_is template h))
+    template_pieces link_a counts_a (placed_with base start address size template) template
+    (no_template base start address size template (none_is template h))
 part_holds base start address size template WithinSum h =
     let fits = leb-true (start + size) (base + 66806) h in
     rw sum_a (All-from_recursion (λ (s : PlacedSegment). s.address + s.size ≤ base + 66806) (pagezero_to start ∷ text_from start size ∷ [])
@@ -285,7 +287,8 @@ pub part_asks : (base start address size : ℕ) (template : Option Range64) (par
 part_asks base start address size template Base h = equal_is base 0x100000000 h
 part_asks base start address size template WholeList h = refl
 part_asks base start address size template Aligned h =
-    let first = (even_parts link_a counts_a (placed_with base start address size template) h).sections 0 (section_a address) (omega arith) in
+    let first = (even_parts link_a counts_a (placed_with base start address size template) h).sections 0 (section_a address)
+    (omega arith) in
     equal_is (address % 4) 0 (rw exponent_a at first)
 part_asks base start address size template InSegment h =
     let lies = (parts_in link_a counts_a (placed_with base start address size template) h).sections 0 (section_a address) (omega arith) in
@@ -294,7 +297,8 @@ part_asks base start address size template InSegment h =
     (le-leb (address + 8) (start + 0x4000) both.1)
 part_asks base start address size template NonOverlapping h =
     elim (beside_needed base start address size template (first_two base start address size template
-    (apart_parts link_a counts_a (placed_with base start address size template) (placed_with base start address size template).sections h))) [
+    (apart_parts link_a counts_a (placed_with base start address size template)
+    (placed_with base start address size template).sections h))) [
       | inl before ↦ or_first (nat_le (base + 312) address) (nat_le (address + 8) base) (le-leb (base + 312) address before)
       | inr behind ↦ or_second (nat_le (base + 312) address) (nat_le (address + 8) base) (le-leb (address + 8) base behind)
     ]

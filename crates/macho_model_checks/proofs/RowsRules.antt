@@ -78,7 +78,19 @@ verdicts : AllByRecursion (λ c. verdict (made c) ≡ all_but c.rule) changes
 unfolding verdict header_of commands_from commands_of commands_end num_sections section_place section_at symtab_of num_symbols
     symbol_place symbol_at strings_of relocation_place relocation_at le_at le_bytes row_bytes reading words8 words halves name16 object_b
     changed
-verdicts = (refl, (refl, (refl, (refl, (refl, (refl, (refl, (refl, (refl, (refl, (refl, (refl, (refl, (refl, (refl, (refl, (refl, (refl, (refl, (refl, tt))))))))))))))))))))
+verdicts = (
+  refl,
+  (
+    refl,
+    (
+      refl,
+      (
+        refl,
+        (refl, (refl, (refl, (refl, (refl, (refl, (refl, (refl, (refl, (refl, (refl, (refl, (refl, (refl, (refl, (refl, tt)))))))))))))))),
+      ),
+    ),
+  ),
+)
 
 -- Each change breaks its rule, and no other one.
 pub each_change_breaks_its_rule : All (λ c. BreaksAlone (made c) c.rule) changes

@@ -327,7 +327,8 @@ unfolding contents_of tables_of with_one commands_end text_segment mapped_segmen
     num_symbols symbol_place symbol_at strings_of symbol_name sections_of carried_of symbols_of strong_of commons_of
     greatest_of libraries_with definition_of chosen_commons target_of target_of_relocation fields_of relocation_place
     relocation_at halves entry text_object object_c template_exponent placed_exponent initializer_sections unwind_sections
-    carried_relocations initializer_relocations personality_relocations imports_of libraries_needed slots_of stubs_of plain_entries all_entries entries_of other_segments
+    carried_relocations initializer_relocations personality_relocations imports_of libraries_needed slots_of stubs_of plain_entries
+    all_entries entries_of other_segments
     segment_names_of output_keys_of own_entries import_entries_of entries_have_addends fixup_count names_text base_of
     libraries_of tries_of signatures_of symbol_tables_of string_tables_of entries_of_file offset_in_file
 outside_parts = refl

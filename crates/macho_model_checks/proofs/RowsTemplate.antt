@@ -32,7 +32,8 @@ pub template_is_aligned : (template_exponent two_templates ≡ 3)
 unfolding header_of commands_from commands_of commands_end num_sections section_place section_at section_bytes symtab_of
     num_symbols symbol_place symbol_at strings_of symbol_name relocation_place relocation_at sections_of carried_of template_exponent
     placed_exponent symbols_of strong_of commons_of greatest_of libraries_with definition_of chosen_commons
-    initializer_sections unwind_sections carried_relocations initializer_relocations personality_relocations imports_of libraries_needed target_of target_of_relocation slots_of stubs_of
+    initializer_sections unwind_sections carried_relocations initializer_relocations personality_relocations imports_of libraries_needed
+    target_of target_of_relocation slots_of stubs_of
     plain_entries all_entries entries_of le_at le_bytes row_bytes reading words8 words halves name16 object_b changed
 template_is_aligned = (refl, refl)
 
@@ -45,7 +46,8 @@ pub descriptors_are_aligned : (placed_exponent (with_descriptors 0x13) (section 
 unfolding header_of commands_from commands_of commands_end num_sections section_place section_at section_bytes symtab_of
     num_symbols symbol_place symbol_at strings_of symbol_name relocation_place relocation_at sections_of carried_of template_exponent
     placed_exponent symbols_of strong_of commons_of greatest_of libraries_with definition_of chosen_commons
-    initializer_sections unwind_sections carried_relocations initializer_relocations personality_relocations imports_of libraries_needed target_of target_of_relocation slots_of stubs_of
+    initializer_sections unwind_sections carried_relocations initializer_relocations personality_relocations imports_of libraries_needed
+    target_of target_of_relocation slots_of stubs_of
     plain_entries all_entries entries_of le_at le_bytes row_bytes reading words8 words halves name16 object_b changed
 descriptors_are_aligned = (refl, refl)
 
@@ -56,7 +58,8 @@ what_main_is : (definition_of link_a (codes "_main") ≡ Some (Symbol (symbol 0 
 unfolding header_of commands_from commands_of commands_end num_sections section_place section_at section_bytes symtab_of
     num_symbols symbol_place symbol_at strings_of symbol_name relocation_place relocation_at sections_of carried_of template_exponent
     placed_exponent symbols_of strong_of commons_of greatest_of libraries_with definition_of chosen_commons
-    initializer_sections unwind_sections carried_relocations initializer_relocations personality_relocations imports_of libraries_needed target_of target_of_relocation slots_of stubs_of
+    initializer_sections unwind_sections carried_relocations initializer_relocations personality_relocations imports_of libraries_needed
+    target_of target_of_relocation slots_of stubs_of
     plain_entries all_entries entries_of le_at le_bytes row_bytes reading words8 words halves name16 object_b changed object_a
 what_main_is = (refl, refl, refl, refl, refl)
 

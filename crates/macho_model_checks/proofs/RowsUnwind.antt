@@ -27,7 +27,7 @@ use Rattle.macho_model.specs.Placement.{Placed}
 use Rattle.macho_model.specs.Addresses.{offset_in_file, section_address}
 use Rattle.macho_unwind_pages.specs.declared.entries.ResolvedUnwindInfo.{ResolvedUnwindInfo}
 use Rattle.macho_unwind_pages.specs.declared.paging.Row.{Row}
-use Rattle.macho_unwind_pages.specs.Entries.{AreEntries, IsLast, inputs_of, ids_of, named_ids}
+use Rattle.macho_unwind_pages.specs.Entries.{AreEntries, IsLast, inputs_of, ids_of}
 use Rattle.macho_unwind_pages.specs.Orders.{in_order, put_in_order}
 use Rattle.macho_unwind_pages.specs.Plans.{PageList, PlanList, IsPage, IsPlan, FitOnPage, IsPlanOf, own_codes}
 use Rattle.macho_unwind_pages.proofs.OnePlan.{plans_are_one}
@@ -71,7 +71,8 @@ resolved_are : resolved_entries unwinding placed_unwind ≡ functions
 unfolding commands_end commands_of commands_from header_of reading le_at row_bytes le_bytes words8 words halves name16 entry
     num_sections section_place section_at section_bytes symtab_of num_symbols symbol_place symbol_at strings_of symbol_name
     relocation_place relocation_at sections_of carried_of template_exponent placed_exponent symbols_of strong_of commons_of
-    greatest_of libraries_with definition_of chosen_commons initializer_sections unwind_sections carried_relocations initializer_relocations personality_relocations imports_of
+    greatest_of libraries_with definition_of chosen_commons initializer_sections unwind_sections carried_relocations initializer_relocations
+    personality_relocations imports_of
     libraries_needed target_of target_of_relocation slots_of stubs_of fields_of plain_entries all_entries entries_of
     entries_of_link section_address resolved_entries data_object unwind_object unwind_entry
 resolved_are = refl
@@ -128,7 +129,7 @@ fits_there = record {
 }
 
 pub plan_is_theirs : IsPlanOf 0x100000000 functions plan_there
-unfolding named_ids in_order put_in_order own_codes
+unfolding in_order put_in_order own_codes
 plan_is_theirs = record {
   run = functions;
   same = IsPermutation-refl functions;

@@ -94,7 +94,8 @@ valid_link_verdicts : AllByRecursion (λ l. valid_verdict l counts_a ≡ verdict
 unfolding valid_verdict header_of commands_from commands_of commands_end num_sections section_place section_at section_bytes
     symtab_of num_symbols symbol_place symbol_at strings_of symbol_name relocation_place relocation_at sections_of carried_of
     template_exponent placed_exponent symbols_of strong_of commons_of greatest_of libraries_with definition_of chosen_commons
-    initializer_sections unwind_sections carried_relocations initializer_relocations personality_relocations imports_of libraries_needed target_of target_of_relocation slots_of stubs_of
+    initializer_sections unwind_sections carried_relocations initializer_relocations personality_relocations imports_of libraries_needed
+    target_of target_of_relocation slots_of stubs_of
     fields_of is_supported plain_entries all_entries entries_of other_segments segment_rank segment_names_of output_keys_of
     output_count content_sum command_sum unsigned_sum written_sum_of personality_targets entries_of_link le_at le_bytes
     row_bytes reading words8 words halves name16 object_a entry text_object data_object calls_nothing calls_main
@@ -162,13 +163,49 @@ valid_verdicts : AllByRecursion (λ c. valid_verdict c.link c.counts ≡ verdict
 unfolding valid_verdict header_of commands_from commands_of commands_end num_sections section_place section_at section_bytes
     symtab_of num_symbols symbol_place symbol_at strings_of symbol_name relocation_place relocation_at sections_of carried_of
     template_exponent placed_exponent symbols_of strong_of commons_of greatest_of libraries_with definition_of chosen_commons
-    initializer_sections unwind_sections carried_relocations initializer_relocations personality_relocations imports_of libraries_needed target_of target_of_relocation slots_of stubs_of
+    initializer_sections unwind_sections carried_relocations initializer_relocations personality_relocations imports_of libraries_needed
+    target_of target_of_relocation slots_of stubs_of
     fields_of is_supported plain_entries all_entries entries_of other_segments segment_rank segment_names_of output_keys_of
     output_count content_sum command_sum unsigned_sum written_sum_of personality_targets entries_of_link le_at le_bytes
     row_bytes reading words8 words halves name16 object_a entry text_object data_object calls_nothing calls_main
     data_pointer initializers_object unwind_object unwind_entry
-valid_verdicts =
-    (refl, (refl, (refl, (refl, (refl, (refl, (refl, (refl, (refl, (refl, (refl, (refl, (refl, (refl, (refl, (refl, (refl, (refl, (refl, (refl, (refl, (refl, (refl, (refl, (refl, tt)))))))))))))))))))))))))
+valid_verdicts = (
+  refl,
+  (
+    refl,
+    (
+      refl,
+      (
+        refl,
+        (
+          refl,
+          (
+            refl,
+            (
+              refl,
+              (
+                refl,
+                (
+                  refl,
+                  (
+                    refl,
+                    (
+                      refl,
+                      (
+                        refl,
+                        (refl, (refl, (refl, (refl, (refl, (refl, (refl, (refl, (refl, (refl, (refl, (refl, (refl, tt))))))))))))),
+                      ),
+                    ),
+                  ),
+                ),
+              ),
+            ),
+          ),
+        ),
+      ),
+    ),
+  ),
+)
 
 -- Each change breaks its part of validity, and no other one.
 pub each_valid_change_breaks_its_part : All (λ c. ValidBreaksAlone c.link c.counts c.part) valid_changes
@@ -185,7 +222,8 @@ undefined_verdict : valid_verdict undefined counts_a ≡ verdict_but (λ q. is_p
 unfolding valid_verdict header_of commands_from commands_of commands_end num_sections section_place section_at section_bytes
     symtab_of num_symbols symbol_place symbol_at strings_of symbol_name relocation_place relocation_at sections_of carried_of
     template_exponent placed_exponent symbols_of strong_of commons_of greatest_of libraries_with definition_of chosen_commons
-    initializer_sections unwind_sections carried_relocations initializer_relocations personality_relocations imports_of libraries_needed target_of target_of_relocation slots_of stubs_of
+    initializer_sections unwind_sections carried_relocations initializer_relocations personality_relocations imports_of libraries_needed
+    target_of target_of_relocation slots_of stubs_of
     fields_of is_supported plain_entries all_entries entries_of other_segments segment_rank segment_names_of output_keys_of
     output_count content_sum command_sum unsigned_sum written_sum_of personality_targets entries_of_link le_at le_bytes
     row_bytes reading words8 words halves name16 object_a entry text_object data_object calls_nothing calls_main

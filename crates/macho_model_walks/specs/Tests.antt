@@ -26,7 +26,8 @@ page_holds s page a =
 abbrev pub starts_known : List ℕ → Table → ℕ → Bool
 starts_known b t k =
     let s = segment_starts b t k in
-    (s.page_size == SEGMENT_PAGE) && (s.pointer_format == POINTER_FORMAT) && ((s.segment_offset + base_of b) % 2 ^ 64 == segment_address b k)
+    (s.page_size == SEGMENT_PAGE) && (s.pointer_format == POINTER_FORMAT)
+    && ((s.segment_offset + base_of b) % 2 ^ 64 == segment_address b k)
 
 -- those of each segment are right
 abbrev pub starts_all_fit : List ℕ → Table → Bool

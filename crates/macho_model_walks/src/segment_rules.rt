@@ -125,7 +125,8 @@ pub fn ends_below(bytes: &[u8], place: u64) -> bool
 
 /// Whether a segment begins where another one ends, or behind.
 pub fn follows(bytes: &[u8], place: u64, next: u64) -> bool
-    ensures { result ≡ begins_behind (segment_in bytes.now (command_at bytes.now place)) (segment_in bytes.now (command_at bytes.now next)) }
+    ensures { result
+        ≡ begins_behind (segment_in bytes.now (command_at bytes.now place)) (segment_in bytes.now (command_at bytes.now next)) }
 {
     let segment = segment_at(bytes, place);
     let behind = segment_at(bytes, next);

@@ -26,7 +26,8 @@ ahead_first files heads entries name at table within is = record {
   ahead = λ k h named.
       let reached : k < get_or heads.items (bucket_of heads (get_or (names_of files entries) k [])) 0 = table.chained.reached k
       (omega (arith, length-map entries (entry_name files))) in
-      let here : k < get_or heads.items (bucket_of heads name) 0 = subst (λ (n : List ℕ). k < get_or heads.items (bucket_of heads n) 0) named reached in
+      let here : k < get_or heads.items (bucket_of heads name) 0 =
+      subst (λ (n : List ℕ). k < get_or heads.items (bucket_of heads n) 0) named reached in
       omega arith;
   same = λ m e. table.chained.begins (bucket_of heads name) m within (sym is ∙ e);
 }

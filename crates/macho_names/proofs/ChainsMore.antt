@@ -87,7 +87,8 @@ chained_more heads nexts names b name ch is inside = record {
 
     reached : (k : ℕ) → ((k < length names) × (get_or (names ++ name ∷ []) k [] ≡ get_or names k [])) ⊎
         ((k ≡ length names) × (get_or (names ++ name ∷ []) k [] ≡ name))
-        → k < get_or (set heads.items b (length names + 1)) (bucket_of (with_head heads b (length names + 1)) (get_or (names ++ name ∷ []) k [])) 0
+        → k < get_or (set heads.items b (length names + 1))
+        (bucket_of (with_head heads b (length names + 1)) (get_or (names ++ name ∷ []) k [])) 0
     reached k (inl p) =
         let home = bucket_kept heads b (length names + 1) _ ∙ ap (bucket_of heads) p.1 in
         rw home (elim (heads_cases heads.items b (length names + 1) (bucket_of heads (get_or names k [])) inside) [
@@ -101,16 +102,19 @@ chained_more heads nexts names b name ch is inside = record {
     older : (j : ℕ) → ((j < length names) × (get_or (names ++ name ∷ []) j [] ≡ get_or names j [])) ⊎
         ((j ≡ length names) × (get_or (names ++ name ∷ []) j [] ≡ name))
         → get_or (nexts ++ get_or heads.items b 0 ∷ []) j 0 ≤ j
-    older j (inl p) = omega (arith, get_or_append_left nexts (get_or heads.items b 0 ∷ []) 0 j (omega (arith, p.0, ch.long)), ch.older j p.0)
+    older j (inl p) =
+        omega (arith, get_or_append_left nexts (get_or heads.items b 0 ∷ []) 0 j (omega (arith, p.0, ch.long)), ch.older j p.0)
     older j (inr p) = omega (arith, last_of nexts (get_or heads.items b 0) 0 j (p.0 ∙ sym ch.long), ch.newest b inside, p.0)
 
     stays : (j m : ℕ) → get_or (nexts ++ get_or heads.items b 0 ∷ []) j 0 ≡ m + 1
         → ((j < length names) × (get_or (names ++ name ∷ []) j [] ≡ get_or names j [])) ⊎
         ((j ≡ length names) × (get_or (names ++ name ∷ []) j [] ≡ name))
-        → bucket_of (with_head heads b (length names + 1)) (get_or (names ++ name ∷ []) m []) ≡ bucket_of (with_head heads b (length names + 1))
+        → bucket_of (with_head heads b (length names + 1)) (get_or (names ++ name ∷ []) m [])
+        ≡ bucket_of (with_head heads b (length names + 1))
         (get_or (names ++ name ∷ []) j [])
     stays j m e (inl p) =
-        let old : get_or nexts j 0 ≡ m + 1 = sym (get_or_append_left nexts (get_or heads.items b 0 ∷ []) 0 j (omega (arith, p.0, ch.long))) ∙ e in
+        let old : get_or nexts j 0 ≡ m + 1 = sym (get_or_append_left nexts (get_or heads.items b 0 ∷ []) 0 j (omega (arith, p.0, ch.long)))
+        ∙ e in
         bucket_kept heads b (length names + 1) _
         ∙ ap (bucket_of heads) (get_or_append_left names (name ∷ []) [] m (omega (arith, ch.older j p.0, old, p.0)))
         ∙ ch.stays j m p.0 old ∙ sym (ap (bucket_of heads) p.1) ∙ sym (bucket_kept heads b (length names + 1) _)
@@ -121,7 +125,8 @@ chained_more heads nexts names b name ch is inside = record {
         ∙ ch.begins b m inside old ∙ is ∙ sym (ap (bucket_of heads) p.1) ∙ sym (bucket_kept heads b (length names + 1) _)
 
     onward : (j k : ℕ) → k < j
-        → bucket_of (with_head heads b (length names + 1)) (get_or (names ++ name ∷ []) k []) ≡ bucket_of (with_head heads b (length names + 1))
+        → bucket_of (with_head heads b (length names + 1)) (get_or (names ++ name ∷ []) k [])
+        ≡ bucket_of (with_head heads b (length names + 1))
         (get_or (names ++ name ∷ []) j [])
         → ((j < length names) × (get_or (names ++ name ∷ []) j [] ≡ get_or names j [])) ⊎
         ((j ≡ length names) × (get_or (names ++ name ∷ []) j [] ≡ name))
@@ -140,7 +145,8 @@ chained_more heads nexts names b name ch is inside = record {
 
 -- A table with one entry more: a new name's.
 pub table_more : (files : List FileRows) (heads : Heads) (entries : List Entry) (b : ℕ) (e : Entry) → IsTable files heads entries
-    → b ≡ bucket_of heads (entry_name files e) → b < length heads.items → e.next ≡ get_or heads.items b 0 → IsThere files e → IsTagged heads.seed files e
+    → b ≡ bucket_of heads (entry_name files e) → b < length heads.items → e.next ≡ get_or heads.items b 0 → IsThere files e
+    → IsTagged heads.seed files e
     → IsNowhere (entry_name files e) (names_of files entries) → IsTable files (with_head heads b (length entries + 1)) (entries ++ e ∷ [])
 table_more files heads entries b e table is inside next there tagged new =
     let long = length-map entries (entry_name files) in

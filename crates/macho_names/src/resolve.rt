@@ -34,7 +34,9 @@ impl Table {
         ensures table { OnOk result (IsTable files.now (heads_of self.new) self.new.entries.items) }
         ensures grown { OnOk result (HaveGrown files.now self.old.entries.items self.new.entries.items) }
         ensures found { IfOk result (λ number. IsFound files.now self.new.entries.items file row number) }
-        ensures done { OnOk result (TakesIn files.now (heads_of self.old) self.old.entries.items (heads_of self.new) self.new.entries.items (event_at files.now file row ∷ [])) }
+        ensures done { OnOk result
+            (TakesIn files.now (heads_of self.old) self.old.entries.items (heads_of self.new) self.new.entries.items
+            (event_at files.now file row ∷ [])) }
         ensures why { IfErr result (Refuses files.now (heads_of self.old) self.old.entries.items (event_at files.now file row ∷ [])) }
     {
         if !note_in(files, file, row).global {
@@ -55,8 +57,11 @@ impl Table {
         ensures table { OnOk result (IsTable files.now (heads_of self.new) self.new.entries.items) }
         ensures grown { OnOk result (HaveGrown files.now self.old.entries.items self.new.entries.items) }
         ensures found { IfOk result (λ found. AreFoundIn files.now self.new.entries.items file (row_count files.now file) found.items) }
-        ensures done { OnOk result (TakesIn files.now (heads_of self.old) self.old.entries.items (heads_of self.new) self.new.entries.items (events_of_file files.now file (row_count files.now file))) }
-        ensures why { IfErr result (Refuses files.now (heads_of self.old) self.old.entries.items (events_of_file files.now file (row_count files.now file))) }
+        ensures done { OnOk result
+            (TakesIn files.now (heads_of self.old) self.old.entries.items (heads_of self.new) self.new.entries.items
+            (events_of_file files.now file (row_count files.now file))) }
+        ensures why { IfErr result
+            (Refuses files.now (heads_of self.old) self.old.entries.items (events_of_file files.now file (row_count files.now file))) }
     {
         let count = rows_in(files, file);
         let mut found = Vec::with_capacity(*self.heads.allocator(), count)?;

@@ -333,7 +333,9 @@ impl Table {
         requires entry { IsEntryOf files.now self.old.entries.items (row_at files.now file row).name number }
         ensures table { OnOk result (IsTable files.now (heads_of self.new) self.new.entries.items) }
         ensures grown { OnOk result (HaveGrown files.now self.old.entries.items self.new.entries.items) }
-        ensures done { OnOk result (TakesIn files.now (heads_of self.old) self.old.entries.items (heads_of self.new) self.new.entries.items (event_at files.now file row ∷ [])) }
+        ensures done { OnOk result
+            (TakesIn files.now (heads_of self.old) self.old.entries.items (heads_of self.new) self.new.entries.items
+            (event_at files.now file row ∷ [])) }
         ensures why { IfErr result (Refuses files.now (heads_of self.old) self.old.entries.items (event_at files.now file row ∷ [])) }
     {
         let entry = self.entry(number);

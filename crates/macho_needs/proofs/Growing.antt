@@ -49,10 +49,13 @@ with_name l noted (Some name) = if is_imported l name then insert_key bytes_eq n
 
 pub imports_more : (l : Link) (us : List Use) (u : Use) → imports_in l (us ++ u ∷ []) ≡ with_name l (imports_in l us) (name_used l u)
 unfolding imports_in with_name
-imports_more l us u = ap (λ names. distinct bytes_eq (filter (is_imported l) names)) (filter_map-append (name_used l) us (u ∷ [])) ∙ by (name_used l u)
+imports_more l us u = ap (λ names. distinct bytes_eq (filter (is_imported l) names)) (filter_map-append (name_used l) us (u ∷ []))
+    ∙ by (name_used l u)
   where
     one : (names : List (List ℕ)) (name : List ℕ) (b : Bool) → is_imported l name ≡ b
-        → distinct bytes_eq (filter (is_imported l) names ++ cond b (name ∷ []) []) ≡ (if b then insert_key bytes_eq (distinct bytes_eq (filter (is_imported l) names)) name else distinct bytes_eq (filter (is_imported l) names))
+        → distinct bytes_eq (filter (is_imported l) names ++ cond b (name ∷ []) [])
+        ≡ (if b then insert_key bytes_eq (distinct bytes_eq (filter (is_imported l) names)) name
+        else distinct bytes_eq (filter (is_imported l) names))
     one names name true e = distinct_push bytes_eq bytes_eq-Decides (filter (is_imported l) names) name
     one names name false e = ap (distinct bytes_eq) (append-nil (filter (is_imported l) names))
 
@@ -68,7 +71,8 @@ pub noting_is : (l : Link) (noted : List (List ℕ)) (s : SymbolId) → with_nam
 unfolding with_name
 noting_is l noted s = by (is_global (entry_at l s)) refl
   where
-    there : (i b : Bool) → (if i then cond b noted (noted ++ name_at l s ∷ []) else noted) ≡ (if i && not b then noted ++ name_at l s ∷ [] else noted)
+    there : (i b : Bool)
+        → (if i then cond b noted (noted ++ name_at l s ∷ []) else noted) ≡ (if i && not b then noted ++ name_at l s ∷ [] else noted)
     there true true = refl
     there true false = refl
     there false b = refl

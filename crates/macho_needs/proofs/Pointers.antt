@@ -25,35 +25,44 @@ use Rattle.macho_needs.proofs.Growing.{with_name, imports_more, slots_more, stub
 use Rattle.macho_needs.proofs.Staying.{target_stays}
 use Rattle.macho_needs.proofs.Using.{link_with, names_it}
 
-pub symbol_noted : (l : Link) (us : List Use) (u : Use) (id : SymbolId) (old new : Needs) → IsNoted l us old → symbol_used l u ≡ Some id → name_used l u ≡ global_name l (Some id)
+pub symbol_noted : (l : Link) (us : List Use) (u : Use) (id : SymbolId) (old new : Needs) → IsNoted l us old → symbol_used l u ≡ Some id
+    → name_used l u ≡ global_name l (Some id)
     → IsResolved l (noting l (imports_in l us) id) new.resolved → IsDefined l id
-    → new.tables.slots ≡ with_some same_target old.tables.slots (slot_of_use l u) → new.tables.stubs ≡ old.tables.stubs → new.tables.own ≡ old.tables.own
+    → new.tables.slots ≡ with_some same_target old.tables.slots (slot_of_use l u) → new.tables.stubs ≡ old.tables.stubs
+    → new.tables.own ≡ old.tables.own
     → stub_of_use l u ≡ None → own_of_use l u ≡ None → IsNoted l (us ++ u ∷ []) new
 symbol_noted l us u id old new is used named resolved found slots stubs own no_stub no_entry = record {
-  imports = subst (λ ns. IsResolved l ns new.resolved) (sym (imports_more l us u ∙ ap (with_name l (imports_in l us)) named ∙ noting_is l (imports_in l us) id)) resolved;
+  imports =
+      subst (λ ns. IsResolved l ns new.resolved)
+      (sym (imports_more l us u ∙ ap (with_name l (imports_in l us)) named ∙ noting_is l (imports_in l us) id)) resolved;
   slots = slots ∙ ap (λ xs. with_some same_target xs (slot_of_use l u)) is.slots ∙ sym (slots_more l us u);
   stubs = stubs ∙ is.stubs ∙ ap (with_some same_target (stubs_in l us)) (sym no_stub) ∙ sym (stubs_more l us u);
   own = own ∙ is.own ∙ ap (with_some same_entry (own_in l us)) (sym no_entry) ∙ sym (own_more l us u);
-  found = All-push (IsFound l) us u is.found (λ t h. let same : id ≡ t = let e : Some id ≡ Some t = sym used ∙ h in cc in subst (IsDefined l) same found);
+  found = All-push (IsFound l) us u is.found (λ t h. let same : id ≡ t = let e : Some id ≡ Some t = sym used ∙ h in cc in
+      subst (IsDefined l) same found);
 }
 
 -- a plain pointer is no addend
 pub no_addend : (rel : RelocationInfo) → is_plain_pointer rel ≡ true → (rel.r_type == ARM64_RELOC_ADDEND) ≡ false
-no_addend rel plain = ap (λ n. n == ARM64_RELOC_ADDEND) (eqb-true rel.r_type ARM64_RELOC_UNSIGNED (first (rel.r_type == ARM64_RELOC_UNSIGNED) (rel.r_length == 3) (not rel.r_pcrel) plain))
+no_addend rel plain =
+    ap (λ n. n == ARM64_RELOC_ADDEND)
+    (eqb-true rel.r_type ARM64_RELOC_UNSIGNED (first (rel.r_type == ARM64_RELOC_UNSIGNED) (rel.r_length == 3) (not rel.r_pcrel) plain))
   where
     first : (a b c : Bool) → (a && b && c) ≡ true → a ≡ true
     first true b c t = refl
     first false b c t = t
 
 -- where a pointer to a symbol leads
-pub pointer_leads : (l : Link) (us : List Use) (u : Use) (s : SectionId) (r : ℕ) (rel : RelocationInfo) (file : ℕ) → IsNext l us u → rel ≡ relocation_in l s r → s.file ≡ file
+pub pointer_leads : (l : Link) (us : List Use) (u : Use) (s : SectionId) (r : ℕ) (rel : RelocationInfo) (file : ℕ) → IsNext l us u
+    → rel ≡ relocation_in l s r → s.file ≡ file
     → is_plain_pointer rel ≡ true → rel.r_extern ≡ true → name_used l u ≡ global_name l (symbol_of_relocation l s r)
     → target_with l (imports_in l us) (symbol_id file rel.r_symbolnum) ≡ target_of_relocation l s r
 unfolding target_of_relocation
 pointer_leads l us u s r rel file next is here plain extern named =
     let it = names_it l s r rel file is here (no_addend rel plain) extern in
     target_stays l us u (symbol_id file rel.r_symbolnum) next (named ∙ ap (global_name l) it)
-    ∙ sym (ap (λ b. if b then target_of_symbol l (symbol_of_relocation l s r) else target_of_section l (section_named l s r)) (ap (λ (q : RelocationInfo). q.r_extern) (sym is) ∙ extern)
+    ∙ sym (ap (λ b. if b then target_of_symbol l (symbol_of_relocation l s r) else target_of_section l (section_named l s r))
+    (ap (λ (q : RelocationInfo). q.r_extern) (sym is) ∙ extern)
     ∙ ap (target_of_symbol l) it)
 
 -- answers, said in other words
@@ -71,7 +80,8 @@ if_err P Q (Err e) f p = f e p
 
 -- the files are kept, whatever is answered
 pub files_stay : {X E : Type 0} (r : Result X E) (inputs : List Input) (old new : ResolvedRows) (id : SymbolId) → Keeps inputs old.files
-    → ((l : Link) (noted : List (List ℕ)) → IsResolved l noted old → OnOk r (IsResolved l (noting l noted id) new)) → OnErr r (new ≡ old) → Keeps inputs new.files
+    → ((l : Link) (noted : List (List ℕ)) → IsResolved l noted old → OnOk r (IsResolved l (noting l noted id) new)) → OnErr r (new ≡ old)
+    → Keeps inputs new.files
 unfolding link_with
 files_stay (Ok x) inputs old new id keeps more kept =
     record { are = (more (link_with inputs) old.noted (record { keeps = keeps.are; notes = refl })).keeps }

@@ -48,20 +48,24 @@ use_is_undefined l name file u s there named used global is from none = (
 
     consumed : (v : RelocationId) → Contains (second ++ third) v → plain v ≡ true → symbol_at_use l v ≡ Some s → Found
     consumed v has is_plain is =
-        found v (Contains-append_right carried (filter plain (second ++ third)) v (contains_filter plain (second ++ third) v has is_plain)) is
+        found v (Contains-append_right carried (filter plain (second ++ third)) v
+        (contains_filter plain (second ++ third) v has is_plain)) is
 
-    kinds : (w : Use) → Contains (map by_relocation carried ++ map by_initializer second ++ map by_personality third ++ map ByName (names_listed l)) w
+    kinds : (w : Use)
+        → Contains (map by_relocation carried ++ map by_initializer second ++ map by_personality third ++ map ByName (names_listed l)) w
         → names_symbol l w ≡ true → symbol_used l w ≡ Some s → Found
     kinds w has named is =
-        elim (Contains-append_cases (map by_relocation carried ++ map by_initializer second ++ map by_personality third) (map ByName (names_listed l)) w has) [
+        elim (Contains-append_cases (map by_relocation carried ++ map by_initializer second ++ map by_personality third)
+        (map ByName (names_listed l)) w has) [
           | inr last ↦ by_name (map_contains ByName (names_listed l) w last)
-          | inl three ↦ elim (Contains-append_cases (map by_relocation carried ++ map by_initializer second) (map by_personality third) w three) [
-            | inr here ↦ by_third (map_contains by_personality third w here)
-            | inl two ↦ elim (Contains-append_cases (map by_relocation carried) (map by_initializer second) w two) [
-              | inr here ↦ by_second (map_contains by_initializer second w here)
-              | inl here ↦ by_first (map_contains by_relocation carried w here)
-            ]
-          ]
+          | inl three ↦ elim
+              (Contains-append_cases (map by_relocation carried ++ map by_initializer second) (map by_personality third) w three) [
+                | inr here ↦ by_third (map_contains by_personality third w here)
+                | inl two ↦ elim (Contains-append_cases (map by_relocation carried) (map by_initializer second) w two) [
+                  | inr here ↦ by_second (map_contains by_initializer second w here)
+                  | inl here ↦ by_first (map_contains by_relocation carried w here)
+                ]
+              ]
         ]
       where
         by_name : ((n : List ℕ) × Contains (names_listed l) n × (ByName n ≡ w)) → Found
@@ -83,11 +87,23 @@ pub undefined_has_use : (l : Link) (name : List ℕ) (file : ℕ) → IsUndefine
     → (u : Use) × (s : SymbolId) × Contains (uses_of l) u × (names_symbol l u ≡ true) × (symbol_used l u ≡ Some s)
     × (is_global (entry_at l s) ≡ true) × (name_at l s ≡ name) × (s.file ≡ file) × IsNone (definition_of l name)
 undefined_has_use l name file undefined =
-    let global = filter_contains (λ t. is_global (entry_at l t)) (filter_map (symbol_at_use l) (carried ++ filter plain (second ++ third))) undefined.0
+    let global =
+    filter_contains (λ t. is_global (entry_at l t))
+    (filter_map (symbol_at_use l) (carried ++ filter plain (second ++ third))) undefined.0
     undefined.1 in
     let at = filter_map_contains (symbol_at_use l) (carried ++ filter plain (second ++ third)) undefined.0 global.0 in
-    let one = from at.0 at.1 in
-    (one.0, undefined.0, subst (λ us. Contains us one.0) (sym (uses_are l)) one.1, one.2, one.3 ∙ at.2, global.1, undefined.2, undefined.3, undefined.4)
+    let one = from at.0 at.1 in (
+      one.0,
+      undefined.0,
+      subst (λ us. Contains us one.0) (sym (uses_are l)) one.1,
+      one.2,
+      one.3
+          ∙ at.2,
+      global.1,
+      undefined.2,
+      undefined.3,
+      undefined.4,
+    )
   where
     carried : List RelocationId
     carried = carried_relocations l
@@ -108,14 +124,18 @@ undefined_has_use l name file undefined =
     From v = (u : Use) × Contains kinds u × (names_symbol l u ≡ true) × (symbol_used l u ≡ symbol_at_use l v)
 
     front : (u : Use) → Contains (map by_relocation carried ++ map by_initializer second ++ map by_personality third) u → Contains kinds u
-    front u has = Contains-append_left (map by_relocation carried ++ map by_initializer second ++ map by_personality third) (map ByName (names_listed l)) u has
+    front u has =
+        Contains-append_left (map by_relocation carried ++ map by_initializer second ++ map by_personality third)
+        (map ByName (names_listed l)) u has
 
     from : (v : RelocationId) → Contains (carried ++ filter plain (second ++ third)) v → From v
     from v has = elim (Contains-append_cases carried (filter plain (second ++ third)) v has) [
       | inl first ↦ (
         by_relocation v,
-        front (by_relocation v) (Contains-append_left (map by_relocation carried ++ map by_initializer second) (map by_personality third) (by_relocation v)
-            (Contains-append_left (map by_relocation carried) (map by_initializer second) (by_relocation v) (contains_map by_relocation carried v first))),
+        front (by_relocation v)
+            (Contains-append_left (map by_relocation carried ++ map by_initializer second) (map by_personality third) (by_relocation v)
+            (Contains-append_left (map by_relocation carried) (map by_initializer second) (by_relocation v)
+            (contains_map by_relocation carried v first))),
         refl,
         refl,
       )
@@ -124,14 +144,19 @@ undefined_has_use l name file undefined =
           elim (Contains-append_cases second third v kept.0) [
             | inl here ↦ (
               by_initializer v,
-              front (by_initializer v) (Contains-append_left (map by_relocation carried ++ map by_initializer second) (map by_personality third) (by_initializer v)
-                  (Contains-append_right (map by_relocation carried) (map by_initializer second) (by_initializer v) (contains_map by_initializer second v here))),
+              front (by_initializer v)
+                  (Contains-append_left (map by_relocation carried ++ map by_initializer second) (map by_personality third)
+                  (by_initializer v)
+                  (Contains-append_right (map by_relocation carried) (map by_initializer second) (by_initializer v)
+                  (contains_map by_initializer second v here))),
               kept.1,
               refl,
             )
             | inr here ↦ (
               by_personality v,
-              front (by_personality v) (Contains-append_right (map by_relocation carried ++ map by_initializer second) (map by_personality third) (by_personality v)
+              front (by_personality v)
+                  (Contains-append_right (map by_relocation carried ++ map by_initializer second) (map by_personality third)
+                  (by_personality v)
                   (contains_map by_personality third v here)),
               kept.1,
               refl,

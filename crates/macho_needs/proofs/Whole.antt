@@ -29,7 +29,8 @@ use Rattle.macho_model.proofs.Uses.{imports_are, slots_are, stubs_are}
 use Rattle.macho_needs.proofs.Undefined.{undefined_has_use}
 
 -- what is asked for in lists that are made of others
-asked_flat : {X Y Z : Type 0} (h : Y → Option Z) (f : X → List Y) (xs : List X) → filter_map h (flat_map f xs) ≡ flat_map (λ x. filter_map h (f x)) xs
+asked_flat : {X Y Z : Type 0} (h : Y → Option Z) (f : X → List Y) (xs : List X)
+    → filter_map h (flat_map f xs) ≡ flat_map (λ x. filter_map h (f x)) xs
 asked_flat h f [] = refl
 asked_flat h f (x ∷ xs) = filter_map-append h (f x) (flat_map f xs) ∙ ap (λ zs. filter_map h (f x) ++ zs) (asked_flat h f xs)
 
@@ -45,15 +46,18 @@ flat_none : {X Y : Type 0} (f : X → List Y) (xs : List X) → ((x : X) → f x
 flat_none f [] none = refl
 flat_none f (x ∷ xs) none = ap (λ zs. zs ++ flat_map f xs) (none x) ∙ flat_none f xs none
 
-nested_none : {Z : Type 0} (h : Use → Option Z) (g : SectionId → ℕ → Use) (numbers : SectionId → List ℕ) (each : SectionId → ℕ → List ℕ) (ss : List SectionId)
+nested_none : {Z : Type 0} (h : Use → Option Z) (g : SectionId → ℕ → Use) (numbers : SectionId → List ℕ) (each : SectionId → ℕ → List ℕ)
+    (ss : List SectionId)
     → ((s : SectionId) (r : ℕ) → h (g s r) ≡ None) → filter_map h (flat_map (λ s. flat_map (λ k. map (g s) (each s k)) (numbers s)) ss) ≡ []
 nested_none h g numbers each ss none =
     asked_flat h (λ s. flat_map (λ k. map (g s) (each s k)) (numbers s)) ss
     ∙ flat_none (λ s. filter_map h (flat_map (λ k. map (g s) (each s k)) (numbers s))) ss
     (λ s. asked_flat h (λ k. map (g s) (each s k)) (numbers s)
-    ∙ flat_none (λ k. filter_map h (map (g s) (each s k))) (numbers s) (λ k. asked_map h (g s) (each s k) ∙ asked_none (λ r. h (g s r)) (each s k) (none s)))
+    ∙ flat_none (λ k. filter_map h (map (g s) (each s k))) (numbers s)
+    (λ k. asked_map h (g s) (each s k) ∙ asked_none (λ r. h (g s r)) (each s k) (none s)))
 
-named_none : {Z : Type 0} (h : Use → Option Z) (names : List (List ℕ)) → ((name : List ℕ) → h (ByName name) ≡ None) → filter_map h (map ByName names) ≡ []
+named_none : {Z : Type 0} (h : Use → Option Z) (names : List (List ℕ)) → ((name : List ℕ) → h (ByName name) ≡ None)
+    → filter_map h (map ByName names) ≡ []
 named_none h names none = asked_map h ByName names ∙ asked_none (λ name. h (ByName name)) names none
 
 -- names add nothing
@@ -66,16 +70,19 @@ flat_same : {X Y : Type 0} (f g : X → List Y) (xs : List X) → ((x : X) → f
 flat_same f g [] same = refl
 flat_same f g (x ∷ xs) same = (λ i. same x i ++ flat_same f g xs same i)
 
-asked_kept : {X Z : Type 0} (h : X → Option Z) (p : X → Bool) (xs : List X) → ((x : X) → p x ≡ false → h x ≡ None) → filter_map h (filter p xs) ≡ filter_map h xs
+asked_kept : {X Z : Type 0} (h : X → Option Z) (p : X → Bool) (xs : List X) → ((x : X) → p x ≡ false → h x ≡ None)
+    → filter_map h (filter p xs) ≡ filter_map h xs
 asked_kept h p [] none = refl
 asked_kept {X} {Z} h p (x ∷ xs) none = by (asked_kept h p xs none) (p x) refl
   where
-    by : filter_map h (filter p xs) ≡ filter_map h xs → (b : Bool) → p x ≡ b → filter_map h (cond b (x ∷ filter p xs) (filter p xs)) ≡ cons_option (h x) (filter_map h xs)
+    by : filter_map h (filter p xs) ≡ filter_map h xs → (b : Bool) → p x ≡ b
+        → filter_map h (cond b (x ∷ filter p xs) (filter p xs)) ≡ cons_option (h x) (filter_map h xs)
     by rest true e = ap (λ zs. cons_option (h x) zs) rest
     by rest false e = rest ∙ sym (ap (λ o. cons_option o (filter_map h xs)) (none x e))
 
 -- a relocation that is part of another one's field asks for no entry
-prefix_none : (l : Link) (s : SectionId) (r : ℕ) → is_prefix_type (relocation_in l s r).r_type ≡ true → own_of_use l (ByRelocation s r) ≡ None
+prefix_none : (l : Link) (s : SectionId) (r : ℕ) → is_prefix_type (relocation_in l s r).r_type ≡ true
+    → own_of_use l (ByRelocation s r) ≡ None
 prefix_none l s r prefix = by ((relocation_in l s r).r_type == ARM64_RELOC_SUBTRACTOR) refl
   where
     nothing : (b : Bool) → own_entry (b && false) (target_of_relocation l s r) (addend_of l s r) ≡ None
@@ -83,23 +90,39 @@ prefix_none l s r prefix = by ((relocation_in l s r).r_type == ARM64_RELOC_SUBTR
     nothing false = refl
 
     entry : (w k : ℕ) (o : Option Target) → (k ≡ ARM64_RELOC_SUBTRACTOR) ⊎ (k ≡ ARM64_RELOC_ADDEND)
-        → own_entry (is_pointer (record { relocation = r; offset = (relocation_in l s r).r_address; width = w; type = k; target = target_of_relocation l s r; subtrahend = o; addend = addend_of l s r }))
+        → own_entry
+        (is_pointer
+        (record {
+          relocation = r;
+          offset = (relocation_in l s r).r_address;
+          width = w;
+          type = k;
+          target = target_of_relocation l s r;
+          subtrahend = o;
+          addend = addend_of l s r;
+        }))
         (target_of_relocation l s r) (addend_of l s r) ≡ None
     entry w k o (inl e) = rw e (nothing (w == 8))
     entry w k o (inr e) = rw e (nothing (w == 8))
 
     by : (b : Bool) → ((relocation_in l s r).r_type == ARM64_RELOC_SUBTRACTOR) ≡ b → own_of_use l (ByRelocation s r) ≡ None
-    by true e = entry (width_of l s r) (relocation_in l s r).r_type (subtrahend_of l s r) (inl (eqb-true (relocation_in l s r).r_type ARM64_RELOC_SUBTRACTOR e))
+    by true e =
+        entry (width_of l s r) (relocation_in l s r).r_type (subtrahend_of l s r)
+        (inl (eqb-true (relocation_in l s r).r_type ARM64_RELOC_SUBTRACTOR e))
     by false e =
-        let addend : ((relocation_in l s r).r_type == ARM64_RELOC_ADDEND) ≡ true = sym (ap (λ b. b || ((relocation_in l s r).r_type == ARM64_RELOC_ADDEND)) e) ∙ prefix in
-        entry (width_of l s r) (relocation_in l s r).r_type (subtrahend_of l s r) (inr (eqb-true (relocation_in l s r).r_type ARM64_RELOC_ADDEND addend))
+        let addend : ((relocation_in l s r).r_type == ARM64_RELOC_ADDEND) ≡ true =
+        sym (ap (λ b. b || ((relocation_in l s r).r_type == ARM64_RELOC_ADDEND)) e) ∙ prefix in
+        entry (width_of l s r) (relocation_in l s r).r_type (subtrahend_of l s r)
+        (inr (eqb-true (relocation_in l s r).r_type ARM64_RELOC_ADDEND addend))
 
 -- the entries of a section
-section_entries : (l : Link) (s : SectionId) → filter_map (own_of_use l) (carried_uses l s) ≡ filter_map (λ f. own_entry (is_pointer f) f.target f.addend) (fields_of l s)
+section_entries : (l : Link) (s : SectionId)
+    → filter_map (own_of_use l) (carried_uses l s) ≡ filter_map (λ f. own_entry (is_pointer f) f.target f.addend) (fields_of l s)
 unfolding fields_of
 section_entries l s =
     asked_map (own_of_use l) (ByRelocation s) (relocations_of l s)
-    ∙ sym (asked_map (λ (f : Field). own_entry (is_pointer f) f.target f.addend) (field_of l s) (filter (λ r. not (is_prefix_type (relocation_in l s r).r_type)) (relocations_of l s))
+    ∙ sym (asked_map (λ (f : Field). own_entry (is_pointer f) f.target f.addend) (field_of l s)
+    (filter (λ r. not (is_prefix_type (relocation_in l s r).r_type)) (relocations_of l s))
     ∙ asked_kept (λ r. own_of_use l (ByRelocation s r)) (λ r. not (is_prefix_type (relocation_in l s r).r_type)) (relocations_of l s)
     (λ r e. prefix_none l s r (true_from (is_prefix_type (relocation_in l s r).r_type) e)))
   where
@@ -116,16 +139,22 @@ all_entries l =
     let third = flat_map (personality_uses l) (unwind_sections l) in
     let last = map ByName (filter (is_imported l) (plain_entries l.export_lists)) in
     let none_second : filter_map (own_of_use l) second ≡ []
-    = nested_none (own_of_use l) ByInitializer (λ s. range_with_len 0 ((header_at l s).size / POINTER_SIZE)) (λ s slot. relocations_at l s (POINTER_SIZE * slot)) (initializer_sections l) (λ s r. refl) in
+    = nested_none (own_of_use l) ByInitializer (λ s. range_with_len 0 ((header_at l s).size / POINTER_SIZE))
+    (λ s slot. relocations_at l s (POINTER_SIZE * slot)) (initializer_sections l) (λ s r. refl) in
     let none_third : filter_map (own_of_use l) third ≡ []
-    = nested_none (own_of_use l) ByPersonality (λ s. range_with_len 0 ((header_at l s).size / UNWIND_ENTRY_SIZE)) (λ s entry. relocations_at l s (UNWIND_ENTRY_SIZE * entry + PERSONALITY_PLACE))
+    = nested_none (own_of_use l) ByPersonality (λ s. range_with_len 0 ((header_at l s).size / UNWIND_ENTRY_SIZE))
+    (λ s entry. relocations_at l s (UNWIND_ENTRY_SIZE * entry + PERSONALITY_PLACE))
     (unwind_sections l) (λ s r. refl) in
-    let none_last : filter_map (own_of_use l) last ≡ [] = named_none (own_of_use l) (filter (is_imported l) (plain_entries l.export_lists)) (λ name. refl) in
+    let none_last : filter_map (own_of_use l) last ≡ [] =
+    named_none (own_of_use l) (filter (is_imported l) (plain_entries l.export_lists)) (λ name. refl) in
     let split : filter_map (own_of_use l) (((first ++ second) ++ third) ++ last) ≡ filter_map (own_of_use l) first
-    = filter_map-append (own_of_use l) ((first ++ second) ++ third) last ∙ ap (λ zs. filter_map (own_of_use l) ((first ++ second) ++ third) ++ zs) none_last ∙ append-nil _
-    ∙ filter_map-append (own_of_use l) (first ++ second) third ∙ ap (λ zs. filter_map (own_of_use l) (first ++ second) ++ zs) none_third ∙ append-nil _
+    = filter_map-append (own_of_use l) ((first ++ second) ++ third) last
+    ∙ ap (λ zs. filter_map (own_of_use l) ((first ++ second) ++ third) ++ zs) none_last ∙ append-nil _
+    ∙ filter_map-append (own_of_use l) (first ++ second) third ∙ ap (λ zs. filter_map (own_of_use l) (first ++ second) ++ zs) none_third
+    ∙ append-nil _
     ∙ filter_map-append (own_of_use l) first second ∙ ap (λ zs. filter_map (own_of_use l) first ++ zs) none_second ∙ append-nil _ in
-    ap (distinct same_entry) (split ∙ asked_flat (own_of_use l) (carried_uses l) (carried_of l) ∙ flat_same _ _ (carried_of l) (section_entries l))
+    ap (distinct same_entry)
+    (split ∙ asked_flat (own_of_use l) (carried_uses l) (carried_of l) ∙ flat_same _ _ (carried_of l) (section_entries l))
 
 pub needs_are : NeedsAreWhole
 unfolding imports_in slots_in stubs_in
@@ -156,8 +185,10 @@ names_noted : (l : Link) (us : List Use) (names : List (List ℕ)) (old new : Ne
 unfolding slots_in stubs_in own_in
 names_noted l us names old new is tables resolved = record {
   imports = resolved;
-  slots = ap (λ (t : Numbered). t.slots) tables ∙ is.slots ∙ ap (distinct same_target) (sym (named_same (slot_of_use l) us names (λ name. refl)));
-  stubs = ap (λ (t : Numbered). t.stubs) tables ∙ is.stubs ∙ ap (distinct same_target) (sym (named_same (stub_of_use l) us names (λ name. refl)));
+  slots = ap (λ (t : Numbered). t.slots) tables ∙ is.slots
+      ∙ ap (distinct same_target) (sym (named_same (slot_of_use l) us names (λ name. refl)));
+  stubs = ap (λ (t : Numbered). t.stubs) tables ∙ is.stubs
+      ∙ ap (distinct same_target) (sym (named_same (stub_of_use l) us names (λ name. refl)));
   own = ap (λ (t : Numbered). t.own) tables ∙ is.own ∙ ap (distinct same_entry) (sym (named_same (own_of_use l) us names (λ name. refl)));
   found = all_found us is.found names;
 }
@@ -165,7 +196,8 @@ names_noted l us names old new is tables resolved = record {
     all_found : (vs : List Use) → All (IsFound l) vs → (ns : List (List ℕ)) → All (IsFound l) (vs ++ map ByName ns)
     all_found vs all [] = subst (All (IsFound l)) (sym (append-nil vs)) all
     all_found vs all (name ∷ ns) =
-        subst (All (IsFound l)) (append_assoc vs (ByName name ∷ []) (map ByName ns)) (all_found (vs ++ ByName name ∷ []) (All-push (IsFound l) vs (ByName name) all (λ s used. cc)) ns)
+        subst (All (IsFound l)) (append_assoc vs (ByName name ∷ []) (map ByName ns))
+        (all_found (vs ++ ByName name ∷ []) (All-push (IsFound l) vs (ByName name) all (λ s used. cc)) ns)
 
 pub names_are_noted : NamesAreNoted
 names_are_noted = names_noted
@@ -174,7 +206,9 @@ pub name_is_noted : NameIsNoted
 unfolding with_name
 name_is_noted l us name = imports_more l us (ByName name) ∙ by (is_imported l name) (list_any (bytes_eq name) (imports_in l us))
   where
-    by : (i b : Bool) → (if i then cond b (imports_in l us) (imports_in l us ++ name ∷ []) else imports_in l us) ≡ (if i && not b then imports_in l us ++ name ∷ [] else imports_in l us)
+    by : (i b : Bool)
+        → (if i then cond b (imports_in l us) (imports_in l us ++ name ∷ []) else imports_in l us)
+        ≡ (if i && not b then imports_in l us ++ name ∷ [] else imports_in l us)
     by true true = refl
     by true false = refl
     by false b = refl

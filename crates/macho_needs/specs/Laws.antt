@@ -29,4 +29,5 @@ NamesAreNoted =
 abbrev pub NameIsNoted : Type 0
 NameIsNoted =
     (l : Link) (us : List Use) (name : List ℕ)
-    → imports_in l (us ++ ByName name ∷ []) ≡ (if is_imported l name && not (list_any (bytes_eq name) (imports_in l us)) then imports_in l us ++ name ∷ [] else imports_in l us)
+    → imports_in l (us ++ ByName name ∷ [])
+    ≡ (if is_imported l name && not (list_any (bytes_eq name) (imports_in l us)) then imports_in l us ++ name ∷ [] else imports_in l us)

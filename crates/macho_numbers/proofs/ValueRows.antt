@@ -24,7 +24,8 @@ pub values_begin : (order : ByteOrder) (w at : ℕ) (out : List ℕ) → at ≤ 
 values_begin order w at out fits = (omega arith, row_begins order w at out fits, tt)
 
 -- one number more
-pub values_go_on : {X : Type 0} (value : X → ℕ) (order : ByteOrder) → IsSound order → (w width at place i : ℕ) (xs : List X) (x : X) (before out now : List ℕ)
+pub values_go_on : {X : Type 0} (value : X → ℕ) (order : ByteOrder) → IsSound order
+    → (w width at place i : ℕ) (xs : List X) (x : X) (before out now : List ℕ)
     → width ≡ w → i < length xs → at + w * length xs ≤ length before → x ≡ get_or xs i x
     → (place ≡ at + w * i) × (out ≡ put at (row_bytes order w (take i (map value xs))) before) × AllBelow w (take i (map value xs))
     → now ≡ put place (order.bytes_of w (value x)) out → value x < 256 ^ w
@@ -50,6 +51,7 @@ pub values_end : {X : Type 0} (value : X → ℕ) (order : ByteOrder) (w at i : 
 values_end value order w at i xs before out past so_far =
     row_ends order w at i (map value xs) before out (omega (arith, length-map xs value)) so_far
 
-pub values_fit : {X : Type 0} (value : X → ℕ) (w i : ℕ) (xs : List X) → length xs ≤ i → AllBelow w (take i (map value xs)) → AllBelow w (map value xs)
+pub values_fit : {X : Type 0} (value : X → ℕ) (w i : ℕ) (xs : List X) → length xs ≤ i → AllBelow w (take i (map value xs))
+    → AllBelow w (map value xs)
 values_fit value w i xs past below =
     subst (AllBelow w) (take_all i (map value xs) (omega (arith, length-map xs value))) below

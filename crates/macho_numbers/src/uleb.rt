@@ -73,7 +73,8 @@ pub fn read_uleb(bytes: &[u8], at: usize) -> Option<(u64, usize)>
 
 /// The groups up to the first last one, None where it isn't among the first ten bytes.
 fn first_groups(bytes: &[u8]) -> Option<&[u8]>
-    ensures { MatchOption result (has_last_group bytes.now ≡ false) (λ t. (has_last_group bytes.now ≡ true) × (t.now ≡ first_groups bytes.now)) }
+    ensures { MatchOption result (has_last_group bytes.now ≡ false)
+        (λ t. (has_last_group bytes.now ≡ true) × (t.now ≡ first_groups bytes.now)) }
 {
     for count in 0..MOST_GROUPS {
         if *bytes.get(count)? < 0x80 {

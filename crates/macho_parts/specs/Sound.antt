@@ -14,7 +14,8 @@ pub record IsSound (l : Link) : Type 0 where
   -- each has a row of the table of relocations, and two share bytes only as a pair
   pub relocations : RelocationsAreSupported l
   -- the addend of a pointer to an import fits 32 bits
-  pub addends : (s : SectionId) (f : Field) → Contains (carried_of l) s → Contains (fields_of l s) f → is_pointer f ≡ true → is_import f.target ≡ true
+  pub addends : (s : SectionId) (f : Field) → Contains (carried_of l) s → Contains (fields_of l s) f → is_pointer f ≡ true
+      → is_import f.target ≡ true
       → fits_signed 32 f.addend ≡ true
   -- a pointer that the loader writes stands in a segment that may hold one
   pub places : (s : SectionId) (f : Field) → Contains (carried_of l) s → Contains (fields_of l s) f → needs_fixup l s f ≡ true

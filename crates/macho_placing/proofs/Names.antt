@@ -241,7 +241,8 @@ last_place names unknown =
     (λ k low.
     let n : List ℕ = get_or names k [] in
     bytes_turn LINKEDIT n
-    ∙ (or_parts (bytes_eq n PAGEZERO || bytes_eq n TEXT || bytes_eq n DATA_CONST || bytes_eq n DATA) (bytes_eq n LINKEDIT) (unknown k [] low)).1)
+    ∙ (or_parts (bytes_eq n PAGEZERO || bytes_eq n TEXT || bytes_eq n DATA_CONST || bytes_eq n DATA) (bytes_eq n LINKEDIT)
+    (unknown k [] low)).1)
     (λ low. absurd (omega (arith, low)))
 
 pub last_rank : (l : Link) → segment_rank l LINKEDIT ≡ 4 + length (other_segments l)

@@ -37,7 +37,8 @@ pub record IsWhollyPlaced (l : Link) (counts : Counts) (q : Placed) : Type 0 whe
 -- what is laid out of a link's plan is wholly placed, and so is what a refusal keeps
 abbrev pub LaidOutIsPlaced : Type 0
 LaidOutIsPlaced =
-    (l : Link) (p : Planning) (counts : Counts) (q : Placed) → IsPlanOf l p → FitsLimits p counts → IsLaidOut p counts q → IsWhollyPlaced l counts q
+    (l : Link) (p : Planning) (counts : Counts) (q : Placed)
+    → IsPlanOf l p → FitsLimits p counts → IsLaidOut p counts q → IsWhollyPlaced l counts q
 
 abbrev pub KeptIsPlaced : Type 0
 KeptIsPlaced = (l : Link) (p : Planning) (counts : Counts) (q : Placed) → IsPlanOf l p → IsTooLarge p counts q → IsWhollyPlaced l counts q
@@ -51,7 +52,8 @@ LinkPasses l counts OutOfMemory = Unit {0}
 
 -- a plan is refused only where the link passes a limit
 abbrev pub RefusalsAreLinks : Type 0
-RefusalsAreLinks = (l : Link) (p : Planning) (counts : Counts) (f : LayoutFault) → IsPlanOf l p → FaultStands p counts f → LinkPasses l counts f
+RefusalsAreLinks = (l : Link) (p : Planning) (counts : Counts) (f : LayoutFault) → IsPlanOf l p → FaultStands p counts f
+    → LinkPasses l counts f
 
 -- No limit that a layout looks at is passed.
 pub record NonePasses (l : Link) (counts : Counts) (q : Placed) : Type 0 where
@@ -65,19 +67,22 @@ pub record NonePasses (l : Link) (counts : Counts) (q : Placed) : Type 0 where
 -- a placement that is answered passes none
 abbrev pub AnsweredPassNone : Type 0
 AnsweredPassNone =
-    (l : Link) (p : Planning) (counts : Counts) (q : Placed) → IsPlanOf l p → FitsLimits p counts → IsLaidOut p counts q → IsSmall q → NonePasses l counts q
+    (l : Link) (p : Planning) (counts : Counts) (q : Placed) → IsPlanOf l p → FitsLimits p counts → IsLaidOut p counts q → IsSmall q
+    → NonePasses l counts q
 
 -- The fixup table has room for the page starts of each segment that the loader may write pointers in, up to the end of its file bytes.
 abbrev pub PagesFit : Type 0
 PagesFit =
-    (l : Link) (p : Planning) (counts : Counts) (q : Placed) (used : PlacedSegment → ℕ) → IsPlanOf l p → FitsLimits p counts → IsLaidOut p counts q
+    (l : Link) (p : Planning) (counts : Counts) (q : Placed) (used : PlacedSegment → ℕ) → IsPlanOf l p → FitsLimits p counts
+    → IsLaidOut p counts q
     → All (λ s. used s ≤ (if may_hold_pointers (text_of s.name) then pages_of s else 0)) q.segments
     → fixup_room counts (sum_by used q.segments) ≤ q.linkedit.fixups.end - q.linkedit.fixups.start
 
 -- a common's address stands at its number, and a slot's at the number of its target
 abbrev pub CommonsByNumber : Type 0
 CommonsByNumber =
-    (l : Link) (counts : Counts) (q : Placed) → IsWhollyPlaced l counts q → (id : ℕ) → common_address q id ≡ get_or (map (λ c. c.address) q.commons) id 0
+    (l : Link) (counts : Counts) (q : Placed) → IsWhollyPlaced l counts q → (id : ℕ)
+    → common_address q id ≡ get_or (map (λ c. c.address) q.commons) id 0
 
 abbrev pub SlotsByNumber : Type 0
 SlotsByNumber =

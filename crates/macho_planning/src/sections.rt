@@ -36,7 +36,9 @@ fn add_section(
     header: &SectionHeader,
 ) -> Result<(), AllocError>
     requires { KeepsRules header.now }
-    ensures { OnOk result (plan.new ≡ record plan.old { sections = plan.old.sections ++ list_if (is_carried header.now) (spec_for file section header.now ∷ []) }) }
+    ensures { OnOk result
+        (plan.new
+        ≡ record plan.old { sections = plan.old.sections ++ list_if (is_carried header.now) (spec_for file section header.now ∷ []) }) }
 {
     if is_carried(*header) {
         plan.add_section(spec_for(file, section, header))?;
@@ -48,7 +50,8 @@ fn add_section(
 fn add_sections(plan: &mut Plan, file: u32, object: &File<'_>) -> Result<(), AllocError>
     requires object { object.now.is_dynamic ≡ false }
     requires rules { IsObject object.now.bytes }
-    ensures { OnOk result (plan.new ≡ record plan.old { sections = plan.old.sections ++ specs_below file object.now.bytes (num_sections object.now.bytes) }) }
+    ensures { OnOk result
+        (plan.new ≡ record plan.old { sections = plan.old.sections ++ specs_below file object.now.bytes (num_sections object.now.bytes) }) }
 {
     for section in 0..object.num_sections() {
         let Some(header) = object.section(section) else {

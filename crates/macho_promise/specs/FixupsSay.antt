@@ -1,6 +1,6 @@
 -- The fixups of an image: which words the loader writes and what each is asked to become, and the fixup table and those words,
 -- byte for byte (`mach-o/fixup-chains.h`).
-use Rattle.std.specs.Prelude.{◌≡◌, ℕ, ◌+◌, ◌-◌, ◌*◌, ◌%◌, ◌^◌, ◌↔◌, true, if◌then◌else◌, List, [], ◌∷◌, length, map, get_or, take, sum_by, Contains}
+use Rattle.std.specs.Prelude.{◌≡◌, ℕ, ◌+◌, ◌-◌, ◌*◌, ◌%◌, ◌^◌, ◌↔◌, true, if◌then◌else◌, List, [], ◌∷◌, map, get_or, Contains}
 use Rattle.std.specs.List.{position_or_len}
 use Rattle.macho_bytes.specs.Numbers.{little, row_bytes}
 use Rattle.macho_bytes.specs.Texts.{Stands}
@@ -18,7 +18,7 @@ use Rattle.macho_model.specs.Placement.{Placed, id_of}
 use Rattle.macho_model.specs.Addresses.{address_of}
 use Rattle.macho_model.specs.Images.{Table, tables_of}
 use Rattle.macho_model.specs.Fixups.{EntryOfImport, same_entry, has_room, import_entries_of, entries_have_addends, import_format}
-use Rattle.macho_model.specs.ImportTable.{names_text}
+use Rattle.macho_model.specs.ImportTable.{names_text, name_place}
 use Rattle.macho_fixups.specs.declared.words.FixupKind.{FixupKind}
 use Rattle.macho_fixups.specs.declared.words.FixupKind.TheVariants.{Rebase, Bind}
 use Rattle.macho_fixups.specs.declared.run.Fixup.{Fixup}
@@ -51,8 +51,7 @@ fixup_segments p = map (λ s. record { address = s.address; size = s.size; file_
 abbrev pub entry_row : Link → EntryOfImport → List ℕ
 entry_row l e =
     let library = library_number l (import_library l (get_or (imports_of l) e.import [])) in
-    let place = sum_by (λ name. length name + 1) (take e.import (imports_of l)) in
-    row_bytes little 4 ((library + place * 2 ^ 9) ∷ list_if (entries_have_addends l) (e.addend ∷ []))
+    row_bytes little 4 ((library + name_place l e.import * 2 ^ 9) ∷ list_if (entries_have_addends l) (e.addend ∷ []))
 
 -- THE fixup table of the file and the words of its chains.
 pub record FixupsSay (l : Link) (b : List ℕ) (p : Placed) : Type 0 where

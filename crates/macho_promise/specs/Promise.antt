@@ -28,8 +28,9 @@ use Rattle.macho_model.specs.ImportTable.{ImportTableSays}
 
 -- Where things are, beside `IsPlaced`: of the link and the placement alone.
 pub record IsLaidOut (l : Link) (counts : Counts) (p : Placed) : Type 0 where
-  -- the segments are those of the link, in order, their names filled with zeros
+  -- the segments are those of the link, in order
   pub segments : map (λ s. text_of s.name) p.segments ≡ segment_names_of l
+  -- their names are filled with zeros
   pub names : map (λ s. s.name.0) p.segments ≡ map name_field (segment_names_of l)
   -- parts stand in the stated order, each as low as it may, and each segment ends with the page of what it holds
   pub least : AreLeast l counts p

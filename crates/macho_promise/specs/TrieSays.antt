@@ -43,6 +43,7 @@ table_bytes b t = slice_range b t.at (t.at + t.size)
 
 -- THE exports trie of the file.
 pub record TrieSays (l : Link) (b : List ℕ) (p : Placed) : Type 0 where
+  -- the file's one exports trie
   pub table : Table
   pub one : tries_of b ≡ table ∷ []
   -- look-up of a name finds exactly what it is exported as

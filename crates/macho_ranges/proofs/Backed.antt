@@ -117,7 +117,8 @@ apart_in p m n f g s a b (inr (inr (inl e))) = inr (inr (inl (omega (arith, a.st
 apart_in p m n f g s a b (inr (inr (inr e))) = inr (inr (inr (omega (arith, a.start, b.size, b.start, a.from, b.from, e))))
 
 -- THE ranges of the file are apart where the addresses are
-pub apart_in_file : (l : Link) (p : Placed) (m n f g : Span) → EachNext (Follows l) p.segments → IsBacked p m f → IsBacked p n g → AreApart m n
+pub apart_in_file : (l : Link) (p : Placed) (m n f g : Span) → EachNext (Follows l) p.segments → IsBacked p m f → IsBacked p n g
+    → AreApart m n
     → AreApart f g
 apart_in_file l p m n f g follow (inl e) b apart = inl e
 apart_in_file l p m n f g follow (inr a) (inl e) apart = inr (inl e)

@@ -34,7 +34,8 @@ unfolding imports_in
 all_imports l n noted = subst (λ (ns : List (List ℕ)). IsResolved l ns n.resolved) (sym (imports_are l)) noted.imports
 
 -- THE link that is read
-pub is_read : (l : Link) (r : ReadLink) (rows : Rows) → rows ≡ record { initializers = r.initializers; entries = r.entries } → IsNotedWith l r.needs rows
+pub is_read : (l : Link) (r : ReadLink) (rows : Rows) → rows ≡ record { initializers = r.initializers; entries = r.entries }
+    → IsNotedWith l r.needs rows
     → IsSound l → AreDefined l (plain_entries l.export_lists) → AreExports l (imports_of l) r.exports.items → IsReadOf l r
 is_read l r rows same with_rows sound listed exports = record {
   needs = needs_are l r.needs with_rows.noted;
@@ -58,7 +59,8 @@ has_personality : (symbols : ResolvedRows) (file : ℕ) (o : Option PersonalityU
 has_personality symbols file None usable = tt
 has_personality symbols file (Some p) usable = usable.symbol
 
-pub are_known : (views : List (Option FileBytes)) (r : ReadLink) (rows : Rows) → rows ≡ record { initializers = r.initializers; entries = r.entries }
+pub are_known : (views : List (Option FileBytes)) (r : ReadLink) (rows : Rows)
+    → rows ≡ record { initializers = r.initializers; entries = r.entries }
     → AreOfInputs views r.needs.resolved.files → AreUsable r.needs.resolved rows → AreKnown views r
 are_known views r rows same of usable =
     let symbols = r.needs.resolved in
@@ -84,7 +86,9 @@ personality_stays old new file same (Some p) it =
 pub usable_stays : (old new : ResolvedRows) (rows : Rows) → old.files ≡ new.files → AreUsable old rows → AreUsable new rows
 usable_stays old new rows same usable = record {
   initializers = All-weaker (IsUsable old) (IsUsable new) (pointer_stays old new same) rows.initializers.items usable.initializers;
-  entries = All-weaker (IsUsableEntry old) (IsUsableEntry new) (λ e it. personality_stays old new e.file same e.personality it) rows.entries.items usable.entries;
+  entries =
+      All-weaker (IsUsableEntry old) (IsUsableEntry new)
+      (λ e it. personality_stays old new e.file same e.personality it) rows.entries.items usable.entries;
 }
 
 -- the inputs that are viewed are those that are kept
@@ -92,7 +96,8 @@ pub of_some : (views : List (Option FileBytes)) (files : List FileRows) → AreO
 of_some views files of = record { inputs = of.inputs; keeps = of.keeps }
 
 -- a link on the way
-pub surveyed : (l : Link) (views : List (Option FileBytes)) (symbols : ResolvedRows) (entry : Option (List ℕ)) (list : Option ListEntries) (n : Needs)
+pub surveyed : (l : Link) (views : List (Option FileBytes)) (symbols : ResolvedRows) (entry : Option (List ℕ)) (list : Option ListEntries)
+    (n : Needs)
     → IsLinkOf l views symbols entry list → IsNoted l (uses_of_carried l) n → IsSurveyed l views n entry list
 surveyed l views symbols entry list n of noted =
     record { views_are = of.views_are; noted = noted; entry_is = of.entry_is; lists = of.lists }

@@ -72,6 +72,7 @@ entry_used e p is = ap (λ (o : Option PersonalityUse). option_to_list (option_m
 pub files_same : (old new : List FileRows) → AreOfSome old → ((inputs : List Input) → Keeps inputs old → Keeps inputs new) → old ≡ new
 files_same old new some kept = some.keeps.are ∙ sym (kept some.inputs some.keeps).are
 
-pub symbol_stays : (old new : ResolvedRows) (file symbol : ℕ) → old.files ≡ new.files → HasSymbol old file symbol → HasSymbol new file symbol
+pub symbol_stays : (old new : ResolvedRows) (file symbol : ℕ) → old.files ≡ new.files → HasSymbol old file symbol
+    → HasSymbol new file symbol
 symbol_stays old new file symbol same has =
     subst (λ (files : List FileRows). HasSymbol (record { files = files; noted = new.noted }) file symbol) same has

@@ -128,7 +128,8 @@ missing_stands l counts names (UndefinedSymbol name file) is missing = absurd mi
 missing_stands l counts names OutOfMemory is missing = tt
 
 -- files are kept
-pub files_stay : {X E : Type 0} (r : Result X E) (inputs : List Input) (old new : ResolvedRows) (more : Link → List (List ℕ) → List (List ℕ))
+pub files_stay : {X E : Type 0} (r : Result X E) (inputs : List Input) (old new : ResolvedRows)
+    (more : Link → List (List ℕ) → List (List ℕ))
     → Keeps inputs old.files → ((l : Link) (noted : List (List ℕ)) → IsResolved l noted old → OnOk r (IsResolved l (more l noted) new))
     → OnErr r (new ≡ old) → Keeps inputs new.files
 unfolding link_with

@@ -67,7 +67,8 @@ at_place l s r place lt is =
 
 -- the uses of a section
 by_initializer : (l : Link) (s : SectionId) (r : ℕ) → r < (header_at l s).nreloc
-    → is_placed Initializers (header_at l s).size (relocation_in l s r).r_address ≡ true → Contains (initializer_uses l s) (ByInitializer s r)
+    → is_placed Initializers (header_at l s).size (relocation_in l s r).r_address ≡ true
+    → Contains (initializer_uses l s) (ByInitializer s r)
 by_initializer l s r lt placed =
     let slot = (relocation_in l s r).r_address / 8 in
     let is = slot_is (relocation_in l s r).r_address (header_at l s).size placed in
@@ -115,11 +116,13 @@ in_walk l Entries s r there is lt placed =
 -- a use, in its parts
 use_place : (kind : Kind) (size : ℕ) (rel : RelocationInfo) → is_use kind size rel ≡ true → is_placed kind size rel.r_address ≡ true
 use_place kind size rel is =
-    left_of (is_placed kind size rel.r_address) rel.r_extern (left_of (is_placed kind size rel.r_address && rel.r_extern) (is_plain_pointer rel) is)
+    left_of (is_placed kind size rel.r_address) rel.r_extern
+    (left_of (is_placed kind size rel.r_address && rel.r_extern) (is_plain_pointer rel) is)
 
 use_extern : (kind : Kind) (size : ℕ) (rel : RelocationInfo) → is_use kind size rel ≡ true → rel.r_extern ≡ true
 use_extern kind size rel is =
-    right_of (is_placed kind size rel.r_address) rel.r_extern (left_of (is_placed kind size rel.r_address && rel.r_extern) (is_plain_pointer rel) is)
+    right_of (is_placed kind size rel.r_address) rel.r_extern
+    (left_of (is_placed kind size rel.r_address && rel.r_extern) (is_plain_pointer rel) is)
 
 use_plain : (kind : Kind) (size : ℕ) (rel : RelocationInfo) → is_use kind size rel ≡ true → is_plain_pointer rel ≡ true
 use_plain kind size rel is = right_of (is_placed kind size rel.r_address && rel.r_extern) (is_plain_pointer rel) is
@@ -149,13 +152,15 @@ no_addend rel plain =
     ap (λ n. n == ARM64_RELOC_ADDEND) type
 
 pub is_pointer_to_symbol : (rows : ResolvedRows) (file : ℕ) (list : RelocationBytes) (kind : Kind) (size r : ℕ)
-    → IsSection rows.files file list kind size → r < (section_at list.bytes list.section).nreloc → is_use kind size (relocation_at list.bytes list.section r) ≡ true
+    → IsSection rows.files file list kind size → r < (section_at list.bytes list.section).nreloc
+    → is_use kind size (relocation_at list.bytes list.section r) ≡ true
     → IsSymbolPointer rows file (relocation_at list.bytes list.section r)
 is_pointer_to_symbol rows file list kind size r of lt is =
     let rel = relocation_at list.bytes list.section r in
     let plain = use_plain kind size rel is in
     let extern = use_extern kind size rel is in
-    let named : names_symbol rel ≡ true = both rel.r_extern (not (rel.r_type == ARM64_RELOC_ADDEND)) extern (ap not (no_addend rel plain)) in
+    let named : names_symbol rel ≡ true =
+    both rel.r_extern (not (rel.r_type == ARM64_RELOC_ADDEND)) extern (ap not (no_addend rel plain)) in
     record { form = plain; named = extern; symbol = has_referent rows file list.bytes list.section r of.rows of.object of.there lt named }
 
 -- of a relocation that was got
@@ -191,7 +196,8 @@ section_is files file bytes k list kind header list_is header_is rows object the
       size_is = ap (λ (h : SectionHeader). h.size) header_is;
     })
 
-pub section_kept : (old new : List FileRows) (file : ℕ) (list : RelocationBytes) (kind : Kind) (size : ℕ) → IsSection old file list kind size
+pub section_kept : (old new : List FileRows) (file : ℕ) (list : RelocationBytes) (kind : Kind) (size : ℕ)
+    → IsSection old file list kind size
     → ((inputs : List Input) → Keeps inputs old → Keeps inputs new) → IsSection new file list kind size
 section_kept old new file list kind size of kept = record {
   rows = rows_kept old new file list.bytes of.rows kept;

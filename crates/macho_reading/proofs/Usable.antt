@@ -75,7 +75,8 @@ unfolding link_with
 objects_read views inputs are whole file b (lt, is) =
     let below : file < length views = omega (arith, lt, ap length are, length-map inputs object_view) in
     let seen : get_or views file None ≡ Some (record { bytes = b; is_dynamic = false })
-    = ap (λ (vs : List (Option FileBytes)). get_or vs file None) are ∙ get_or-map object_view inputs file (Object b) None lt ∙ ap object_view is in
+    = ap (λ (vs : List (Option FileBytes)). get_or vs file None) are ∙ get_or-map object_view inputs file (Object b) None lt
+    ∙ ap object_view is in
     subst IsWhole seen (whole file None below)
 
 -- a plain pointer of a section
@@ -83,7 +84,8 @@ symbol_below : (b : List ℕ) (k r : ℕ) → relocation_number_exists b k r ≡
     → (relocation_at b k r).r_symbolnum < num_symbols b
 symbol_below b k r exists extern =
     let below : nat_lt (relocation_at b k r).r_symbolnum (num_symbols b) ≡ true = subst
-    (λ (t : Bool). (if t then nat_lt (relocation_at b k r).r_symbolnum (num_symbols b) else ((relocation_at b k r).r_type == ARM64_RELOC_ADDEND)
+    (λ (t : Bool).
+    (if t then nat_lt (relocation_at b k r).r_symbolnum (num_symbols b) else ((relocation_at b k r).r_type == ARM64_RELOC_ADDEND)
     || (nat_le 1 (relocation_at b k r).r_symbolnum && nat_le (relocation_at b k r).r_symbolnum (num_sections b))) ≡ true) extern exists in
     grind (arith, nat_tests, below)
 
@@ -95,7 +97,8 @@ pointer_usable l symbols s r read keeps there lt plain extern =
     let of = section_of_file l s read there in
     let number = symbol_below (object_of l s.file) s.section r (of.file.object.o5.1 s.section r of.within lt) extern in
     let same : get_or symbols.files s.file no_file ≡ kept_of (Object of.file.bytes)
-    = ap (λ (fs : List FileRows). get_or fs s.file no_file) keeps ∙ get_or-map kept_of l.inputs s.file no_input no_file of.file.within ∙ ap kept_of of.file.is in
+    = ap (λ (fs : List FileRows). get_or fs s.file no_file) keeps ∙ get_or-map kept_of l.inputs s.file no_input no_file of.file.within
+    ∙ ap kept_of of.file.is in
     record {
       form = plain;
       named = extern;
@@ -154,7 +157,8 @@ one_personality l symbols s e r read keeps rules there below at =
     (sections_of l) s there).1 in
     let among = in_filter (λ (q : ℕ). (relocation_in l s q).r_address == 32 * e + PERSONALITY_PLACE) (relocations_of l s) r at in
     let place = (Decides-eqb (relocation_in l s r).r_address (32 * e + PERSONALITY_PLACE)).0 among.0 in
-    let of_entry : ((relocation_in l s r).r_address / 32 == e) ≡ true = (Decides-eqb ((relocation_in l s r).r_address / 32) e).1 (omega (arith, place)) in
+    let of_entry : ((relocation_in l s r).r_address / 32 == e)
+    ≡ true = (Decides-eqb ((relocation_in l s r).r_address / 32) e).1 (omega (arith, place)) in
     let plain = passes (unwind_relocation_fits l s) _ r (rules.unwind s e U2 there below)
     (to_filter (λ (q : ℕ). (relocation_in l s q).r_address / 32 == e) (relocations_of l s) r among.1 of_entry) in
     let extern = passes _ (relocations_in_entry l s e PERSONALITY_PLACE) r (left_of _ _ (rules.unwind s e U7 there below)) at in
@@ -178,7 +182,8 @@ pub entries_usable : (l : Link) (symbols : ResolvedRows) → ObjectsAreRead l �
 unfolding entry_rows entries_of_link
 entries_usable l symbols read keeps rules =
     All-map (IsUsableEntry symbols) (entry_row l) (entries_of_link l)
-    (all_joined (λ d. IsUsableEntry symbols (entry_row l d)) (λ s. map (λ e. record { of_section = s; entry = e }) (range_with_len 0 (entry_count l s)))
+    (all_joined (λ d. IsUsableEntry symbols (entry_row l d))
+    (λ s. map (λ e. record { of_section = s; entry = e }) (range_with_len 0 (entry_count l s)))
     (unwind_sections l) (λ s c.
     All-map (λ d. IsUsableEntry symbols (entry_row l d)) (λ e. record { of_section = s; entry = e }) (range_with_len 0 (entry_count l s))
     (all_there (λ e. IsUsableEntry symbols (entry_row l (record { of_section = s; entry = e }))) (range_with_len 0 (entry_count l s))

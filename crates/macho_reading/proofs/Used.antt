@@ -71,7 +71,8 @@ initializers_used l rows are =
 pub rows_of : (l : Link) (rows : List Initializer) → rows ≡ initializer_rows l → All (IsInitializerOf l) rows
 rows_of l rows are = subst (λ (xs : List Initializer). All (IsInitializerOf l) xs) (sym are) (of_initializers l)
 
-pub rows_begin : (l : Link) (rows : List Initializer) → rows ≡ initializer_rows l → BeginsWith l (uses_of_carried l ++ flat_map uses_of_row rows)
+pub rows_begin : (l : Link) (rows : List Initializer) → rows ≡ initializer_rows l
+    → BeginsWith l (uses_of_carried l ++ flat_map uses_of_row rows)
 rows_begin l rows are =
     subst (λ (ws : List Use). BeginsWith l (uses_of_carried l ++ ws)) (sym (initializers_used l rows are)) (begins_with_initializers l)
 
@@ -80,7 +81,8 @@ pub rows_noted : (l : Link) (rows : List Initializer) (n : Needs) → rows ≡ i
 rows_noted l rows n are noted = subst (λ (ws : List Use). IsNoted l (uses_of_carried l ++ ws) n) (initializers_used l rows are) noted
 
 -- THE rows of unwind entries
-entries_used : (l : Link) (rows : List UnwindEntry) → EntriesKeepRules l → rows ≡ entry_rows l → flat_map uses_of_entry rows ≡ uses_of_personalities l
+entries_used : (l : Link) (rows : List UnwindEntry) → EntriesKeepRules l → rows ≡ entry_rows l
+    → flat_map uses_of_entry rows ≡ uses_of_personalities l
 entries_used l rows keep are = ap (flat_map uses_of_entry) are ∙ sym (are_used_by_entries l keep)
 
 pub entries_of : (l : Link) (rows : List UnwindEntry) → rows ≡ entry_rows l → All (IsEntryOf l) rows
@@ -90,7 +92,8 @@ pub entries_begin : (l : Link) (rows : List UnwindEntry) → EntriesKeepRules l 
     → BeginsWith l ((uses_of_carried l ++ uses_of_initializers l) ++ flat_map uses_of_entry rows)
 unfolding uses_before_names
 entries_begin l rows keep are =
-    subst (λ (ws : List Use). BeginsWith l ((uses_of_carried l ++ uses_of_initializers l) ++ ws)) (sym (entries_used l rows keep are)) (begins_with_rows l)
+    subst (λ (ws : List Use). BeginsWith l ((uses_of_carried l ++ uses_of_initializers l) ++ ws)) (sym (entries_used l rows keep are))
+    (begins_with_rows l)
 
 pub entries_noted : (l : Link) (rows : List UnwindEntry) (n : Needs) → EntriesKeepRules l → rows ≡ entry_rows l
     → IsNoted l ((uses_of_carried l ++ uses_of_initializers l) ++ flat_map uses_of_entry rows) n → IsNoted l (uses_before_names l) n

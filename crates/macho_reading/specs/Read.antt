@@ -25,7 +25,8 @@ entry_of l = if l.executable then Some l.entry else None
 
 -- These are the link's: views of its objects, its symbols with no import noted, the name of its entry and the entries of its export
 -- lists.
-pub record IsLinkOf (l : Link) (views : List (Option FileBytes)) (symbols : ResolvedRows) (entry : Option (List ℕ)) (list : Option ListEntries) : Type 0 where
+pub record IsLinkOf (l : Link) (views : List (Option FileBytes)) (symbols : ResolvedRows) (entry : Option (List ℕ))
+    (list : Option ListEntries) : Type 0 where
   pub views_are : views ≡ views_of l
   pub resolved : IsResolved l [] symbols
   pub entry_is : entry ≡ entry_of l

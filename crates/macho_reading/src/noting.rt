@@ -69,7 +69,8 @@ fn use_entries(needs: &mut Needs<'_>, entries: &[UnwindEntry]) -> Result<(), Lin
     requires held { AreOfSome needs.old.resolved.files }
     requires usable { All (IsUsableEntry needs.old.resolved) entries.now }
     ensures noted { (l : Link) (us : List Use) → IsNoted l us needs.old → All (IsEntryOf l) entries.now
-        → BeginsWith l (us ++ flat_map uses_of_entry entries.now) → OnOk result (IsNoted l (us ++ flat_map uses_of_entry entries.now) needs.new) }
+        → BeginsWith l (us ++ flat_map uses_of_entry entries.now)
+        → OnOk result (IsNoted l (us ++ flat_map uses_of_entry entries.now) needs.new) }
     ensures why { (l : Link) (counts : Counts) (us : List Use) → IsNoted l us needs.old → All (IsEntryOf l) entries.now
         → BeginsWith l (us ++ flat_map uses_of_entry entries.now) → IfErr result (Stands l counts) }
     ensures kept { (inputs : List Input) → Keeps inputs needs.old.resolved.files → Keeps inputs needs.new.resolved.files }

@@ -103,7 +103,8 @@ fn read_uses(
     ensures done { (l : Link) → IsLinkOf l views.now needs.old.resolved (option_copied entry.entry) (option_copied list.entry)
         → IsNoted l [] needs.old → IfOk result (λ rows. IsNotedWith l needs.new rows × IsSound l) }
     ensures usable { IfOk result (AreUsable needs.new.resolved) }
-    ensures why { (l : Link) (counts : Counts) → IsLinkOf l views.now needs.old.resolved (option_copied entry.entry) (option_copied list.entry)
+    ensures why { (l : Link) (counts : Counts)
+        → IsLinkOf l views.now needs.old.resolved (option_copied entry.entry) (option_copied list.entry)
         → IsNoted l [] needs.old → IfErr result (Stands l counts) }
     ensures kept { (inputs : List Input) → Keeps inputs needs.old.resolved.files → Keeps inputs needs.new.resolved.files }
 {
@@ -119,7 +120,8 @@ fn with_exports<'data>(
     rows: Rows,
     list: Option<&ExportList>,
 ) -> Result<ReadLink<'data>, LinkError>
-    ensures done { (l : Link) → IsNotedWith l needs.entry rows → IsSound l → AreLists l (option_copied list.entry) → IfOk result (IsReadOf l) }
+    ensures done { (l : Link) → IsNotedWith l needs.entry rows → IsSound l → AreLists l (option_copied list.entry)
+        → IfOk result (IsReadOf l) }
     ensures known { (views : List (Option FileBytes)) → AreOfInputs views needs.entry.resolved.files → AreUsable needs.entry.resolved rows
         → IfOk result (AreKnown views) }
     ensures why { (l : Link) (counts : Counts) → IsNotedWith l needs.entry rows → AreLists l (option_copied list.entry)

@@ -48,9 +48,11 @@ pub(crate) fn read_rows(
     requires few { length views.now < 2 ^ 32 }
     requires same { AreOfInputs views.now symbols.now.files }
     ensures rows { (l : Link) → views.now ≡ views_of l → IfOk result (AreRows l) }
-    ensures keeps { (l : Link) (noted : List (List ℕ)) → views.now ≡ views_of l → IsResolved l noted symbols.now → OnOk result (KeepRules l) }
+    ensures keeps { (l : Link) (noted : List (List ℕ)) → views.now ≡ views_of l → IsResolved l noted symbols.now
+        → OnOk result (KeepRules l) }
     ensures usable { IfOk result (AreUsable symbols.now) }
-    ensures why { (l : Link) (noted : List (List ℕ)) → views.now ≡ views_of l → IsResolved l noted symbols.now → IfErr result (IsStanding l) }
+    ensures why { (l : Link) (noted : List (List ℕ)) → views.now ≡ views_of l → IsResolved l noted symbols.now
+        → IfErr result (IsStanding l) }
 {
     are_whole(views);
     let initializers = read_initializers(alloc, views, symbols)?;

@@ -17,7 +17,16 @@ mach_header_rows = record {
   blank = record { magic = 0; cputype = 0; cpusubtype = 0; filetype = 0; ncmds = 0; sizeofcmds = 0; flags = 0; reserved = 0 };
   rows =
       numbers 4 (λ r. r.magic ∷ r.cputype ∷ r.cpusubtype ∷ r.filetype ∷ r.ncmds ∷ r.sizeofcmds ∷ r.flags ∷ r.reserved ∷ [])
-      (λ n r. record r { magic = n 0; cputype = n 1; cpusubtype = n 2; filetype = n 3; ncmds = n 4; sizeofcmds = n 5; flags = n 6; reserved = n 7 })
+      (λ n r. record r {
+        magic = n 0;
+        cputype = n 1;
+        cpusubtype = n 2;
+        filetype = n 3;
+        ncmds = n 4;
+        sizeofcmds = n 5;
+        flags = n 6;
+        reserved = n 7;
+      })
       ∷ [];
   sized = refl;
   same = λ bytes at. refl;
@@ -36,7 +45,19 @@ load_command_rows = record {
 abbrev pub segment_command_rows : Spelled SegmentCommand
 segment_command_rows = record {
   layout = segment_command;
-  blank = record { cmd = 0; cmdsize = 0; segname = no_text; vmaddr = 0; vmsize = 0; fileoff = 0; filesize = 0; maxprot = 0; initprot = 0; nsects = 0; flags = 0 };
+  blank = record {
+    cmd = 0;
+    cmdsize = 0;
+    segname = no_text;
+    vmaddr = 0;
+    vmsize = 0;
+    fileoff = 0;
+    filesize = 0;
+    maxprot = 0;
+    initprot = 0;
+    nsects = 0;
+    flags = 0;
+  };
   rows =
       numbers 4 (λ r. r.cmd ∷ r.cmdsize ∷ []) (λ n r. record r { cmd = n 0; cmdsize = n 1 })
       ∷ text (λ r. r.segname) (λ t r. record r { segname = t })
@@ -51,13 +72,35 @@ segment_command_rows = record {
 abbrev pub section_header_rows : Spelled SectionHeader
 section_header_rows = record {
   layout = section_header;
-  blank = record { sectname = no_text; segname = no_text; addr = 0; size = 0; offset = 0; align = 0; reloff = 0; nreloc = 0; flags = 0; reserved1 = 0; reserved2 = 0; reserved3 = 0 };
+  blank = record {
+    sectname = no_text;
+    segname = no_text;
+    addr = 0;
+    size = 0;
+    offset = 0;
+    align = 0;
+    reloff = 0;
+    nreloc = 0;
+    flags = 0;
+    reserved1 = 0;
+    reserved2 = 0;
+    reserved3 = 0;
+  };
   rows =
       text (λ r. r.sectname) (λ t r. record r { sectname = t })
       ∷ text (λ r. r.segname) (λ t r. record r { segname = t })
       ∷ numbers 8 (λ r. r.addr ∷ r.size ∷ []) (λ n r. record r { addr = n 0; size = n 1 })
       ∷ numbers 4 (λ r. r.offset ∷ r.align ∷ r.reloff ∷ r.nreloc ∷ r.flags ∷ r.reserved1 ∷ r.reserved2 ∷ r.reserved3 ∷ [])
-      (λ n r. record r { offset = n 0; align = n 1; reloff = n 2; nreloc = n 3; flags = n 4; reserved1 = n 5; reserved2 = n 6; reserved3 = n 7 })
+      (λ n r. record r {
+        offset = n 0;
+        align = n 1;
+        reloff = n 2;
+        nreloc = n 3;
+        flags = n 4;
+        reserved1 = n 5;
+        reserved2 = n 6;
+        reserved3 = n 7;
+      })
       ∷ [];
   sized = refl;
   same = λ bytes at. refl;

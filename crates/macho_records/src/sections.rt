@@ -122,7 +122,8 @@ pub fn is_zerofill_type(typ: u32) -> bool
 fn is_indirect_type(typ: u32) -> bool
     ensures { result
         ≡ list_any (λ t. typ == t)
-        (S_NON_LAZY_SYMBOL_POINTERS ∷ S_LAZY_SYMBOL_POINTERS ∷ S_SYMBOL_STUBS ∷ S_LAZY_DYLIB_SYMBOL_POINTERS ∷ S_THREAD_LOCAL_VARIABLE_POINTERS ∷ []) }
+        (S_NON_LAZY_SYMBOL_POINTERS ∷ S_LAZY_SYMBOL_POINTERS ∷ S_SYMBOL_STUBS ∷ S_LAZY_DYLIB_SYMBOL_POINTERS
+        ∷ S_THREAD_LOCAL_VARIABLE_POINTERS ∷ []) }
 {
     typ == S_NON_LAZY_SYMBOL_POINTERS
         || typ == S_LAZY_SYMBOL_POINTERS

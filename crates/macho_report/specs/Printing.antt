@@ -15,7 +15,8 @@ piece_text (Address address) = hex_text address
 piece_text (Digest digest) = encode_lower digest.now
 
 -- A text is printed: the sink took all of it, or it failed and took the first of it.
-pub record IsPrinted {A E : Type 0} (old_taken new_taken : Option (List ℕ)) (old_faults new_faults : ℕ) (text : List ℕ) (result : Result A E) : Type 0 where
+pub record IsPrinted {A E : Type 0} (old_taken new_taken : Option (List ℕ)) (old_faults new_faults : ℕ) (text : List ℕ)
+    (result : Result A E) : Type 0 where
   pub done : OnOk result (TakesBytes old_taken new_taken text)
   pub left : OnErr result (TakesPrefix old_taken new_taken text)
   pub why : OnErr result (CountRose old_faults new_faults)

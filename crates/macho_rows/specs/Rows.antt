@@ -81,7 +81,8 @@ segments_from names head number address offset (r ∷ rs) =
     (offset + rounded_up SEGMENT_PAGE (r.filled_end - address)) rs
 
 -- so many rows were placed
-pub record AreRows (names : List SegmentName) (cells : List Cell) (base head count : ℕ) (segments : List PlacedSegment) (placed : List PlacedCell)
+pub record AreRows (names : List SegmentName) (cells : List Cell) (base head count : ℕ) (segments : List PlacedSegment)
+    (placed : List PlacedCell)
     (address offset : ℕ) : Type 0 where
   pub rows : List RowCells
   pub many : length rows ≡ count

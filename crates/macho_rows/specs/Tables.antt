@@ -30,7 +30,9 @@ tables_at counts offset pages = record {
 -- what the tables cost at most: without rounding, then what rounding may add, then the signature
 abbrev pub tables_end : Counts → ℕ → ℕ → ℕ
 tables_end counts offset pages =
-    offset + FIXUP_RECORDS + counts.import_size * counts.imports + counts.name_bytes + 2 * pages + 14 + counts.trie + 7 + 16 * counts.symbols + counts.strings + 15
+    offset + FIXUP_RECORDS + counts.import_size * counts.imports + counts.name_bytes + 2 * pages + 14 + counts.trie + 7 + 16 *
+    counts.symbols + counts.strings + 15
 
 abbrev pub tables_cost : Counts → ℕ → ℕ → ℕ
-tables_cost counts offset pages = tables_end counts offset pages + 108 + counts.identifier + 32 * (tables_end counts offset pages / 4096 + 1) + 4096
+tables_cost counts offset pages =
+    tables_end counts offset pages + 108 + counts.identifier + 32 * (tables_end counts offset pages / 4096 + 1) + 4096

@@ -89,7 +89,8 @@ pub fn place_rows(
     requires few { length names.now < 16 }
     requires small { All (λ c. c.exponent ≤ 14) cells.now }
     requires room { base + head + sum_by cell_cost cells.now + 2 ^ 14 * length names.now + 2 ^ 15 ≤ 2 ^ 64 }
-    ensures { IfOk result (λ rows. AreRows names.now cells.now base head (length names.now) rows.segments.items rows.placed.items rows.address rows.offset) }
+    ensures { IfOk result
+        (λ rows. AreRows names.now cells.now base head (length names.now) rows.segments.items rows.placed.items rows.address rows.offset) }
 {
     let mut segments = Vec::new(alloc);
     let mut placed = Vec::new(alloc);

@@ -104,7 +104,8 @@ one_text b t [] is e = cc
 one_text b t (c ∷ []) is e = record { text = c; one = is; place = ap (λ (ps : List SegmentPlace). get_or ps 0 (place_told t)) e }
 one_text b t (c ∷ d ∷ found) is e = cc
 
-text_told : (l : Link) (b : List ℕ) (p : Placed) (t : PlacedSegment) → EachNext (Follows l) p.segments → SegmentsAgree b p → Contains p.segments t
+text_told : (l : Link) (b : List ℕ) (p : Placed) (t : PlacedSegment) → EachNext (Follows l) p.segments → SegmentsAgree b p
+    → Contains p.segments t
     → is_segment_named TEXT t ≡ true → OneText b t
 text_told l b p t follow agree has named =
     one_text b t (segments_named TEXT b) refl

@@ -57,7 +57,9 @@ fn table_of(range: Range64) -> Table
 
 /// Where an executable begins.
 fn add_entry(parts: &HeadParts<'_>, commands: &mut Vec<Command<'_>>) -> Result<(), AllocError>
-    ensures { OnOk result (map said_by commands.new.items ≡ map said_by commands.old.items ++ list_if parts.now.executable (entry_point_said parts.now.entry ∷ [])) }
+    ensures { OnOk result
+        (map said_by commands.new.items ≡ map said_by commands.old.items
+        ++ list_if parts.now.executable (entry_point_said parts.now.entry ∷ [])) }
 {
     if parts.executable {
         commands.push(Command::EntryPoint {
@@ -104,7 +106,8 @@ fn add_libraries<'a>(
     libraries: &'a [Vec<u8>],
     commands: &mut Vec<Command<'a>>,
 ) -> Result<(), AllocError>
-    ensures { OnOk result (map said_by commands.new.items ≡ map said_by commands.old.items ++ map needed_dylib_for (map (λ n. n.items) libraries.now)) }
+    ensures { OnOk result
+        (map said_by commands.new.items ≡ map said_by commands.old.items ++ map needed_dylib_for (map (λ n. n.items) libraries.now)) }
 {
     for name in libraries {
         commands.push(Command::LoadDylib {
@@ -116,7 +119,8 @@ fn add_libraries<'a>(
 
 /// The paths to search, in order.
 fn add_rpaths<'a>(rpaths: &'a [Vec<u8>], commands: &mut Vec<Command<'a>>) -> Result<(), AllocError>
-    ensures { OnOk result (map said_by commands.new.items ≡ map said_by commands.old.items ++ map rpath_for (map (λ n. n.items) rpaths.now)) }
+    ensures { OnOk result
+        (map said_by commands.new.items ≡ map said_by commands.old.items ++ map rpath_for (map (λ n. n.items) rpaths.now)) }
 {
     for path in rpaths {
         commands.push(Command::Rpath {
@@ -145,7 +149,8 @@ fn add_tables(
     commands: &mut Vec<Command<'_>>,
 ) -> Result<(), AllocError>
     requires { TablesAreSmall placement.now.linkedit }
-    ensures { OnOk result (map said_by commands.new.items ≡ map said_by commands.old.items ++ tables_said placement.now.linkedit parts.now) }
+    ensures { OnOk result
+        (map said_by commands.new.items ≡ map said_by commands.old.items ++ tables_said placement.now.linkedit parts.now) }
 {
     let tables = &placement.linkedit;
     commands.push(Command::ChainedFixups(table_of(tables.fixups)))?;
@@ -178,7 +183,8 @@ pub fn head_commands<'a>(
     requires tables { TablesAreSmall placement.now.linkedit }
     ensures said { IfOk result (λ v. map said_by v.items ≡ commands_of_parts (placed_of placement.now) parts.now) }
     ensures fit { OnOk result (VersionsFit parts.now.versions) }
-    ensures done { (l : Link) (counts : Counts) (uuid : List ℕ) → AreHeadParts l counts uuid (placed_of placement.now) parts.now → IfOk result (λ v. map said_by v.items ≡ commands_for l counts (placed_of placement.now) uuid parts.now.trie_size) }
+    ensures done { (l : Link) (counts : Counts) (uuid : List ℕ) → AreHeadParts l counts uuid (placed_of placement.now) parts.now
+        → IfOk result (λ v. map said_by v.items ≡ commands_for l counts (placed_of placement.now) uuid parts.now.trie_size) }
 {
     let mut commands = Vec::new(alloc);
     add_segments(placement, &mut commands)?;

@@ -39,7 +39,8 @@ pub fn write_image_head(
     requires tables { TablesAreSmall placement.now.linkedit }
     requires small { head_bytes (placed_of placement.now) parts.now < 2 ^ 32 }
     requires room { head_bytes (placed_of placement.now) parts.now ≤ length out.old }
-    ensures done { (l : Link) (counts : Counts) (uuid : List ℕ) → AreHeadParts l counts uuid (placed_of placement.now) parts.now → OnOk result (HeadIsPut l counts uuid (placed_of placement.now) parts.now out.old out.new) }
+    ensures done { (l : Link) (counts : Counts) (uuid : List ℕ) → AreHeadParts l counts uuid (placed_of placement.now) parts.now
+        → OnOk result (HeadIsPut l counts uuid (placed_of placement.now) parts.now out.old out.new) }
     ensures kept { length out.new ≡ length out.old }
 {
     let commands = head_commands(alloc, placement, parts)?;

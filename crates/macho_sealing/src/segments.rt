@@ -68,7 +68,8 @@ fn headers_from<'a>(
     segment: &PlacedSegment,
 ) -> &'a [SectionHeader]
     requires { at + length (headers_in (placed_of placement.now) segment.now) ≤ length placement.now.output_sections.items }
-    ensures { result.now ≡ slice_range placement.now.output_sections.items at (at + length (headers_in (placed_of placement.now) segment.now)) }
+    ensures { result.now
+        ≡ slice_range placement.now.output_sections.items at (at + length (headers_in (placed_of placement.now) segment.now)) }
 {
     let headers = placement.output_sections.as_slice();
     let bytes = segment.name.into_bytes();
@@ -94,7 +95,9 @@ pub(crate) fn add_segments<'a>(
     commands: &mut Vec<Command<'a>>,
 ) -> Result<(), AllocError>
     requires split { HeadersAreSplit (placed_of placement.now) }
-    ensures { OnOk result (map said_by commands.new.items ≡ map said_by commands.old.items ++ map (segment_for (placed_of placement.now)) (placed_of placement.now).segments) }
+    ensures { OnOk result
+        (map said_by commands.new.items ≡ map said_by commands.old.items
+        ++ map (segment_for (placed_of placement.now)) (placed_of placement.now).segments) }
 {
     let mut at = 0;
     for segment in placement.segments.as_slice() {

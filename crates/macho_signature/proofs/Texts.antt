@@ -48,7 +48,8 @@ pub signature_put : (s : Signed) (b : List ℕ) (size at : ℕ) (digests before 
     → at ≡ digests_offset (length s.name)
     → size ≤ length before → digests ≡ page_digests b s.limit
     → headed ≡ put 0 (row_bytes big 4 (0xfade0cc0 ∷ size ∷ 1 ∷ 0 ∷ DIRECTORY_PLACE ∷ [])) before
-    → directed ≡ put DIRECTORY_PLACE (spelling code_directory_rows (directory_for s)) headed → named ≡ put 108 (identifier_text s.name) directed
+    → directed ≡ put DIRECTORY_PLACE (spelling code_directory_rows (directory_for s)) headed
+    → named ≡ put 108 (identifier_text s.name) directed
     → now ≡ put at digests named → now ≡ put 0 (signature_text s b) before
 unfolding signature_text spelling
 signature_put s b size at digests before headed directed named now directory sized offset room are first second third fourth =

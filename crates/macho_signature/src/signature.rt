@@ -124,7 +124,8 @@ pub fn sign(signed: &[u8], signature: &mut [u8], signer: &Signer<'_>)
     requires small { signature_size (length signer.now.identifier.now) (length signed.now) < 2 ^ 32 }
     requires room { signature_size (length signer.now.identifier.now) (length signed.now) ≤ length signature.old }
     ensures done { signature.new ≡ put 0 (signature_text (signed_by signer.now (length signed.now)) signed.now) signature.old }
-    ensures length { length (signature_text (signed_by signer.now (length signed.now)) signed.now) ≡ signature_size (length signer.now.identifier.now) (length signed.now) }
+    ensures length { length (signature_text (signed_by signer.now (length signed.now)) signed.now)
+        ≡ signature_size (length signer.now.identifier.now) (length signed.now) }
     ensures back { ReadsBack code_directory_rows (directory_for (signed_by signer.now (length signed.now))) }
 {
     let name = signer.identifier;

@@ -33,9 +33,12 @@ pub fn write_uuid(
     // the UUID is written, and no other byte of what is signed changes
     ensures done { signed.new ≡ put uuid_offset (uuid_written uuid) signed.old }
     // the digests of the pages that hold it are those of the new bytes, and no other byte of the signature changes
-    ensures pages { signature.new ≡ put (hashes_offset + 32 * first_page uuid_offset) (digests_from signed.new (first_page uuid_offset) (last_page uuid_offset + 1 - first_page uuid_offset)) signature.old }
+    ensures pages { signature.new
+        ≡ put (hashes_offset + 32 * first_page uuid_offset)
+        (digests_from signed.new (first_page uuid_offset) (last_page uuid_offset + 1 - first_page uuid_offset)) signature.old }
     // where all digests were right, they are all right
-    ensures anew { Stands signature.old (record { at = hashes_offset; text = digests_of signed.old }) → signature.new ≡ put hashes_offset (digests_of signed.new) signature.old }
+    ensures anew { Stands signature.old (record { at = hashes_offset; text = digests_of signed.old })
+        → signature.new ≡ put hashes_offset (digests_of signed.new) signature.old }
 {
     signed[uuid_offset..uuid_offset + 16].copy_from_slice(&stamped_uuid(uuid));
     let first = uuid_offset / PAGE;

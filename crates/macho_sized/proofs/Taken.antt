@@ -125,7 +125,8 @@ imported_spelled : (l : Link) (name : List ℕ) → All IsInput l.inputs → All
 unfolding first_definition libraries_with
 imported_spelled l name are have e =
     let found = some_library (libraries_with l name) (bytes_eq name DSO_HANDLE)
-    (no_symbol (greatest_of l name) _ (no_symbol (weak_of l name) _ (no_symbol (strong_of l name) _ (ap is_library (sym (definition_is_first l name)) ∙ e)))) in
+    (no_symbol (greatest_of l name) _
+    (no_symbol (weak_of l name) _ (no_symbol (strong_of l name) _ (ap is_library (sym (definition_is_first l name)) ∙ e)))) in
     let m = map_contains (λ (i : ℕ × Input). i.0) (filter (λ i. offers name i.1) (enumerate_from 0 l.inputs)) found.0 found.1 in
     let of = filter_contains (λ (i : ℕ × Input). offers name i.1) (enumerate_from 0 l.inputs) m.0 m.1 in
     let number = enumerate_contains l.inputs m.0 of.0 in
@@ -147,7 +148,8 @@ import_spelled : (l : Link) (name : List ℕ) → All IsInput l.inputs → All H
 import_spelled l name are have there =
     imported_spelled l name are have
     (filter_contains (is_imported l) (filter_map (name_used l) (uses_of l)) name
-    (of_distinct (filter (is_imported l) (filter_map (name_used l) (uses_of l))) name (subst (λ (ns : List (List ℕ)). Contains ns name) (imports_are l) there))).1
+    (of_distinct (filter (is_imported l) (filter_map (name_used l) (uses_of l))) name
+    (subst (λ (ns : List (List ℕ)). Contains ns name) (imports_are l) there))).1
 
 exports_spelled : (l : Link) → All IsInput l.inputs → All HasBytes l.inputs → ExportsAreSpelled l
 exports_spelled l are have name weak (from_object s exported) =

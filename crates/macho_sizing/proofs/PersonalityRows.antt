@@ -22,7 +22,8 @@ use Rattle.macho_model.specs.Targets.{same_target, target_of, target_of_relocati
 use Rattle.macho_layout.proofs.Distinct.{distinct_push}
 use Rattle.macho_model.specs.Consumed.{EntryId, entries_of_link, relocations_in_entry, personality_targets, START_PLACE}
 use Rattle.macho_symbols.specs.Kept.{symbol_id}
-use Rattle.macho_unwind_pages.specs.Entries.{named_by, named_ids, ids_of}
+use Rattle.macho_unwind_pages.specs.Entries.{ids_of}
+use Rattle.macho_unwind_pages.specs.steps.Entries.{named_by, named_ids}
 use Rattle.macho_unwind_pages.specs.Orders.{in_order, put_in_order}
 use Rattle.macho_unwind_pages.proofs.Orders.{has, nat_lt-strict, rises-in_order, has-in_order, in_order-unique, length-in_order}
 use Rattle.macho_promise.specs.Sizes.{unwind_input}
@@ -190,7 +191,6 @@ no_more xs ys among =
 -- the ids that entries name are the numbers of the slots of what rows name
 ids_named : (l : Link) (rows : List UnwindEntry)
     → named_ids (map (input_by l) rows) ≡ map (slot_number l) (filter_map (personality_of l) rows)
-unfolding named_ids
 ids_named l [] = refl
 ids_named l (e ∷ rows) = by e.personality (ids_named l rows)
   where

@@ -84,7 +84,8 @@ chosen_small l s rules c =
     let f = from_filter (is_chosen l) (symbols_of l) s c in
     let kept = symbol_kept l s rules f.0 in
     let common : is_common_of (entry_at l s) ≡ true = left_of _ _ f.1 in
-    leb-true (common_exponent_of (entry_at l s)) 14 (parts (is_common_of (entry_at l s)) _ _ ((object_keeps kept.0).o14 s.symbol kept.1) common)
+    leb-true (common_exponent_of (entry_at l s)) 14
+    (parts (is_common_of (entry_at l s)) _ _ ((object_keeps kept.0).o14 s.symbol kept.1) common)
   where
     parts : (a b c : Bool) → (not a || (b && c)) ≡ true → a ≡ true → b ≡ true
     parts true true c e a = refl

@@ -89,7 +89,8 @@ pub record PartsAreApart (l : Link) (counts : Counts) (p : Placed) : Type 0 wher
       → Contains (range_span p.init_offsets ∷ range_span p.unwind ∷ map (linkedit_span p) (linkedit_ranges p)) r
       → AreApart (common_span l c) r
 
-pub parts_apart : (l : Link) (counts : Counts) (p : Placed) → AllPairs AreApart (spans_with l counts p p.sections) → PartsAreApart l counts p
+pub parts_apart : (l : Link) (counts : Counts) (p : Placed) → AllPairs AreApart (spans_with l counts p p.sections)
+    → PartsAreApart l counts p
 unfolding spans_with parts_0 parts_1 parts_2 parts_3 ranges
 parts_apart l counts p all =
     let three = pairs_left AreApart (parts_3 l counts p) (ranges p) all in

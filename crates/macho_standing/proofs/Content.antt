@@ -258,7 +258,8 @@ pub common_stands : (rests : RestsOn) (l : Link) (counts : Counts) (b : List ℕ
     → AreZero l b p → (s : ℕ) (choice : Choice)
     → (c : PlacedCommon) → Contains p.commons c → CommonStands l b s choice c
 common_stands rests l counts b p ready joined zeros s choice c one i within =
-    let lies = All-contains (λ (d : PlacedCommon). LiesInNamed p DATA false (common_span l d)) p.commons c (in_segment_of ready.placed).commons
+    let lies =
+    All-contains (λ (d : PlacedCommon). LiesInNamed p DATA false (common_span l d)) p.commons c (in_segment_of ready.placed).commons
     one in
     let seg = lies.0 in
     let back = backed l counts b p seg ready joined lies.1 (of_data seg lies.2) in

@@ -39,7 +39,8 @@ itself x = (bytes_eq-Decides x x).1 refl
 pub import_is_imported : (l : Link) (name : List ℕ) → Contains (imports_of l) name → is_imported l name ≡ true
 import_is_imported l name h =
     (of_filter (is_imported l) (filter_map (name_used l) (uses_of l)) name
-    (of_distinct bytes_eq (filter (is_imported l) (filter_map (name_used l) (uses_of l))) name (subst (λ (ns : List (List ℕ)). Contains ns name) (imports_are l) h))).1
+    (of_distinct bytes_eq (filter (is_imported l) (filter_map (name_used l) (uses_of l))) name
+    (subst (λ (ns : List (List ℕ)). Contains ns name) (imports_are l) h))).1
 
 -- a definition by a library names one that offers the name
 by_library : (d : Option Definition) → is_library d ≡ true → (file : ℕ) × (d ≡ Some (Library file))

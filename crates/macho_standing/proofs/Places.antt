@@ -146,7 +146,8 @@ address_fits l counts p (target.Section file section offset) placed ends has =
     omega (arith, q.address, within, end, same, has.1)
 address_fits l counts p (target.Common id) placed ends has =
     let q = common_found l p id placed.whole_list has in
-    let lies = All-contains (λ (c : PlacedCommon). LiesInNamed p DATA false (common_span l c)) p.commons q.one (in_segment_of placed).commons
+    let lies =
+    All-contains (λ (c : PlacedCommon). LiesInNamed p DATA false (common_span l c)) p.commons q.one (in_segment_of placed).commons
     q.placed in
     let end = All-contains (λ (s : PlacedSegment). s.address + s.size ≤ 2 ^ 64) p.segments lies.0 ends lies.1 in
     omega (arith, q.address, lies.3.to, end)

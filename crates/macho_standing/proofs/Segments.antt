@@ -177,7 +177,8 @@ first_named name (c ∷ cs) (s ∷ ss) agree =
     test_same : is_named name c ≡ is_segment_named name s
     test_same = ap (λ (x : SegmentPlace). bytes_eq x.0 name) same
 
-    by : of_first 0 (λ (s : SegmentCommand). s.vmaddr) (filter (is_named name) cs) ≡ first_placed (filter (is_segment_named name) ss) → (t : Bool)
+    by : of_first 0 (λ (s : SegmentCommand). s.vmaddr) (filter (is_named name) cs) ≡ first_placed (filter (is_segment_named name) ss)
+        → (t : Bool)
         → is_segment_named name s ≡ t
         → of_first 0 (λ (s : SegmentCommand). s.vmaddr) (cond (is_named name c) (c ∷ filter (is_named name) cs) (filter (is_named name) cs))
         ≡ first_placed (cond (is_segment_named name s) (s ∷ filter (is_segment_named name) ss) (filter (is_segment_named name) ss))

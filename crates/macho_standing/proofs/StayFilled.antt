@@ -131,7 +131,8 @@ sections_stay_filled stay l counts p fixups before now q link w one some filled 
     outside_byte i within outside =
         byte_stays stay l p fixups before now q.address (header_at l (id_of q)).size i w
         (section_part l counts p q link one some (omega (arith, within))) within
-        (section_apart l counts p q i 1 link.placed.whole_list (parts_apart l counts p (apart_of link.placed)) (leads_of l counts p link) one
+        (section_apart l counts p q i 1 link.placed.whole_list (parts_apart l counts p (apart_of link.placed))
+        (leads_of l counts p link) one
         (omega (arith, within)) (omega arith)
         (λ f field needs.
         let wide = (fixed_pointer l (id_of q) f needs).0 in

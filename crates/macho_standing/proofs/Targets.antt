@@ -188,7 +188,8 @@ definition_has l name inputs used (Some ImageBase) is some moves = tt
 used_is_imported : (l : Link) (u : Use) (name : List ℕ) → Contains (uses_of l) u → name_used l u ≡ Some name → is_imported l name ≡ true
     → Contains (imports_of l) name
 used_is_imported l u name one named imported =
-    subst (λ (ns : List (List ℕ)). Contains ns name) (sym (imports_are l)) (in_distinct bytes_eq same_bytes (filter (is_imported l) (filter_map (name_used l) (uses_of l))) name
+    subst (λ (ns : List (List ℕ)). Contains ns name) (sym (imports_are l))
+    (in_distinct bytes_eq same_bytes (filter (is_imported l) (filter_map (name_used l) (uses_of l))) name
     (in_filter (is_imported l) (filter_map (name_used l) (uses_of l)) name
     (in_filter_map (name_used l) (uses_of l) u name one named) imported))
 

@@ -221,4 +221,5 @@ headers_tell_template l counts b p objects placed laid headers tight =
     = ap (filter (λ (h : SectionHeader). is_template_type (type_of h))) (headers ∙ laid.sections ∙ headers_same l counts p)
     ∙ filter_of_map (output_header l p) (λ (h : SectionHeader). is_template_type (type_of h)) (output_sections_of l counts) in
     subst (λ (hs : List SectionHeader). MatchOption p.template (hs ≡ []) (FillTemplate hs)) (sym are)
-    (filled l counts p p.template objects (order_of placed.whole_list laid.segments laid.names) (least_of laid.least) (template_of placed) tight)
+    (filled l counts p p.template objects (order_of placed.whole_list laid.segments laid.names) (least_of laid.least)
+    (template_of placed) tight)

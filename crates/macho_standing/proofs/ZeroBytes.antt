@@ -226,7 +226,8 @@ none_has l counts b p unwind s a part lie zero byte from to =
 
     of_slot : (t : Slot) → Contains p.slots t → IsOutsideSpan (s.file_offset + (a - s.address)) (in_file p (slot_span t))
     of_slot t one =
-        let lies = All-contains (λ (x : Slot). LiesInNamed p DATA_CONST true (slot_span x)) p.slots t (in_segment_of lie.placed).slots one in
+        let lies =
+        All-contains (λ (x : Slot). LiesInNamed p DATA_CONST true (slot_span x)) p.slots t (in_segment_of lie.placed).slots one in
         outside_of p s lies.0 a (slot_span t) lie.order byte lies.1 lies.3.from lies.3.to
         (beside part (slot_span t) a (zero.slots t one) from to)
 

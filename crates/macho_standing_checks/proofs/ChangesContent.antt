@@ -166,7 +166,8 @@ unfolding changed with_other_stub commands_end commands_of commands_from header_
     name16 entry calls_exit head_of_call fixups_of_call tables_of_call be_at be_bytes big_words signature_of_call call_image
     num_sections section_place section_at section_bytes symtab_of num_symbols symbol_place symbol_at strings_of symbol_name
     relocation_place relocation_at sections_of carried_of template_exponent placed_exponent symbols_of strong_of weak_of
-    commons_of greatest_of libraries_with definition_of chosen_commons initializer_sections unwind_sections carried_relocations initializer_relocations personality_relocations imports_of
+    commons_of greatest_of libraries_with definition_of chosen_commons initializer_sections unwind_sections carried_relocations
+    initializer_relocations personality_relocations imports_of
     libraries_needed target_of target_of_relocation slots_of stubs_of fields_of plain_entries all_entries entries_of
     other_segments segment_names_of output_keys_of own_entries import_entries_of entries_have_addends fixup_count
     names_text segments_of mapped_segments base_of libraries_of tables_of tries_of signatures_of symbol_tables_of
@@ -188,7 +189,8 @@ unfolding commands_end commands_of commands_from header_of reading le_at row_byt
     head_of_call fixups_of_call tables_of_call be_at be_bytes big_words signature_of_call call_image num_sections section_place
     section_at section_bytes symtab_of num_symbols symbol_place symbol_at strings_of symbol_name relocation_place relocation_at
     sections_of carried_of template_exponent placed_exponent symbols_of strong_of commons_of greatest_of libraries_with
-    definition_of chosen_commons initializer_sections unwind_sections carried_relocations initializer_relocations personality_relocations imports_of libraries_needed target_of
+    definition_of chosen_commons initializer_sections unwind_sections carried_relocations initializer_relocations personality_relocations
+    imports_of libraries_needed target_of
     target_of_relocation slots_of stubs_of fields_of plain_entries all_entries entries_of other_segments segment_names_of
     output_keys_of own_entries import_entries_of entries_have_addends fixup_count names_text segments_of
     mapped_segments base_of libraries_of tables_of tries_of signatures_of symbol_tables_of string_tables_of
@@ -242,7 +244,8 @@ unfolding changed with_other_unwind commands_end commands_of commands_from heade
     name16 entry calls_exit head_of_call fixups_of_call tables_of_call be_at be_bytes big_words signature_of_call call_image
     num_sections section_place section_at section_bytes symtab_of num_symbols symbol_place symbol_at strings_of symbol_name
     relocation_place relocation_at sections_of carried_of template_exponent placed_exponent symbols_of strong_of weak_of
-    commons_of greatest_of libraries_with definition_of chosen_commons initializer_sections unwind_sections carried_relocations initializer_relocations personality_relocations imports_of
+    commons_of greatest_of libraries_with definition_of chosen_commons initializer_sections unwind_sections carried_relocations
+    initializer_relocations personality_relocations imports_of
     libraries_needed target_of target_of_relocation slots_of stubs_of fields_of plain_entries all_entries entries_of
     other_segments segment_names_of output_keys_of own_entries import_entries_of entries_have_addends fixup_count
     names_text segments_of mapped_segments base_of libraries_of tables_of tries_of signatures_of symbol_tables_of

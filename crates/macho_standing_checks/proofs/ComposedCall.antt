@@ -46,7 +46,8 @@ section_bytes_call : bytes_in_file call_image placed_call 0x100000398 8 â‰¡ word
 unfolding header_of commands_from commands_of commands_end num_sections section_place section_at section_bytes symtab_of
     num_symbols symbol_place symbol_at strings_of symbol_name relocation_place relocation_at sections_of carried_of template_exponent
     placed_exponent symbols_of strong_of commons_of greatest_of libraries_with definition_of chosen_commons
-    initializer_sections unwind_sections carried_relocations initializer_relocations personality_relocations imports_of libraries_needed target_of target_of_relocation slots_of stubs_of
+    initializer_sections unwind_sections carried_relocations initializer_relocations personality_relocations imports_of libraries_needed
+    target_of target_of_relocation slots_of stubs_of
     fields_of is_supported plain_entries all_entries entries_of other_segments segment_rank segment_names_of output_keys_of
     output_count content_sum command_sum unsigned_sum written_sum_of personality_targets entries_of_link le_at le_bytes
     row_bytes reading words8 words halves name16 entry calls_exit head_of_call fixups_of_call tables_of_call be_at
@@ -57,7 +58,8 @@ input_bytes_call : section_bytes (object_of calling 0) 0 â‰¡ words (0x94000000 â
 unfolding header_of commands_from commands_of commands_end num_sections section_place section_at section_bytes symtab_of
     num_symbols symbol_place symbol_at strings_of symbol_name relocation_place relocation_at sections_of carried_of template_exponent
     placed_exponent symbols_of strong_of commons_of greatest_of libraries_with definition_of chosen_commons
-    initializer_sections unwind_sections carried_relocations initializer_relocations personality_relocations imports_of libraries_needed target_of target_of_relocation slots_of stubs_of
+    initializer_sections unwind_sections carried_relocations initializer_relocations personality_relocations imports_of libraries_needed
+    target_of target_of_relocation slots_of stubs_of
     fields_of is_supported plain_entries all_entries entries_of other_segments segment_rank segment_names_of output_keys_of
     output_count content_sum command_sum unsigned_sum written_sum_of personality_targets entries_of_link le_at le_bytes
     row_bytes reading words8 words halves name16 entry calls_exit
@@ -119,7 +121,8 @@ data_bytes_call : length (bytes_in_file call_image placed_call 0x100008000 8) â‰
 unfolding header_of commands_from commands_of commands_end num_sections section_place section_at section_bytes symtab_of
     num_symbols symbol_place symbol_at strings_of symbol_name relocation_place relocation_at sections_of carried_of template_exponent
     placed_exponent symbols_of strong_of commons_of greatest_of libraries_with definition_of chosen_commons
-    initializer_sections unwind_sections carried_relocations initializer_relocations personality_relocations imports_of libraries_needed target_of target_of_relocation slots_of stubs_of
+    initializer_sections unwind_sections carried_relocations initializer_relocations personality_relocations imports_of libraries_needed
+    target_of target_of_relocation slots_of stubs_of
     fields_of is_supported plain_entries all_entries entries_of other_segments segment_rank segment_names_of output_keys_of
     output_count content_sum command_sum unsigned_sum written_sum_of personality_targets entries_of_link le_at le_bytes
     row_bytes reading words8 words halves name16 entry calls_exit head_of_call fixups_of_call tables_of_call be_at
@@ -153,7 +156,8 @@ stub_bytes_call : bytes_in_file call_image placed_call 0x1000003a0 12 â‰¡ words 
 unfolding header_of commands_from commands_of commands_end num_sections section_place section_at section_bytes symtab_of
     num_symbols symbol_place symbol_at strings_of symbol_name relocation_place relocation_at sections_of carried_of template_exponent
     placed_exponent symbols_of strong_of commons_of greatest_of libraries_with definition_of chosen_commons
-    initializer_sections unwind_sections carried_relocations initializer_relocations personality_relocations imports_of libraries_needed target_of target_of_relocation slots_of stubs_of
+    initializer_sections unwind_sections carried_relocations initializer_relocations personality_relocations imports_of libraries_needed
+    target_of target_of_relocation slots_of stubs_of
     fields_of is_supported plain_entries all_entries entries_of other_segments segment_rank segment_names_of output_keys_of
     output_count content_sum command_sum unsigned_sum written_sum_of personality_targets entries_of_link le_at le_bytes
     row_bytes reading words8 words halves name16 entry calls_exit head_of_call fixups_of_call tables_of_call be_at

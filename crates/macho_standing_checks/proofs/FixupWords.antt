@@ -22,5 +22,6 @@ an_import = refl
 
 -- a target has 36 bits and a highest byte, an addend 8 bits
 pub which_have_words : (has_word (Rebase (2 ^ 36)) ≡ false) × (has_word (Rebase 0xfffffffff) ≡ true)
-    × (has_word (Rebase 0xff00000000000000) ≡ true) × (has_word (Rebase (2 ^ 55)) ≡ false) × (has_word (Bind 3 255) ≡ true) × (has_word (Bind 3 256) ≡ false)
+    × (has_word (Rebase 0xff00000000000000) ≡ true) × (has_word (Rebase (2 ^ 55)) ≡ false) × (has_word (Bind 3 255) ≡ true)
+    × (has_word (Bind 3 256) ≡ false)
 which_have_words = (refl, refl, refl, refl, refl, refl)

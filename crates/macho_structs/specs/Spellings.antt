@@ -112,10 +112,28 @@ build_tool_version_rows = record {
 abbrev pub chained_fixups_header_rows : Spelled ChainedFixupsHeader
 chained_fixups_header_rows = record {
   layout = chained_fixups_header;
-  blank = record { fixups_version = 0; starts_offset = 0; imports_offset = 0; symbols_offset = 0; imports_count = 0; imports_format = 0; symbols_format = 0 };
+  blank = record {
+    fixups_version = 0;
+    starts_offset = 0;
+    imports_offset = 0;
+    symbols_offset = 0;
+    imports_count = 0;
+    imports_format = 0;
+    symbols_format = 0;
+  };
   rows =
-      numbers 4 (λ r. r.fixups_version ∷ r.starts_offset ∷ r.imports_offset ∷ r.symbols_offset ∷ r.imports_count ∷ r.imports_format ∷ r.symbols_format ∷ [])
-      (λ n r. record r { fixups_version = n 0; starts_offset = n 1; imports_offset = n 2; symbols_offset = n 3; imports_count = n 4; imports_format = n 5; symbols_format = n 6 })
+      numbers 4
+      (λ r. r.fixups_version ∷ r.starts_offset ∷ r.imports_offset ∷ r.symbols_offset ∷ r.imports_count ∷ r.imports_format
+      ∷ r.symbols_format ∷ [])
+      (λ n r. record r {
+        fixups_version = n 0;
+        starts_offset = n 1;
+        imports_offset = n 2;
+        symbols_offset = n 3;
+        imports_count = n 4;
+        imports_format = n 5;
+        symbols_format = n 6;
+      })
       ∷ [];
   sized = refl;
   same = λ bytes at. refl;
@@ -150,10 +168,44 @@ unwind_info_entry_rows = record {
 abbrev pub code_directory_rows : Spelled CodeDirectory
 code_directory_rows = record {
   layout = code_directory;
-  blank = record { magic = 0; length = 0; version = 0; flags = 0; hash_offset = 0; ident_offset = 0; special_slots = 0; code_slots = 0; code_limit = 0; hash_size = 0; hash_type = 0; platform = 0; page_exponent = 0; spare = 0; scatter_offset = 0; team_offset = 0; spare2 = 0; code_limit64 = 0; exec_base = 0; exec_limit = 0; exec_flags = 0 };
+  blank = record {
+    magic = 0;
+    length = 0;
+    version = 0;
+    flags = 0;
+    hash_offset = 0;
+    ident_offset = 0;
+    special_slots = 0;
+    code_slots = 0;
+    code_limit = 0;
+    hash_size = 0;
+    hash_type = 0;
+    platform = 0;
+    page_exponent = 0;
+    spare = 0;
+    scatter_offset = 0;
+    team_offset = 0;
+    spare2 = 0;
+    code_limit64 = 0;
+    exec_base = 0;
+    exec_limit = 0;
+    exec_flags = 0;
+  };
   rows =
-      numbers 4 (λ r. r.magic ∷ r.length ∷ r.version ∷ r.flags ∷ r.hash_offset ∷ r.ident_offset ∷ r.special_slots ∷ r.code_slots ∷ r.code_limit ∷ [])
-      (λ n r. record r { magic = n 0; length = n 1; version = n 2; flags = n 3; hash_offset = n 4; ident_offset = n 5; special_slots = n 6; code_slots = n 7; code_limit = n 8 })
+      numbers 4
+      (λ r. r.magic ∷ r.length ∷ r.version ∷ r.flags ∷ r.hash_offset ∷ r.ident_offset ∷ r.special_slots ∷ r.code_slots ∷ r.code_limit
+      ∷ [])
+      (λ n r. record r {
+        magic = n 0;
+        length = n 1;
+        version = n 2;
+        flags = n 3;
+        hash_offset = n 4;
+        ident_offset = n 5;
+        special_slots = n 6;
+        code_slots = n 7;
+        code_limit = n 8;
+      })
       ∷ numbers 1 (λ r. r.hash_size ∷ r.hash_type ∷ r.platform ∷ r.page_exponent ∷ [])
       (λ n r. record r { hash_size = n 0; hash_type = n 1; platform = n 2; page_exponent = n 3 })
       ∷ numbers 4 (λ r. r.spare ∷ r.scatter_offset ∷ r.team_offset ∷ r.spare2 ∷ [])

@@ -1,8 +1,9 @@
+pub mod Alone
 pub mod Answered
 pub mod Branches
-pub mod ByKeys
 pub mod Causes
 pub mod Dashes
+pub mod DocumentsByKeys
 pub mod Elsewhere
 pub mod Fine
 pub mod FineLines
@@ -15,6 +16,7 @@ pub mod FoundTop
 pub mod Gather
 pub mod Gathered
 pub mod Goods
+pub mod ItemsByKeys
 pub mod Joined
 pub mod Kept
 pub mod KeptLines
@@ -26,6 +28,7 @@ pub mod Mappings
 pub mod MappingsFields
 pub mod MappingsItems
 pub mod NoNext
+pub mod NoNuls
 pub mod One
 pub mod OneEnd
 pub mod Only
@@ -60,9 +63,11 @@ pub mod TreesRead
 pub mod TreesStand
 pub mod Twice
 pub mod TwiceKeys
+pub mod UnderItems
 pub mod Unders
+pub mod UndersBack
+pub mod UnplacedEntries
 pub mod UnplacedItems
 pub mod UnplacedTexts
 pub mod Walk
 pub mod Whys
-pub mod NoNuls

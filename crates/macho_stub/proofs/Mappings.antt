@@ -18,7 +18,7 @@ use Rattle.macho_stub.specs.steps.Opened.{OpenDocumentOf, head_at, with_items}
 use Rattle.macho_stub.specs.Places.{no_text}
 use Rattle.macho_stub.specs.steps.Trees.{Under, Lines, Listed, IsSkippedUnder, AreItemsUnder, TopEntry, SaysNumber, SaysScalar, SaysList, SaysItems, DocumentTree}
 use Rattle.macho_stub.specs.steps.Trees as grammar
-use Rattle.macho_stub.proofs.ByKeys.{IsTopValue, IsTopEntry, IsDocument, document_by_keys, document_of_keys}
+use Rattle.macho_stub.proofs.DocumentsByKeys.{IsTopValue, IsTopEntry, IsDocument, document_by_keys, document_of_keys}
 use Rattle.macho_stub.proofs.Folded as folded
 use Rattle.macho_stub.proofs.MappingsFields.{Mapping, HasKey, Step, Steps, Agree, none_of, gives, gives_or, once, steps_keep, known, known_given, known_or, known_keep, agree, agree_or, steps}
 use Rattle.macho_stub.proofs.MappingsItems.{items_fold, items_unfold}

@@ -38,14 +38,17 @@ with_return part h =
   where
     behind : slice_index part (length part - 1) ≡ 13 → Plain (take (length part - 1) part) → Plain part
     behind last front k d lt = elim (cases_lt k (length part - 1)) [
-      | inl before ↦ λ is. front k d (omega (arith, length-take (length part - 1) part)) (get_or-take (length part - 1) part k d before ∙ is)
+      | inl before ↦ λ is. front k d (omega (arith, length-take (length part - 1) part))
+          (get_or-take (length part - 1) part k d before ∙ is)
       | inr at ↦
           λ is. let here : k ≡ length part - 1 = omega arith in
-          let value : get_or part k d ≡ 13 = get_or_default part k d 0 lt ∙ ap (λ (i : ℕ). get_or part i 0) here ∙ last in omega (arith, is, value)
+          let value : get_or part k d ≡ 13 = get_or_default part k d 0 lt ∙ ap (λ (i : ℕ). get_or part i 0) here ∙ last in
+          omega (arith, is, value)
     ]
 
 -- the parts of a text whose lines are clean
-parts_plain : (number at : ℕ) (parts : List (List ℕ)) → AllByRecursion (λ line. has_barred line.text ≡ false) (lines_of_parts number at parts)
+parts_plain : (number at : ℕ) (parts : List (List ℕ))
+    → AllByRecursion (λ line. has_barred line.text ≡ false) (lines_of_parts number at parts)
     → AllByRecursion Plain parts
 parts_plain number at [] clean = tt
 parts_plain number at (part ∷ []) clean =
@@ -56,8 +59,11 @@ parts_plain number at (part ∷ []) clean =
   where
     only : Line
     only = record { number = number; at = at; text = part }
-parts_plain number at (part ∷ next ∷ parts) clean =
-    (with_return part (unbarred (strip_carriage_return part) clean.0), parts_plain (number + 1) (at + length part + 1) (next ∷ parts) clean.1)
+parts_plain number at (part ∷ next ∷ parts) clean = (
+  with_return part (unbarred (strip_carriage_return part) clean.0),
+  parts_plain (number + 1) (at + length part + 1)
+      (next ∷ parts) clean.1,
+)
 
 -- a text whose parts between line feeds hold no NUL
 onto : (x : ℕ) (parts : List (List ℕ)) → AllByRecursion Plain (onto_first x parts) → (x ≢ 0) × AllByRecursion Plain parts

@@ -96,7 +96,8 @@ pub no_stop_and_end : (text : List ℕ) (l m : ℕ) (r s : StubRule) → StopsAt
 no_stop_and_end text l m r s a b = a.stuck (stands_before (lines text) a.first a.rest a.line a.parts b.go_on)
 
 -- a text that breaks off isn't in the grammar
-pub no_break : (text : List ℕ) (l : ℕ) (r : StubRule) → BreaksOff text l r → (says : List DocumentFields) → IsStubLines (lines text) says → ⊥
+pub no_break : (text : List ℕ) (l : ℕ) (r : StubRule) → BreaksOff text l r → (says : List DocumentFields) → IsStubLines (lines text) says
+    → ⊥
 no_break text l r (inl a) says is =
     let S : List (List ℕ) → Type 0 = λ t. IsStubLines t says in
     a.stuck (record {

@@ -16,7 +16,8 @@ use Rattle.macho_stub.proofs.Readings.{IsReadLines, content_from}
 use Rattle.macho_stub.proofs.Mappings.{documents_fold, documents_unfold}
 use Rattle.macho_stub.proofs.TreesRead.{read_lines, read_document, documents_lines, documents_read}
 use Rattle.macho_stub.proofs.TreesFoundTop.{documents_found}
-use Rattle.macho_stub.proofs.Unders.{documents_old, new_tree, documents_lines as new_lines, documents_new}
+use Rattle.macho_stub.proofs.Unders.{documents_old}
+use Rattle.macho_stub.proofs.UndersBack.{new_tree, documents_lines as new_lines, documents_new}
 use Rattle.macho_stub.proofs.UnplacedTexts.{IsPlaced, AreNumbered, placed_forth, placed_back}
 use Rattle.macho_stub_lines.proofs.Unplaced.{line_texts}
 use Rattle.macho_stub_lines.proofs.Places.{same_lines}

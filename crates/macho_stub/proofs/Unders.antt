@@ -1,175 +1,29 @@
 -- The grammar's documents with what stands under their entries as trees: lines, or items.
--- The grammar has an entry with the lines under it, for items and documents alike, and what it says are items where these lines are
--- spelled by items. The proofs have these items in the entry (`specs/steps/Trees`). So the two differ in two things. A line belongs
--- to a skipped value by one test for all columns, or by a test for column 0 and one for those of items; the tests answer alike
--- (`deeper`, `at_top`). And an entry of a document has what stands under it as a tree: from the lines to the tree by what the
--- entry's key says (`old_of`), and back by its lines (`new_entry`).
-use Rattle.std.proofs.Common.{◌≡◌, ℕ, ◌+◌, ◌<◌, ◌&&◌, ◌||◌, Bool, true, false, cond, eqb, ltb, List, [], ◌∷◌, ◌++◌, length, map, replicate, slice_index, Option, Some, None, refl, sym, ap, ◌∙◌, arith, inl, inr, subst, append_assoc}
+-- The grammar has an entry with the lines under it, and what it says are items where these lines are spelled by items. The proofs have
+-- these items in the entry (`specs/steps/Trees`). From the lines to the tree it goes by what the entry's key says (`old_of`).
+use Rattle.std.proofs.Common.{◌≡◌, ℕ, ◌+◌, ◌<◌, Bool, true, false, cond, List, [], ◌∷◌, ◌++◌, length, Option, Some, None, refl, sym, ap, ◌∙◌, arith, subst}
 use Rattle.std.specs.Prelude.{codes}
-use Rattle.std.specs.List.{AllByRecursion, AllZip, filter, prefix_len}
-use Rattle.std.proofs.lemmas.Bool.Decides.{nat_tests}
+use Rattle.std.specs.List.{AllByRecursion, AllZip, filter}
 use Rattle.std.specs.Str.{bytes_eq}
 use Rattle.macho_stub_lines.specs.declared.keys.ItemKind.{ItemKind}
 use Rattle.macho_stub_lines.specs.declared.keys.ItemKind.TheVariants.{Libraries, Exports, Reexports}
 use Rattle.macho_stub_lines.specs.declared.keys.TopKey.{TopKey}
 use Rattle.macho_stub_lines.specs.declared.keys.TopKey.TheVariants as top
-use Rattle.macho_stub_lines.specs.Bytes.{space, dash, indent, head, has_dash, belongs_to_top}
-use Rattle.macho_stub_lines.specs.steps.Bytes.{is_space}
+use Rattle.macho_stub_lines.specs.Bytes.{head}
 use Rattle.macho_stub_lines.specs.Slices.{Slice, Line}
 use Rattle.macho_stub_lines.specs.Spelling.{IsEntry, entry_bytes, value_of, value_at, IsNumberValue, IsScalarValue}
 use Rattle.macho_stub_lines.specs.FlowLists.{IsFlowList}
 use Rattle.macho_stub_lines.specs.Keys.{top_key}
 use Rattle.macho_stub.specs.Documents.{ItemOf, DocumentOf}
-use Rattle.macho_stub.specs.Grammar.{item_keys}
-use Rattle.macho_stub.specs.Places.{belongs, SaysAlone, document_keys}
-use Rattle.macho_stub.specs.Places.{Entry, entries_then, IsSkipped, IsEntryOf, SaysNames, ItemTree, column_of, items_then, entries_of, IsItem, SaysNumber, SaysScalar, SaysItems, DocumentTree, end_then, documents_then, no_text, IsDocument}
+use Rattle.macho_stub.specs.Places.{SaysAlone, document_keys}
+use Rattle.macho_stub.specs.Places.{Entry, entries_then, IsSkipped, IsEntryOf, SaysNames, ItemTree, IsItem, SaysNumber, SaysScalar, SaysItems, DocumentTree, end_then, documents_then, no_text, IsDocument}
 use Rattle.macho_stub.specs.steps.Trees as trees
-use Rattle.macho_stub.specs.steps.Trees.{is_deeper, item_value_at, IsItemEntry, Under, Lines, Listed, under_then, TopEntry, top_entries_then, IsSkippedUnder, IsListUnder, AreItemsUnder, SaysList, IsTopEntry}
-use Rattle.macho_stub.proofs.ByKeys.{few, few_behind, none_pass, none_left, each_says, all_both, all_keys, Fails, top_test, top_forth, top_back, no_top_key, no_top_key_back}
+use Rattle.macho_stub.specs.steps.Trees.{Under, Lines, Listed, under_then, TopEntry, top_entries_then, IsSkippedUnder, AreItemsUnder, SaysList, IsTopEntry}
+use Rattle.macho_stub.proofs.Alone.{few, few_behind, none_pass, none_left, each_says, all_both, all_keys, Fails}
+use Rattle.macho_stub.proofs.DocumentsByKeys.{top_test, top_forth, top_back, no_top_key, no_top_key_back}
 use Rattle.macho_stub.proofs.MappingsFields.{every}
-use Rattle.macho_stub_lines.proofs.Bind.{not_zero}
 use Rattle.macho_stub_lines.proofs.Runs.{all_weaker}
-
--- ---- skipped values
-
-or_false : (b : Bool) → (b || false) ≡ b
-or_false true = refl
-or_false false = refl
-
-deeper : (column : ℕ) (text : List ℕ) → 0 < column → belongs column text ≡ is_deeper column text
-deeper column text h =
-    ap (λ t. ltb column (indent text) || (t && has_dash text)) (not_zero column h) ∙ or_false (ltb column (indent text))
-
-above : (n : ℕ) → ltb 0 (1 + n) ≡ true
-above n = grind (arith, nat_tests)
-
-at_top : (text : List ℕ) → belongs 0 text ≡ belongs_to_top text
-unfolding belongs_to_top has_dash indent
-at_top [] = refl
-at_top (b ∷ rest) = by (eqb b 32) refl
-  where
-    by : (t : Bool) → eqb b 32 ≡ t → belongs 0 (b ∷ rest) ≡ belongs_to_top (b ∷ rest)
-    by true t =
-        let n = prefix_len is_space rest in
-        rw t (ap (λ z. z || (eqb (slice_index (b ∷ rest) (1 + n)) dash && eqb (slice_index (b ∷ rest) (1 + n + 1)) space)) (above n))
-    by false t = rw t refl
-
-skipped_in_item : (column : ℕ) (one : Entry) → 0 < column → IsSkipped column one
-    → trees.IsSkipped (is_deeper column) (item_value_at column one) (value_of one.entry) one.more
-skipped_in_item column one h (inl l) = inl l
-skipped_in_item column one h (inr s) = inr (
-  s.0,
-  all_weaker (λ (line : Line). belongs column line.text ≡ true)
-      (λ line. is_deeper column line.text ≡ true) (λ line is. sym (deeper column line.text h) ∙ is) one.more s.1,
-)
-
-skipped_of_item : (column : ℕ) (one : Entry) → 0 < column
-    → trees.IsSkipped (is_deeper column) (item_value_at column one) (value_of one.entry) one.more → IsSkipped column one
-skipped_of_item column one h (inl l) = inl l
-skipped_of_item column one h (inr s) = inr (
-  s.0,
-  all_weaker (λ (line : Line). is_deeper column line.text ≡ true)
-      (λ line. belongs column line.text ≡ true) (λ line is. deeper column line.text h ∙ is) one.more s.1,
-)
-
--- a key of a document stands in column 0
-column_0 : (n : ℕ) → n + 0 ≡ n
-column_0 n = omega arith
-
-skipped_at_top : (one : Entry) → IsSkipped 0 one → IsSkippedUnder (value_at one.at one.entry) (value_of one.entry) (Lines one.more)
-skipped_at_top one (inl l) =
-    let L : ℕ → Type 0 = λ k. IsFlowList (value_at k one.entry) (value_of one.entry) one.more l.0 in
-    inl (l.0, subst L (column_0 one.at) l.1)
-skipped_at_top one (inr s) = inr (
-  s.0,
-  all_weaker (λ (line : Line). belongs 0 line.text ≡ true)
-      (λ line. belongs_to_top line.text ≡ true) (λ line is. sym (at_top line.text) ∙ is) one.more s.1,
-)
-
-skipped_of_top : (one : Entry) → IsSkippedUnder (value_at one.at one.entry) (value_of one.entry) (Lines one.more) → IsSkipped 0 one
-skipped_of_top one (inl l) =
-    let L : ℕ → Type 0 = λ k. IsFlowList (value_at k one.entry) (value_of one.entry) one.more l.0 in
-    inl (l.0, subst L (sym (column_0 one.at)) l.1)
-skipped_of_top one (inr s) = inr (
-  s.0,
-  all_weaker (λ (line : Line). belongs_to_top line.text ≡ true)
-      (λ line. belongs 0 line.text ≡ true) (λ line is. at_top line.text ∙ is) one.more s.1,
-)
-
--- ---- items
-
-in_column : (dash_column : ℕ) (tree : ItemTree) → 0 < column_of dash_column tree
-in_column dash_column tree = omega arith
-
-item_old : (kind : ItemKind) (dash_column : ℕ) (tree : ItemTree) (item : ItemOf Slice) → IsItem kind dash_column tree item
-    → trees.IsItem kind dash_column tree item
-item_old kind dash_column tree item i = record {
-  spaced = i.spaced;
-  each = all_weaker (IsEntryOf (item_keys kind) (column_of dash_column tree)) (IsItemEntry kind (column_of dash_column tree)) entry
-      (entries_of tree) i.each;
-  says = i.says;
-}
-  where
-    entry : (one : Entry) → IsEntryOf (item_keys kind) (column_of dash_column tree) one → IsItemEntry kind (column_of dash_column tree) one
-    entry one e = record {
-      entry = e.entry;
-      skipped = λ h. skipped_in_item (column_of dash_column tree) one (in_column dash_column tree) (e.skipped h);
-    }
-
-item_new : (kind : ItemKind) (dash_column : ℕ) (tree : ItemTree) (item : ItemOf Slice) → trees.IsItem kind dash_column tree item
-    → IsItem kind dash_column tree item
-item_new kind dash_column tree item i = record {
-  spaced = i.spaced;
-  each = all_weaker (IsItemEntry kind (column_of dash_column tree)) (IsEntryOf (item_keys kind) (column_of dash_column tree)) entry
-      (entries_of tree) i.each;
-  says = i.says;
-}
-  where
-    entry : (one : Entry) → IsItemEntry kind (column_of dash_column tree) one → IsEntryOf (item_keys kind) (column_of dash_column tree) one
-    entry one e = record {
-      entry = e.entry;
-      skipped = λ h. skipped_of_item (column_of dash_column tree) one (in_column dash_column tree) (e.skipped h);
-    }
-
-items_old : (kind : ItemKind) (dash_column : ℕ) (all : List ItemTree) (items : List (ItemOf Slice))
-    → AllZip (IsItem kind dash_column) all items → AllZip (trees.IsItem kind dash_column) all items
-items_old kind dash_column [] [] z = tt
-items_old kind dash_column [] (item ∷ items) z = z
-items_old kind dash_column (tree ∷ all) [] z = z
-items_old kind dash_column (tree ∷ all) (item ∷ items) z =
-    (item_old kind dash_column tree item z.0, items_old kind dash_column all items z.1)
-
-items_new : (kind : ItemKind) (dash_column : ℕ) (all : List ItemTree) (items : List (ItemOf Slice))
-    → AllZip (trees.IsItem kind dash_column) all items → AllZip (IsItem kind dash_column) all items
-items_new kind dash_column [] [] z = tt
-items_new kind dash_column [] (item ∷ items) z = z
-items_new kind dash_column (tree ∷ all) [] z = z
-items_new kind dash_column (tree ∷ all) (item ∷ items) z =
-    (item_new kind dash_column tree item z.0, items_new kind dash_column all items z.1)
-
--- the lines of items in front of others
-pub entries_front : (column : ℕ) (entries : List Entry) (front rest : List Line) → entries_then column entries (front ++ rest)
-    ≡ entries_then column entries front ++ rest
-entries_front column [] front rest = refl
-entries_front column (one ∷ others) front rest =
-    let line : Line = record { number = one.number; at = one.at; text = replicate column space ++ entry_bytes one.entry } in
-    ap (λ (more : List Line). line ∷ more) (ap (λ (more : List Line). one.more ++ more) (entries_front column others front rest)
-    ∙ sym (append_assoc one.more (entries_then column others front) rest))
-
-items_front : (dash_column : ℕ) (all : List ItemTree) (rest : List Line)
-    → items_then dash_column all rest ≡ items_then dash_column all [] ++ rest
-items_front dash_column [] rest = refl
-items_front dash_column (tree ∷ all) rest =
-    let behind = items_then dash_column all [] in
-    let line : Line = record {
-      number = tree.first.number;
-      at = tree.first.at;
-      text = replicate dash_column space ++ dash ∷ (replicate tree.gap space ++ entry_bytes tree.first.entry);
-    } in
-    let column = column_of dash_column tree in
-    ap (λ (more : List Line). line ∷ more) (ap (λ (more : List Line). tree.first.more ++ more)
-    (ap (entries_then column tree.others) (items_front dash_column all rest) ∙ entries_front column tree.others behind rest)
-    ∙ sym (append_assoc tree.first.more (entries_then column tree.others behind) rest))
+use Rattle.macho_stub.proofs.UnderItems.{column_0, skipped_at_top, items_old, items_front}
 
 -- ---- entries of a document, from their lines
 
@@ -289,10 +143,10 @@ old_entries says (one ∷ others) all =
     }
 
 -- the entries that a text is the key of
-abbrev keyed : List ℕ → List Entry → List Entry
+abbrev pub keyed : List ℕ → List Entry → List Entry
 keyed key entries = filter (λ one. bytes_eq one.entry.key key) entries
 
-abbrev keyed_old : List ℕ → List TopEntry → List TopEntry
+abbrev pub keyed_old : List ℕ → List TopEntry → List TopEntry
 keyed_old key olds = filter (λ one. bytes_eq one.entry.key key) olds
 
 none_old : (says : DocumentOf Slice) (key : List ℕ) (entries : List Entry) (olds : List TopEntry) → AllZip (Kin says) entries olds
@@ -451,137 +305,3 @@ documents_old (tree ∷ all) (one ∷ says) z =
           ∙ ap (λ (more : List Line). entries_then 0 tree.entries (end_then tree.ended more)) r.lines);
       are = (subst D same o.is, r.are);
     }
-
--- ---- and back
-
-abbrev lines_under : Under → List Line
-lines_under (Lines more) = more
-lines_under (Listed dash_column all) = items_then dash_column all []
-
--- an entry with the lines under it
-abbrev new_entry : TopEntry → Entry
-new_entry old = record { number = old.number; at = old.at; entry = old.entry; more = lines_under old.under }
-
-abbrev pub new_tree : trees.DocumentTree → DocumentTree
-new_tree old = record { number = old.number; at = old.at; entries = map new_entry old.entries; ended = old.ended }
-
-under_lines : (under : Under) (rest : List Line) → lines_under under ++ rest ≡ under_then under rest
-under_lines (Lines more) rest = refl
-under_lines (Listed dash_column all) rest = sym (items_front dash_column all rest)
-
-entries_lines : (olds : List TopEntry) (rest : List Line) → entries_then 0 (map new_entry olds) rest ≡ top_entries_then olds rest
-entries_lines [] rest = refl
-entries_lines (old ∷ olds) rest =
-    let line : Line = record { number = old.number; at = old.at; text = entry_bytes old.entry } in
-    ap (λ (more : List Line). line ∷ more) (ap (λ (more : List Line). lines_under old.under ++ more) (entries_lines olds rest)
-    ∙ under_lines old.under (top_entries_then olds rest))
-
-pub documents_lines : (olds : List trees.DocumentTree) → documents_then (map new_tree olds) ≡ trees.documents_then olds
-documents_lines [] = refl
-documents_lines (old ∷ olds) =
-    let line : Line = record { number = old.number; at = old.at; text = head } in
-    ap (λ (more : List Line). line ∷ more) (entries_lines old.entries (end_then old.ended (documents_then (map new_tree olds)))
-    ∙ ap (λ (more : List Line). top_entries_then old.entries (end_then old.ended more)) (documents_lines olds))
-
-entry_new : (old : TopEntry) → IsTopEntry old → IsEntryOf document_keys 0 (new_entry old)
-entry_new old e = record { entry = e.entry; skipped = λ h. by old.under (e.skipped h) }
-  where
-    by : (under : Under) → IsSkippedUnder (value_at old.at old.entry) (value_of old.entry) under
-        → IsSkipped 0 (record { number = old.number; at = old.at; entry = old.entry; more = lines_under under })
-    by (Lines more) s = skipped_of_top (record { number = old.number; at = old.at; entry = old.entry; more = more }) s
-    by (Listed dash_column all) s = absurd s
-
-entries_new : (olds : List TopEntry) → AllByRecursion IsTopEntry olds → AllByRecursion (IsEntryOf document_keys 0) (map new_entry olds)
-entries_new [] all = tt
-entries_new (old ∷ olds) all = (entry_new old all.0, entries_new olds all.1)
-
--- what the old entries with a key say, the new ones say
-alone_new : {X : Type 0} (key : List ℕ) (otherwise : Option X) (P : Entry → X → Type 0) (Q : TopEntry → X → Type 0) (x : X)
-    → ((old : TopEntry) → Q old x → P (new_entry old) x) → (olds : List TopEntry) → SaysAlone otherwise Q (keyed_old key olds) x
-    → SaysAlone otherwise P (keyed key (map new_entry olds)) x
-alone_new {X} key otherwise P Q x p olds s =
-    let S : List Entry → Type 0 = λ entries. SaysAlone otherwise P entries x in
-    subst S (sym (keyed_map olds)) (of_map (keyed_old key olds) s)
-  where
-    of_map : (found : List TopEntry) → SaysAlone otherwise Q found x → SaysAlone otherwise P (map new_entry found) x
-    of_map [] s = s
-    of_map (old ∷ []) s = p old s
-    of_map (old ∷ other ∷ more) s = s
-
-    by : (old : TopEntry) (b : Bool) (rest : List Entry) (found : List TopEntry) → rest ≡ map new_entry found
-        → cond b (new_entry old ∷ rest) rest ≡ map new_entry (cond b (old ∷ found) found)
-    by old true rest found e = ap (λ (more : List Entry). new_entry old ∷ more) e
-    by old false rest found e = e
-
-    keyed_map : (olds : List TopEntry) → keyed key (map new_entry olds) ≡ map new_entry (keyed_old key olds)
-    keyed_map [] = refl
-    keyed_map (old ∷ olds) =
-        by old (bytes_eq old.entry.key key) (keyed key (map new_entry olds)) (keyed_old key olds) (keyed_map olds)
-
-number_new : (old : TopEntry) (says : Slice) → trees.SaysNumber old says → SaysNumber (new_entry old) says
-number_new old says s =
-    let V : ℕ → Type 0 = λ k. IsNumberValue (value_at k old.entry) (value_of old.entry) says in
-    (ap lines_under s.0, subst V (sym (column_0 old.at)) s.1)
-
-scalar_new : (old : TopEntry) (says : Slice) → trees.SaysScalar old says → SaysScalar (new_entry old) says
-scalar_new old says s =
-    let V : ℕ → Type 0 = λ k. IsScalarValue (value_at k old.entry) (value_of old.entry) says in
-    (ap lines_under s.0, subst V (sym (column_0 old.at)) s.1)
-
-list_new : (old : TopEntry) (says : List Slice) → SaysList old says → SaysNames 0 (new_entry old) says
-list_new old says s = by old.under s
-  where
-    by : (under : Under) → IsListUnder (value_at old.at old.entry) (value_of old.entry) under says
-        → IsFlowList (value_at (old.at + 0) old.entry) (value_of old.entry) (lines_under under) says
-    by (Lines more) s =
-        let L : ℕ → Type 0 = λ k. IsFlowList (value_at k old.entry) (value_of old.entry) more says in subst L (sym (column_0 old.at)) s
-    by (Listed dash_column all) s = absurd s
-
-some_item : (kind : ItemKind) (dash_column : ℕ) (tree : ItemTree) (all : List ItemTree) (items : List (ItemOf Slice))
-    → AllZip (trees.IsItem kind dash_column) (tree ∷ all) items → 0 < length items
-some_item kind dash_column tree all [] z = absurd z
-some_item kind dash_column tree all (item ∷ items) z = omega arith
-
-items_under_new : (kind : ItemKind) (old : TopEntry) (says : List (ItemOf Slice)) → trees.SaysItems kind old says
-    → SaysItems kind (new_entry old) says
-items_under_new kind old says s = by old.under s.1
-  where
-    by : (under : Under) → AreItemsUnder kind under says
-        → SaysItems kind (record { number = old.number; at = old.at; entry = old.entry; more = lines_under under }) says
-    by (Lines more) a = absurd a
-    by (Listed dash_column []) a = absurd a
-    by (Listed dash_column (tree ∷ all)) a = (
-      s.0,
-      some_item kind dash_column tree all says a,
-      dash_column,
-      tree ∷ all,
-      refl,
-      items_new kind dash_column (tree ∷ all) says a,
-    )
-
-document_new : (old : trees.DocumentTree) (says : DocumentOf Slice) → trees.IsDocument old says → IsDocument (new_tree old) says
-document_new old says d = record {
-  line = d.line;
-  each = entries_new old.entries d.each;
-  version = alone_new (codes "tbd-version") None SaysNumber trees.SaysNumber says.version (λ one s. number_new one says.version s)
-      old.entries d.version;
-  targets = alone_new (codes "targets") None (SaysNames 0) SaysList says.targets (λ one s. list_new one says.targets s) old.entries
-      d.targets;
-  install_name = alone_new (codes "install-name") None SaysScalar trees.SaysScalar says.install_name
-      (λ one s. scalar_new one says.install_name s) old.entries d.install_name;
-  current_version = alone_new (codes "current-version") (Some no_text) SaysScalar trees.SaysScalar says.current_version
-      (λ one s. scalar_new one says.current_version s) old.entries d.current_version;
-  libraries = alone_new (codes "reexported-libraries") (Some []) (SaysItems Libraries) (trees.SaysItems Libraries) says.libraries
-      (λ one s. items_under_new Libraries one says.libraries s) old.entries d.libraries;
-  exports = alone_new (codes "exports") (Some []) (SaysItems Exports) (trees.SaysItems Exports) says.exports
-      (λ one s. items_under_new Exports one says.exports s) old.entries d.exports;
-  reexports = alone_new (codes "reexports") (Some []) (SaysItems Reexports) (trees.SaysItems Reexports) says.reexports
-      (λ one s. items_under_new Reexports one says.reexports s) old.entries d.reexports;
-}
-
-pub documents_new : (olds : List trees.DocumentTree) (says : List (DocumentOf Slice)) → AllZip trees.IsDocument olds says
-    → AllZip IsDocument (map new_tree olds) says
-documents_new [] [] z = tt
-documents_new [] (one ∷ says) z = z
-documents_new (old ∷ olds) [] z = z
-documents_new (old ∷ olds) (one ∷ says) z = (document_new old one z.0, documents_new olds says z.1)

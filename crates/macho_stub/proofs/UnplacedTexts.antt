@@ -17,8 +17,9 @@ use Rattle.macho_stub.specs.Grammar.{entry_lines, IsEntryOf, SaysUnder, IsFlowLi
 use Rattle.macho_stub.specs.Places.{document_keys}
 use Rattle.macho_stub.specs.Places as old
 use Rattle.macho_stub.specs.Places.{DocumentTree, entries_then, end_then, documents_then, no_text}
-use Rattle.macho_stub.proofs.Unders.{entries_front}
-use Rattle.macho_stub.proofs.UnplacedItems.{Cut, cut, forget, Sound, entries_lines, entries_placed, each_sound, each_forth, each_back, says_forth, says_back, must, some_none, list_forth, list_back, number_forth, number_back, scalar_forth, scalar_back, items_forth, items_back}
+use Rattle.macho_stub.proofs.UnderItems.{entries_front}
+use Rattle.macho_stub.proofs.UnplacedEntries.{Cut, cut, forget, Sound, entries_lines, entries_placed, each_sound, each_forth, each_back, says_forth, says_back, must, some_none, list_forth, list_back}
+use Rattle.macho_stub.proofs.UnplacedItems.{number_forth, number_back, scalar_forth, scalar_back, items_forth, items_back}
 
 -- a line by its number and its text
 abbrev pub numbered : Line → ℕ × List ℕ
@@ -57,7 +58,8 @@ under_forth key kind says entries sound = says_forth key (Some []) (Some []) (ol
 under_back : (key : List ℕ) (kind : ItemKind) (items : List ItemFields) (entries : List old.Entry) → AllByRecursion Sound entries
     → SaysUnder key (Some []) (SaysItems kind) (map forget entries) items
     → (says : Items) × old.SaysUnder key (Some []) (old.SaysItems kind) entries says × (map item_texts says ≡ items)
-under_back key kind items entries sound = says_back key (Some []) (Some []) (old.SaysItems kind) (SaysItems kind) (λ says. map item_texts says)
+under_back key kind items entries sound =
+    says_back key (Some []) (Some []) (old.SaysItems kind) (SaysItems kind) (λ says. map item_texts says)
     items (no_items items) (items_back kind items) entries sound
 
 -- ---- lines of documents
@@ -98,7 +100,8 @@ end_texts (Some line) = refl
 
 -- ---- documents without places
 
-document_forth : (tree : DocumentTree) (says : DocumentOf Slice) → old.IsDocument tree says → IsDocument (document_lines tree) (document_texts says)
+document_forth : (tree : DocumentTree) (says : DocumentOf Slice) → old.IsDocument tree says
+    → IsDocument (document_lines tree) (document_texts says)
 document_forth tree says d =
     let sound = each_sound document_keys 0 tree.entries d.each in
     let entries = map forget tree.entries in
@@ -165,7 +168,8 @@ first_line (other ∷ part) line e = let same : other ≡ line = cc in ap (λ (l
 document_placed : (part : List (ℕ × List ℕ)) (document : DocumentFields) → IsDocument part document → (lines : List Line)
     → (rest : List (ℕ × List ℕ)) → numbered_lines lines ≡ part ++ rest → DocumentPlaced document lines rest
 document_placed part document d lines rest e =
-    by_cut (cut numbered lines ((document.line, head) ∷ drop 1 part) rest (e ∙ ap (λ (p : List (ℕ × List ℕ)). p ++ rest) (first_line part (document.line, head) d.begins)))
+    by_cut (cut numbered lines ((document.line, head) ∷ drop 1 part) rest
+    (e ∙ ap (λ (p : List (ℕ × List ℕ)). p ++ rest) (first_line part (document.line, head) d.begins)))
   where
     says_of : (number at : ℕ) (entries : List old.Entry) (ended : Option (ℕ × ℕ)) → number ≡ document.line → AllByRecursion Sound entries
         → map forget entries ≡ d.entries → (says : DocumentOf Slice)

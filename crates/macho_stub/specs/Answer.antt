@@ -38,8 +38,8 @@ pub record DocumentStands (text : List ℕ) (document : DocumentOf Slice) : Type
   pub exports : AllByRecursion (ItemStands text) document.exports
   pub reexports : AllByRecursion (ItemStands text) document.reexports
 
--- Each text that `IsStubLines` says of a text is a slice of it: the text is in the grammar with places (`IsStubText`) exactly where it is in
--- the grammar without, it says the same, and each slice stands at its place.
+-- Each text that `IsStubLines` says of a text is a slice of it: the text is in the grammar with places (`IsStubText`) exactly where it is
+-- in the grammar without, it says the same, and each slice stands at its place.
 pub record SaysSlices (text : List ℕ) : Type 0 where
   pub has : (says : List DocumentFields) → IsStubLines (lines text) says
       → (slices : List (DocumentOf Slice)) × IsStubText text slices × (documents_texts slices ≡ says)

@@ -51,8 +51,8 @@ SaysText Spells entry text = (entry.under ≡ [])
     × (bytes : List ℕ) × (tail : List ℕ) × (value_of entry ≡ bytes ++ tail) × Spells bytes text × (is_tail tail ≡ true)
 
 -- An entry whose key is in this column. If its key isn't among those that are read, it is skipped with the lines under it: it has a flow
--- list, or its value doesn't begin with an opening bracket (91). In the latter case each of the lines begins with more spaces than the key's
--- column, or, if the key is in column 0, with a dash and a space.
+-- list, or its value doesn't begin with an opening bracket (91). In the latter case each of the lines begins with more spaces than the
+-- key's column, or, if the key is in column 0, with a dash and a space.
 pub record IsEntryOf (read : List (List ℕ)) (column : ℕ) (entry : Entry) : Type 0 where
   pub is : IsEntry entry.key entry.behind
   pub skipped : list_any (bytes_eq entry.key) read ≡ false → ((texts : List (List ℕ)) × IsFlowList entry texts)
@@ -115,8 +115,8 @@ pub record IsDocument (lines : List (ℕ × List ℕ)) (says : DocumentFields) :
   pub reexports : SaysUnder (codes "reexports") (Some []) (SaysItems Reexports) entries says.reexports
 
 -- The lines are documents that say this, and passed-over lines: no line has a byte that may stand nowhere, and the lines with content are
--- those of the documents. No key is lacking that must stand, and none that is read stands twice. (That a text is UTF-8 is said elsewhere: by
--- the type of the call's input, and by `IsStubInput`.)
+-- those of the documents. No key is lacking that must stand, and none that is read stands twice. (That a text is UTF-8 is said elsewhere:
+-- by the type of the call's input, and by `IsStubInput`.)
 pub record IsStubLines (lines : List (List ℕ)) (says : List DocumentFields) : Type 0 where
   pub clean : AllByRecursion (λ line. has_barred line ≡ false) lines
   pub parts : List (List (ℕ × List ℕ))

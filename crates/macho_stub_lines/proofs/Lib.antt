@@ -10,10 +10,11 @@ pub mod ListTreesRemains
 pub mod ListTreesShape
 pub mod ListTreesTails
 pub mod ListTreesTokens
+pub mod NoNuls
 pub mod NumberTrees
 pub mod Parts
 pub mod Places
 pub mod Runs
 pub mod ScalarTrees
-pub mod NoNuls
 pub mod Unplaced
+pub mod UnplacedScalars

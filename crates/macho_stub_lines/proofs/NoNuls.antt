@@ -17,7 +17,8 @@ plain_cons b bytes first rest (suc k) d lt = rest k d (omega arith)
 pub unbarred : UnbarredIsPlain
 unfolding has_barred
 unbarred [] h = λ k d lt. absurd (omega arith)
-unbarred (b ∷ bytes) h = plain_cons b bytes (not_nul b (first (is_barred b) (has_barred bytes) h)) (unbarred bytes (rest (is_barred b) (has_barred bytes) h))
+unbarred (b ∷ bytes) h =
+    plain_cons b bytes (not_nul b (first (is_barred b) (has_barred bytes) h)) (unbarred bytes (rest (is_barred b) (has_barred bytes) h))
   where
     first : (x y : Bool) → (x || y) ≡ false → x ≡ false
     first true y e = e

@@ -23,9 +23,9 @@ abbrev pub IsNumber : List ℕ → List ℕ → Type 0
 IsNumber digits text = (0 < length digits) × AllByRecursion (λ b. is_ascii_digit b ≡ true) digits
     × (zeros : ℕ) × (digits ≡ replicate zeros 48 ++ text) × (slice_index text 0 ≢ 48)
 
--- What may stand between the parts of a list, in front of the rest. Both are lists of lines, of which the first is what is left of its line.
--- It is spaces; or the rest of a line, which is spaces and a comment at most, and on the next line again what may stand between. The first of the lines begins behind the part before. (Blank lines and lines of
--- a comment alone aren't among the lines of a list.)
+-- What may stand between the parts of a list, in front of the rest. Both are lists of lines, of which the first is what is left of its
+-- line. It is spaces; or the rest of a line, which is spaces and a comment at most, and on the next line again what may stand between. The
+-- first of the lines begins behind the part before. (Blank lines and lines of a comment alone aren't among the lines of a list.)
 pub data IsGap : List (List ℕ) → List (List ℕ) → Type 0 where
   spaces : (count : ℕ) (line : List ℕ) (more : List (List ℕ)) → IsGap ((replicate count space ++ line) ∷ more) (line ∷ more)
   turn : (tail : List ℕ) (lines rest : List (List ℕ)) → is_tail tail ≡ true → IsGap lines rest → IsGap (tail ∷ lines) rest

@@ -212,13 +212,9 @@ judged_more l ss us old new f s r word t holds is before noted leads held = reco
     addend = if_first_of (IsBadAddend l) f.addend (bad_addend at (pointer_of l s r) t) before.standing.addend
         (bad_stands l s r word t is leads);
     place = if_first (IsBadPlace l) (misplaced holds (pointer_of l s r) t) f.place at before.standing.place
-        (λ e. let h = both (needs_fixup l s (field_of l s r)) (not (may_hold_pointers (segment_name_of (header_at l s)))) (sym place ∙ e) in (
-          field_of l s r,
-          field_is l s r word is (pointed h.0),
-          h.0,
-          false_of_not
-              (may_hold_pointers (segment_name_of (header_at l s))) h.1,
-        ));
+        (λ e. let may = may_hold_pointers (segment_name_of (header_at l s)) in
+        let h = both (needs_fixup l s (field_of l s r)) (not may) (sym place ∙ e) in
+        (field_of l s r, field_is l s r word is (pointed h.0), h.0, false_of_not may h.1));
   };
   fine = λ c. All-push (IsFine l) us (ByRelocation s r) (before.fine (clean c)) (fine c);
   apart = λ c. before.apart (clean c);

@@ -58,7 +58,16 @@ pub count_is : (s : Solved) (n : ℕ) → n ≡ vec_len s.imports → n ≡ leng
 count_is s n is = is ∙ vec_len_is s.imports ∙ sym (length-map s.imports.items (λ i. i.name.items))
 
 pub same_grown : (s : Solved) → HasGrown s s
-same_grown s = record { files = refl; heads = refl; entries = refl; found = refl; commons = refl; more = []; imports = sym (append-nil s.imports.items) }
+same_grown s
+    = record {
+      files = refl;
+      heads = refl;
+      entries = refl;
+      found = refl;
+      commons = refl;
+      more = [];
+      imports = sym (append-nil s.imports.items);
+    }
 
 pub none_noted_yet : (s : Solved) → IsSolved s → HaveNoted s s []
 unfolding noting_names_in
@@ -169,7 +178,8 @@ missing_among files fs vs i v name (ExportListMissing n) within here is same tol
 
 -- what was noted is taken off
 pub taken_back : (a b c : Solved) (n : ℕ) → HasGrown a b → n ≡ length a.imports.items → c.files.items ≡ b.files.items
-    → heads_of c.table ≡ heads_of b.table → c.table.entries.items ≡ b.table.entries.items → c.found.items ≡ b.found.items → c.commons.items ≡ b.commons.items
+    → heads_of c.table ≡ heads_of b.table → c.table.entries.items ≡ b.table.entries.items → c.found.items ≡ b.found.items
+    → c.commons.items ≡ b.commons.items
     → c.imports.items ≡ take n b.imports.items → c.numbers.items ≡ a.numbers.items → IsUnchanged a c
 taken_back a b c n grown long files heads entries found commons imports numbers = record {
   files = files ∙ grown.files;

@@ -256,7 +256,8 @@ defines_here l noted r file symbol is there =
 pub name_here : (l : Link) (noted : List (List ℕ)) (r : ResolvedRows) (file symbol : ℕ) → IsResolved l noted r → HasSymbol r file symbol
     → is_global (entry_at l (symbol_id file symbol)) ≡ true → (event_at r.files file symbol).row.name ≡ name_at l (symbol_id file symbol)
 unfolding row_of_symbol
-name_here l noted r file symbol is there global = ap (λ (e : Event). e.row.name) (symbol_kept l noted r file symbol is there) ∙ rw global refl
+name_here l noted r file symbol is there global = ap (λ (e : Event). e.row.name) (symbol_kept l noted r file symbol is there)
+    ∙ rw global refl
 
 pub commons_here : (l : Link) (noted : List (List ℕ)) (r : ResolvedRows) → IsResolved l noted r
     → map common_told (chosen_in r.files) ≡ map (common_of l) (chosen_commons l)

@@ -116,7 +116,9 @@ fn add_commons(
     requires file { file < length files.now }
     requires found { AreFound files.now table.now.entries.items (length files.now) found.now }
     requires known { IsKnown files.now (heads_of table.now) table.now.entries.items (events files.now) }
-    ensures added { OnOk result (commons.new.items ≡ commons.old.items ++ map common_told (filter (is_chosen_in files.now) (events_of_file files.now file (row_count files.now file)))) }
+    ensures added { OnOk result
+        (commons.new.items ≡ commons.old.items
+        ++ map common_told (filter (is_chosen_in files.now) (events_of_file files.now file (row_count files.now file)))) }
     ensures why { IfErr result (λ fault. fault ≡ SymbolFault.OutOfMemory) }
 {
     for row in 0..rows_in(files, file) {

@@ -54,7 +54,9 @@ impl<'data> Solved<'data> {
     fn is_noted(&self, number: usize) -> bool
         requires solved { IsSolved self.now }
         requires entry { number < length self.now.table.entries.items }
-        ensures { result ≡ list_any (bytes_eq (get_or (names_of self.now.files.items self.now.table.entries.items) number [])) (noted_of self.now.imports.items) }
+        ensures { result
+            ≡ list_any (bytes_eq (get_or (names_of self.now.files.items self.now.table.entries.items) number []))
+            (noted_of self.now.imports.items) }
     {
         self.numbers[number] != UNNUMBERED
     }
@@ -64,7 +66,9 @@ impl<'data> Solved<'data> {
     fn is_open(&self, number: usize, lists: bool) -> bool
         requires solved { IsSolved self.now }
         requires entry { number < length self.now.table.entries.items }
-        ensures { result ≡ is_open_in self.now.files.items (noted_of self.now.imports.items) lists (get_or (names_of self.now.files.items self.now.table.entries.items) number []) }
+        ensures { result
+            ≡ is_open_in self.now.files.items (noted_of self.now.imports.items) lists
+            (get_or (names_of self.now.files.items self.now.table.entries.items) number []) }
     {
         let entry = self.table.entry(number);
         let note = note_in(&self.files, entry.file, entry.row as usize);
@@ -79,7 +83,9 @@ impl<'data> Solved<'data> {
     fn is_exported(&self, number: usize, list: Option<&ExportList>) -> bool
         requires solved { IsSolved self.now }
         requires entry { number < length self.now.table.entries.items }
-        ensures { result ≡ is_exported_in self.now.files.items (noted_of self.now.imports.items) (option_copied list.entry) (get_or (names_of self.now.files.items self.now.table.entries.items) number []) }
+        ensures { result
+            ≡ is_exported_in self.now.files.items (noted_of self.now.imports.items) (option_copied list.entry)
+            (get_or (names_of self.now.files.items self.now.table.entries.items) number []) }
     {
         self.is_open(number, list.is_some()) && is_listed(list, self.entry_name(number))
     }
@@ -94,7 +100,9 @@ impl<'data> Solved<'data> {
     ) -> Result<Vec<(&[u8], usize)>, SymbolFault>
         requires { IsSolved self.now }
         ensures each { IfOk result (λ v. All (IsPairIn self.now.files.items self.now.table.entries.items) v.items) }
-        ensures order { IfOk result (λ v. AreInOrder (is_exported_in self.now.files.items (noted_of self.now.imports.items) (option_copied list.entry)) (pair_names v.items)) }
+        ensures order { IfOk result
+            (λ v. AreInOrder (is_exported_in self.now.files.items (noted_of self.now.imports.items) (option_copied list.entry))
+            (pair_names v.items)) }
         ensures why { IfErr result (λ fault. fault ≡ SymbolFault.OutOfMemory) }
     {
         let mut names = Vec::new(alloc);
@@ -171,7 +179,8 @@ impl<'data> Solved<'data> {
     /// Refuses lists of which an entry without a star has no definition.
     fn find_required(&self, alloc: Global, list: Option<&ExportList>) -> Result<(), SymbolFault>
         requires { IsSolved self.now }
-        ensures found { OnOk result (All (λ name. is_missing_in self.now.files.items name ≡ false) (required_in (option_copied list.entry))) }
+        ensures found { OnOk result
+            (All (λ name. is_missing_in self.now.files.items name ≡ false) (required_in (option_copied list.entry))) }
         ensures why { IfErr result (IsMissingIn self.now.files.items (required_in (option_copied list.entry))) }
     {
         match list {
@@ -188,8 +197,11 @@ impl<'data> Solved<'data> {
     ) -> Result<Vec<ExportName>, SymbolFault>
         requires { IsSolved self.now }
         ensures told { IfOk result (λ es. All (IsToldIn self.now.files.items (noted_of self.now.imports.items)) es.items) }
-        ensures order { IfOk result (λ es. AreInOrder (is_exported_in self.now.files.items (noted_of self.now.imports.items) (option_copied list.entry)) (export_names es.items)) }
-        ensures found { OnOk result (All (λ name. is_missing_in self.now.files.items name ≡ false) (required_in (option_copied list.entry))) }
+        ensures order { IfOk result
+            (λ es. AreInOrder (is_exported_in self.now.files.items (noted_of self.now.imports.items) (option_copied list.entry))
+            (export_names es.items)) }
+        ensures found { OnOk result
+            (All (λ name. is_missing_in self.now.files.items name ≡ false) (required_in (option_copied list.entry))) }
         ensures why { IfErr result (IsMissingIn self.now.files.items (required_in (option_copied list.entry))) }
     {
         self.find_required(alloc, list)?;

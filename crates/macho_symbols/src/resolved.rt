@@ -42,7 +42,8 @@ impl<'data> Model for Resolved<'data> {
 impl<'data> Resolved<'data> {
     /// What a global name leads to: `Target::None` for a name without a definition.
     pub fn definition(&self, name: &[u8]) -> Target
-        ensures { (l : Link) (noted : List (List ℕ)) → IsResolved l noted self.now → result ≡ definition_target l noted name.now (definition_of l name.now) }
+        ensures { (l : Link) (noted : List (List ℕ)) → IsResolved l noted self.now
+            → result ≡ definition_target l noted name.now (definition_of l name.now) }
     {
         self.solved.named(name)
     }
@@ -97,8 +98,10 @@ impl<'data> Resolved<'data> {
             → OnOk result (IsResolved l (noting l noted (symbol_id file symbol)) self.new) }
         ensures target { (l : Link) (noted : List (List ℕ)) → IsResolved l noted self.old
             → IfOk result (λ t. t ≡ target_with l noted (symbol_id file symbol)) }
-        ensures found { (l : Link) (noted : List (List ℕ)) → IsResolved l noted self.old → OnOk result (IsDefined l (symbol_id file symbol)) }
-        ensures why { (l : Link) (noted : List (List ℕ)) → IsResolved l noted self.old → IfErr result (IsUndefined l (symbol_id file symbol)) }
+        ensures found { (l : Link) (noted : List (List ℕ)) → IsResolved l noted self.old
+            → OnOk result (IsDefined l (symbol_id file symbol)) }
+        ensures why { (l : Link) (noted : List (List ℕ)) → IsResolved l noted self.old
+            → IfErr result (IsUndefined l (symbol_id file symbol)) }
         ensures kept { OnErr result (self.new ≡ self.old) }
     {
         self.solved.note_use(file, symbol as usize)

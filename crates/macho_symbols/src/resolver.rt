@@ -65,7 +65,8 @@ impl<'data> Resolver<'data> {
     pub fn add_object(&mut self, file: &File<'data>) -> Result<u32, AllocError>
         requires object { file.now.is_dynamic ≡ false }
         requires few { length self.old < 2 ^ 32 - 1 }
-        ensures added { (inputs : List Input) → Keeps inputs self.old → OnOk result (Keeps (inputs ++ Object file.now.bytes ∷ []) self.new) }
+        ensures added { (inputs : List Input) → Keeps inputs self.old
+            → OnOk result (Keeps (inputs ++ Object file.now.bytes ∷ []) self.new) }
         ensures number { IfOk result (λ n. n ≡ length self.old) }
         ensures kept { OnErr result (self.new ≡ self.old) }
     {

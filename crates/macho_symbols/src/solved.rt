@@ -183,7 +183,9 @@ impl<'data> Solved<'data> {
     pub(crate) fn lead(&self, number: usize) -> Target
         requires solved { IsSolved self.now }
         requires entry { number < length self.now.table.entries.items }
-        ensures { result ≡ named_in self.now.files.items (noted_of self.now.imports.items) (get_or (names_of self.now.files.items self.now.table.entries.items) number []) }
+        ensures { result
+            ≡ named_in self.now.files.items (noted_of self.now.imports.items)
+            (get_or (names_of self.now.files.items self.now.table.entries.items) number []) }
     {
         let entry = self.table.entry(number);
         match note_in(&self.files, entry.file, entry.row as usize).sort {
@@ -249,7 +251,8 @@ impl<'data> Solved<'data> {
     pub(crate) fn note(&mut self, number: usize, name: Vec<u8>) -> Result<(), SymbolFault>
         requires solved { IsSolved self.old }
         requires entry { IsEntryOf self.old.files.items self.old.table.entries.items name.items number }
-        requires import { named_in self.old.files.items (noted_of self.old.imports.items) name.items ≡ Target.Import (length (noted_of self.old.imports.items)) }
+        requires import { named_in self.old.files.items (noted_of self.old.imports.items) name.items
+            ≡ Target.Import (length (noted_of self.old.imports.items)) }
         ensures solved { OnOk result (IsSolved self.new) }
         ensures noted { OnOk result (noted_of self.new.imports.items ≡ noted_of self.old.imports.items ++ name.items ∷ []) }
         ensures grown { OnOk result (HasGrown self.old self.new) }
@@ -300,7 +303,8 @@ impl<'data> Solved<'data> {
         requires file { file < length self.now.files.items }
         requires row { row < row_count self.now.files.items file }
         requires global { (row_at self.now.files.items file row).global ≡ true }
-        requires nothing { is_nothing (named_in self.now.files.items (noted_of self.now.imports.items) (row_at self.now.files.items file row).name) ≡ true }
+        requires nothing { is_nothing
+            (named_in self.now.files.items (noted_of self.now.imports.items) (row_at self.now.files.items file row).name) ≡ true }
         ensures { IsUndefinedIn self.now.files.items (noted_of self.now.imports.items) (event_at self.now.files.items file row) result }
     {
         let alloc = *self.imports.allocator();
@@ -316,9 +320,11 @@ impl<'data> Solved<'data> {
         requires row { row < row_count self.old.files.items file }
         requires global { (row_at self.old.files.items file row).global ≡ true }
         requires solved { IsSolved self.old }
-        requires import { named_in self.old.files.items (noted_of self.old.imports.items) (row_at self.old.files.items file row).name ≡ Target.Import (length (noted_of self.old.imports.items)) }
+        requires import { named_in self.old.files.items (noted_of self.old.imports.items) (row_at self.old.files.items file row).name
+            ≡ Target.Import (length (noted_of self.old.imports.items)) }
         ensures solved { OnOk result (IsSolved self.new) }
-        ensures noted { OnOk result (noted_of self.new.imports.items ≡ noted_of self.old.imports.items ++ (row_at self.old.files.items file row).name ∷ []) }
+        ensures noted { OnOk result
+            (noted_of self.new.imports.items ≡ noted_of self.old.imports.items ++ (row_at self.old.files.items file row).name ∷ []) }
         ensures files { self.new.files.items ≡ self.old.files.items }
         ensures kept { OnErr result (IsUnchanged self.old self.new) }
         ensures why { IfErr result (λ fault. fault ≡ SymbolFault.OutOfMemory) }
@@ -336,11 +342,16 @@ impl<'data> Solved<'data> {
         requires solved { IsSolved self.old }
         ensures solved { OnOk result (IsSolved self.new) }
         ensures files { self.new.files.items ≡ self.old.files.items }
-        ensures noted { OnOk result (noted_of self.new.imports.items ≡ noting_in self.old.files.items (noted_of self.old.imports.items) (event_at self.old.files.items file row)) }
-        ensures target { IfOk result (λ t. t ≡ target_in self.old.files.items (noted_of self.old.imports.items) (event_at self.old.files.items file row)) }
-        ensures found { OnOk result (IsFoundIn self.old.files.items (noted_of self.old.imports.items) (event_at self.old.files.items file row)) }
+        ensures noted { OnOk result
+            (noted_of self.new.imports.items
+            ≡ noting_in self.old.files.items (noted_of self.old.imports.items) (event_at self.old.files.items file row)) }
+        ensures target { IfOk result
+            (λ t. t ≡ target_in self.old.files.items (noted_of self.old.imports.items) (event_at self.old.files.items file row)) }
+        ensures found { OnOk result
+            (IsFoundIn self.old.files.items (noted_of self.old.imports.items) (event_at self.old.files.items file row)) }
         ensures kept { OnErr result (IsUnchanged self.old self.new) }
-        ensures why { IfErr result (IsUndefinedIn self.old.files.items (noted_of self.old.imports.items) (event_at self.old.files.items file row)) }
+        ensures why { IfErr result
+            (IsUndefinedIn self.old.files.items (noted_of self.old.imports.items) (event_at self.old.files.items file row)) }
     {
         let target = self.target(file, row);
         if !note_in(&self.files, file, row).global {

@@ -140,7 +140,8 @@ same_target_is target.None = refl
 
 pub slots_differ : (l : Link) → EachLater (λ t u. same_target t u ≡ false) (slots_of l)
 slots_differ l =
-    subst (EachLater (λ t u. same_target t u ≡ false)) (sym (slots_are l)) (distinct_later same_target (filter_map (slot_of_use l) (uses_of l)))
+    subst (EachLater (λ t u. same_target t u ≡ false)) (sym (slots_are l))
+    (distinct_later same_target (filter_map (slot_of_use l) (uses_of l)))
 
 -- targets that pass the test are one
 pub same_targets : (t u : Target) → same_target t u ≡ true → t ≡ u

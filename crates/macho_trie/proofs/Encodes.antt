@@ -365,7 +365,8 @@ pub put_over : (text bytes now : List ℕ) (count : ℕ) → now ≡ put 0 text 
     → take count (now ++ drop (length now) bytes) ≡ text
 unfolding put
 put_over text bytes now count is same long =
-    let whole : put 0 text bytes ≡ text = ap (λ (n : ℕ). text ++ drop n bytes) (omega (arith, same)) ∙ ap (λ (t : List ℕ). text ++ t) (drop-length bytes)
+    let whole : put 0 text bytes ≡ text = ap (λ (n : ℕ). text ++ drop n bytes) (omega (arith, same))
+    ∙ ap (λ (t : List ℕ). text ++ t) (drop-length bytes)
     ∙ append-nil text in
     let all = is ∙ whole in
     ap (λ (n : ℕ). take n (now ++ drop (length now) bytes)) (omega (arith, long, same, ap length all))

@@ -36,7 +36,8 @@ impl<'a> Layout<'a> {
         requires places { length self.now.rows.now < length places.now }
         requires room { at + length (tree_bytes (says_at self.now) (slice_index places.now) 0 (tree_at self.now)) ≤ length out.old }
         ensures length { length out.new ≡ length out.old }
-        ensures done { OnOk result (out.new ≡ put at (tree_bytes (says_at self.now) (slice_index places.now) 0 (tree_at self.now)) out.old) }
+        ensures done { OnOk result
+            (out.new ≡ put at (tree_bytes (says_at self.now) (slice_index places.now) 0 (tree_at self.now)) out.old) }
     {
         let mut node = Vec::new(alloc);
         let mut place = at;
@@ -55,7 +56,8 @@ impl<'a> Layout<'a> {
         requires here { row < length self.now.rows.now }
         requires places { length self.now.rows.now ≤ length places.now }
         ensures { OnOk result (out.new.items ≡ out.old.items
-            ++ node_bytes (says_at self.now) (slice_index places.now) row (symbol_at (row_at self.now.rows.now row)) (children_of self.now row)) }
+            ++ node_bytes (says_at self.now) (slice_index places.now) row (symbol_at (row_at self.now.rows.now row))
+            (children_of self.now row)) }
     {
         let node = self.rows[row];
         self.write_terminal(out, node)?;

@@ -72,7 +72,8 @@ impl<'a> Symbols<'a> {
         import_name: &'a [u8],
     ) -> Result<(), AllocError>
         requires { HasNoNul import_name.now }
-        ensures done { OnOk result (symbols_of self.new ≡ with_symbol (symbols_of self.old) name.now (as_reexport REEXPORT ordinal import_name.now)) }
+        ensures done { OnOk result
+            (symbols_of self.new ≡ with_symbol (symbols_of self.old) name.now (as_reexport REEXPORT ordinal import_name.now)) }
         ensures names { OnOk result (names_of self.new ≡ with_name (names_of self.old) name.now) }
         ensures kept { OnErr result (symbols_of self.new ≡ symbols_of self.old) }
     {

@@ -7,7 +7,7 @@ use Rattle.std.proofs.Common.{◌≡◌, ℕ, ◌+◌, ◌<◌, ◌≤◌, List,
 use Rattle.macho_bytes.specs.Texts.{Stands}
 use Rattle.macho_bytes.proofs.Puts.{stands_by_bytes}
 use Rattle.macho_unwind_pages.specs.declared.entries.ResolvedUnwindInfo.{ResolvedUnwindInfo}
-use Rattle.macho_unwind_pages.specs.Entries.{AreEntries, inputs_of, ids_of, named_ids}
+use Rattle.macho_unwind_pages.specs.Entries.{AreEntries, inputs_of, ids_of}
 use Rattle.macho_unwind_pages.specs.declared.paging.Row.{Row}
 use Rattle.macho_unwind_pages.specs.Plans.{PlanList}
 use Rattle.macho_unwind.specs.Entries.{found_for, IsEntryOf, BeginsWith, FindsEntries, FindsOnlyEntries, FindsNothing, IsSectionOf}
@@ -84,7 +84,8 @@ finds-only-entries text entries section are s bytes begins offset x finds =
     } in record {
       entry = top.item;
       of_offset = of;
-      is = finds-unique bytes offset x (found_for text top.item) finds (finds-entries text entries section are s bytes begins offset top.item of);
+      is = finds-unique bytes offset x (found_for text top.item) finds
+          (finds-entries text entries section are s bytes begins offset top.item of);
     }
 
 -- THE law
@@ -102,6 +103,6 @@ no-entry-of text entries section none bytes begins offset e of = absurd (omega (
 
 -- no entries name no personality
 pub no-ids : (entries : List ResolvedUnwindInfo) → length entries ≡ 0 → length (ids_of (inputs_of entries)) ≤ 3
-unfolding named_ids in_order
+unfolding in_order
 no-ids [] none = omega arith
 no-ids (e ∷ entries) none = absurd (omega arith)

@@ -69,7 +69,8 @@ pub record PlanStands (bytes : List ℕ) (plan : PlanList) : Type 0 where
   pub globals : Stands bytes (record { at = 28; text = row_bytes little 4 plan.globals })
   pub personalities : Stands bytes (record { at = personalities_place plan; text = row_bytes little 4 plan.personalities })
   pub entries : Stands bytes (record { at = entries_place plan; text = flat_map (entry_text plan) (range_with_len 0 (length plan.pages)) })
-  pub last : Stands bytes (record { at = entries_place plan + 12 * length plan.pages; text = spelling page_entry_rows (last_entry_for plan) })
+  pub last : Stands bytes
+      (record { at = entries_place plan + 12 * length plan.pages; text = spelling page_entry_rows (last_entry_for plan) })
   pub lsdas : Stands bytes (record { at = lsdas_place plan; text = flat_map lsda_text plan.lsdas })
   pub pages : Stands bytes (record { at = pages_place plan; text = flat_map page_text plan.pages })
   pub whole : size_of plan ≤ length bytes

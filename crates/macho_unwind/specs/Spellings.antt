@@ -11,7 +11,15 @@ use Rattle.macho_unwind.specs.Layouts.{compact_unwind_info_header, page_entry, c
 abbrev pub compact_unwind_info_header_rows : Spelled CompactUnwindInfoHeader
 compact_unwind_info_header_rows = record {
   layout = compact_unwind_info_header;
-  blank = record { version = 0; global_opcodes_offset = 0; global_opcodes_len = 0; personalities_offset = 0; personalities_len = 0; pages_offset = 0; pages_len = 0 };
+  blank = record {
+    version = 0;
+    global_opcodes_offset = 0;
+    global_opcodes_len = 0;
+    personalities_offset = 0;
+    personalities_len = 0;
+    pages_offset = 0;
+    pages_len = 0;
+  };
   rows =
       numbers 4 (λ r. r.version ∷ r.global_opcodes_offset ∷ r.global_opcodes_len
       ∷ r.personalities_offset ∷ r.personalities_len ∷ r.pages_offset ∷ r.pages_len ∷ [])

@@ -42,9 +42,9 @@ page_text page =
     ∷ (size_of compressed_page + WORD * length page.words) ∷ length page.locals ∷ []))
     ++ row_bytes little WORD page.words ++ row_bytes little WORD page.locals
 
--- The section. Its header has version 1, and the place and the number of each table. The entry of a page has the place of the first LSDA entry
--- of a function that starts no earlier than the page's first one; the last entry has the end of the last function, no page, and the end of the
--- LSDA entries.
+-- The section. Its header has version 1, and the place and the number of each table. The entry of a page has the place of the first LSDA
+-- entry of a function that starts no earlier than the page's first one; the last entry has the end of the last function, no page, and the
+-- end of the LSDA entries.
 unfoldable pub section_text : PlanList → List ℕ
 section_text plan =
     row_bytes little 4 (1 ∷ size_of compact_unwind_info_header ∷ length plan.globals ∷ personalities_place plan ∷ length plan.personalities

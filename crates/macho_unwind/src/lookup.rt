@@ -193,7 +193,8 @@ fn read_page(bytes: &[u8], header: CompactUnwindInfoHeader, number: u32) -> Opti
 fn find_function(bytes: &[u8], page: Page, offset: u32) -> Option<u32>
     requires page { IsPage bytes.now page }
     requires first { first_at bytes.now page.number ≤ offset }
-    ensures { MatchOption result ((j : ℕ) → IsFunctionOf bytes.now page.number offset j → ⊥) (λ w. IsWordOf bytes.now page.number offset w) }
+    ensures { MatchOption result ((j : ℕ) → IsFunctionOf bytes.now page.number offset j → ⊥)
+        (λ w. IsWordOf bytes.now page.number offset w) }
 {
     let limit = offset - page.entry.first_address;
     let mut best = None;

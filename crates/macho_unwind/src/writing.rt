@@ -92,7 +92,8 @@ fn lsdas_before(lsdas: &[Lsda], start: u32) -> usize
 pub(crate) fn section_size(plan: &Plan) -> Option<usize>
     requires plan { IsPlan (plan_list plan.now) }
     requires some { 0 < length plan.now.pages.items }
-    ensures { MatchOption result (2 ^ 32 ≤ last_place (plan_list plan.now)) (λ n. (n ≡ size_of (plan_list plan.now)) × HasPlaces (plan_list plan.now)) }
+    ensures { MatchOption result (2 ^ 32 ≤ last_place (plan_list plan.now))
+        (λ n. (n ≡ size_of (plan_list plan.now)) × HasPlaces (plan_list plan.now)) }
 {
     if plan.pages.len() >= 1 << 29 || plan.lsdas.len() >= 1 << 29 {
         return None;
@@ -174,7 +175,9 @@ fn write_entries(out: &mut [u8], plan: &Plan)
     requires plan { IsPlan (plan_list plan.now) }
     requires places { HasPlaces (plan_list plan.now) }
     requires room { lsdas_place (plan_list plan.now) ≤ length out.old }
-    ensures { out.new ≡ put (entries_place (plan_list plan.now)) (flat_map (entry_text (plan_list plan.now)) (range_with_len 0 (length plan.now.pages.items))) out.old }
+    ensures { out.new
+        ≡ put (entries_place (plan_list plan.now))
+        (flat_map (entry_text (plan_list plan.now)) (range_with_len 0 (length plan.now.pages.items))) out.old }
 {
     let lsdas = lsdas_start(plan);
     let mut at = entries_start(plan);
@@ -197,7 +200,9 @@ fn write_last_entry(out: &mut [u8], plan: &Plan)
     requires plan { IsPlan (plan_list plan.now) }
     requires places { HasPlaces (plan_list plan.now) }
     requires room { lsdas_place (plan_list plan.now) ≤ length out.old }
-    ensures { out.new ≡ put (entries_place (plan_list plan.now) + 12 * length plan.now.pages.items) (spelling page_entry_rows (last_entry_for (plan_list plan.now))) out.old }
+    ensures { out.new
+        ≡ put (entries_place (plan_list plan.now) + 12 * length plan.now.pages.items)
+        (spelling page_entry_rows (last_entry_for (plan_list plan.now))) out.old }
 {
     let entry = PageEntry {
         first_address: plan.end,

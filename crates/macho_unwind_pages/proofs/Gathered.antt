@@ -13,13 +13,13 @@ use Rattle.std.proofs.lemmas.List.Sorted.{All-permutation}
 use Rattle.macho_unwind_pages.specs.declared.entries.UnwindInput.{UnwindInput}
 use Rattle.macho_unwind_pages.specs.declared.entries.Personality.{Personality}
 use Rattle.macho_unwind_pages.specs.declared.entries.ResolvedUnwindInfo.{ResolvedUnwindInfo}
-use Rattle.macho_unwind_pages.specs.Entries.{AreEntries, IsLast, input_of, inputs_of, named_by, named_ids, ids_of, place_in, number_in, code_in, codes_of}
+use Rattle.macho_unwind_pages.specs.Entries.{AreEntries, IsLast, input_of, inputs_of, ids_of, place_in, number_in, code_in, codes_of}
+use Rattle.macho_unwind_pages.specs.steps.Entries.{named_by, named_ids, ranks_before}
 use Rattle.macho_unwind_pages.specs.steps.Ranks.{ranked, IsNumberOf}
 use Rattle.macho_unwind_pages.specs.Plans.{Row}
 use Rattle.macho_unwind_pages.specs.steps.Planning.{IsBehind, IsNumbered, AreAlike, HasShortCode}
 use Rattle.macho_unwind_pages.proofs.Orders.{Above, Rises, has, nat_lt-strict, rises-in_order, has-in_order}
 use Rattle.macho_unwind_pages.proofs.Naming.{is_in}
-use Rattle.macho_unwind_pages.specs.steps.Entries.{ranks_before}
 use Rattle.macho_unwind_pages.specs.steps.Plans.{row_from}
 
 -- nothing lesser stands among numbers above

@@ -21,7 +21,8 @@ use Rattle.macho_unwind_pages.proofs.Gathered.{ranked_codes}
 use Rattle.macho_unwind_pages.specs.steps.Plans.{row_from}
 
 -- words of a plan have 32 bits
-pub word_fits : (plan : PlanList) (k j : ℕ) (d : PageList) (e : ℕ) → IsPlan plan → k < length plan.pages → j < length (get_or plan.pages k d).words
+pub word_fits : (plan : PlanList) (k j : ℕ) (d : PageList) (e : ℕ) → IsPlan plan → k < length plan.pages
+    → j < length (get_or plan.pages k d).words
     → get_or (get_or plan.pages k d).words j e < 2 ^ 32
 word_fits plan k j d e formed lt within =
     let page : IsPage plan.globals (get_or plan.pages k d) = formed.pages k d lt in

@@ -8,7 +8,8 @@ use Rattle.std.proofs.lemmas.Bool.{cases_eq, eq-eqb, ne_eqb, lt-ltb}
 use Rattle.std.proofs.lemmas.Bool.Decides.{nat_tests}
 use Rattle.std.proofs.lemmas.List.FromFn.{length-range_with_len, get_or-range_with_len}
 use Rattle.macho_unwind_pages.specs.declared.entries.UnwindInput.{UnwindInput}
-use Rattle.macho_unwind_pages.specs.Entries.{named_by, named_ids, ids_of}
+use Rattle.macho_unwind_pages.specs.Entries.{ids_of}
+use Rattle.macho_unwind_pages.specs.steps.Entries.{named_by, named_ids}
 use Rattle.macho_unwind_pages.specs.Laws.{Names, IdsAreNamed, IdsAreNumbers}
 use Rattle.macho_unwind_pages.proofs.Orders.{Above, Rises, has, nat_lt-strict, rises-in_order, has-in_order, in_order-unique}
 
@@ -46,8 +47,11 @@ rising (x ∷ xs) rises (suc i) (suc j) d low within = rising xs rises.1 i j d (
 -- and back
 rises_of : (xs : List ℕ) → AllPairs (λ a b. a < b) xs → Rises nat_lt xs
 rises_of [] pairs = tt
-rises_of (x ∷ xs) pairs =
-    (first xs (λ j d h. pairs 0 (suc j) d (omega arith) (omega arith)), rises_of xs (λ i j d low h. pairs (suc i) (suc j) d (omega arith) (omega arith)))
+rises_of (x ∷ xs) pairs = (
+  first xs (λ j d h. pairs 0 (suc j) d (omega arith) (omega arith)),
+  rises_of xs
+      (λ i j d low h. pairs (suc i) (suc j) d (omega arith) (omega arith)),
+)
   where
     first : (ys : List ℕ) → ((j d : ℕ) → j < length ys → x < get_or ys j d) → Above nat_lt x ys
     first [] each = tt

@@ -6,7 +6,8 @@ use Rattle.std.proofs.lemmas.List.{take-append-drop, take_more, append-nil}
 use Rattle.std.proofs.lemmas.Bool.{eq-eqb, ne_eqb, lt-ltb, le-ltb}
 use Rattle.macho_unwind_pages.specs.declared.entries.UnwindInput.{UnwindInput}
 use Rattle.macho_unwind_pages.specs.Orders.{put_in_order, in_order}
-use Rattle.macho_unwind_pages.specs.Entries.{named_by, named_ids, ids_of}
+use Rattle.macho_unwind_pages.specs.Entries.{ids_of}
+use Rattle.macho_unwind_pages.specs.steps.Entries.{named_by, named_ids}
 use Rattle.macho_unwind_pages.proofs.Orders.{nat_lt-strict, in_order-more, length-in_order}
 
 -- an id that isn't there

@@ -12,7 +12,8 @@ use Rattle.std.proofs.lemmas.List.Sorted.{All-permutation, Contains-permutation,
 use Rattle.std.proofs.lemmas.Option.{get_or_from_slice_get}
 use Rattle.macho_unwind_pages.specs.declared.entries.Personality.{Personality}
 use Rattle.macho_unwind_pages.specs.declared.entries.ResolvedUnwindInfo.{ResolvedUnwindInfo}
-use Rattle.macho_unwind_pages.specs.Entries.{inputs_of, named_by, named_ids, ids_of, place_in, IsLast}
+use Rattle.macho_unwind_pages.specs.Entries.{inputs_of, ids_of, place_in, IsLast}
+use Rattle.macho_unwind_pages.specs.steps.Entries.{named_by, named_ids, ranks_before}
 use Rattle.macho_unwind_pages.specs.steps.Ranks.{ranked}
 use Rattle.macho_unwind_pages.specs.Bounds.{MOST_GLOBALS, globals_of}
 use Rattle.macho_unwind_pages.specs.Plans.{PlanList, IsPlanOf}
@@ -21,7 +22,6 @@ use Rattle.macho_unwind_pages.proofs.Ranked.{ranks_before-strict}
 use Rattle.macho_unwind_pages.proofs.Gathered.{place_at, is_last, none}
 use Rattle.macho_unwind_pages.proofs.OneList.{AreDistinct}
 use Rattle.macho_unwind_pages.proofs.OnePage.{place_once}
-use Rattle.macho_unwind_pages.specs.steps.Entries.{ranks_before}
 use Rattle.macho_unwind_pages.specs.steps.Plans.{HasSlot}
 
 -- codes that every page may name are distinct

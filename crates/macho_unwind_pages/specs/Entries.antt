@@ -1,8 +1,8 @@
 -- What entries say: their personalities' numbers and their codes, and how often a code stands.
 -- An encoding has 32 bits; bits 28 and 29 are the personality's number (mach-o/compact_unwind_encoding.h,
 -- UNWIND_PERSONALITY_MASK), and entries have them clear.
-use Rattle.std.specs.Prelude.{◌≡◌, ◌≢◌, ℕ, ◌+◌, ◌*◌, ◌/◌, ◌%◌, ◌^◌, ◌<◌, ◌≤◌, ◌==◌, nat_lt, Option, None, Some, IfSome, is_some, option_map, List, [], ◌∷◌, map, All, count_by}
-use Rattle.std.specs.List.{AllPairs}
+use Rattle.std.specs.Prelude.{◌≡◌, ◌≢◌, ℕ, ◌+◌, ◌*◌, ◌/◌, ◌%◌, ◌^◌, ◌<◌, ◌≤◌, ◌==◌, nat_lt, Option, None, Some, IfSome, is_some, option_map, List, map, All, count_by}
+use Rattle.std.specs.List.{AllPairs, filter_map}
 use Rattle.macho_unwind_pages.specs.declared.entries.UnwindInput.{UnwindInput}
 use Rattle.macho_unwind_pages.specs.declared.entries.ResolvedUnwindInfo.{ResolvedUnwindInfo}
 use Rattle.macho_unwind_pages.specs.Orders.{in_order}
@@ -18,18 +18,9 @@ input_of e = record { encoding = e.encoding; personality = option_map (λ p. p.i
 abbrev pub inputs_of : List ResolvedUnwindInfo → List UnwindInput
 inputs_of entries = map input_of entries
 
--- the ids that entries name, in their order and as often as they are named
-abbrev pub named_by : Option ℕ → List ℕ → List ℕ
-named_by None ids = ids
-named_by (Some id) ids = id ∷ ids
-
-unfoldable pub named_ids : List UnwindInput → List ℕ
-named_ids [] = []
-named_ids (e ∷ entries) = named_by e.personality (named_ids entries)
-
 -- the ids of the personalities, rising, each once
 abbrev pub ids_of : List UnwindInput → List ℕ
-ids_of entries = in_order nat_lt (named_ids entries)
+ids_of entries = in_order nat_lt (filter_map (λ e. e.personality) entries)
 
 -- how many ids are lesser
 abbrev pub place_in : List ℕ → ℕ → ℕ

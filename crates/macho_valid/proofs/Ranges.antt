@@ -51,7 +51,8 @@ pub record IsValidPlaced (l : Link) (counts : Counts) (p : Placed) : Type 0 wher
   pub laid : IsLaidOut l counts p
 
 -- each segment follows the one before it
-pub follow_at : (l : Link) (segments : List PlacedSegment) → EachNext (Follows l) segments → (k : ℕ) (e : PlacedSegment) → suc k < length segments
+pub follow_at : (l : Link) (segments : List PlacedSegment) → EachNext (Follows l) segments → (k : ℕ) (e : PlacedSegment)
+    → suc k < length segments
     → Follows l (get_or segments k e) (get_or segments (suc k) e)
 follow_at l segments h k e within =
     let at_k : IsNumber segments k (get_or segments k e) =
@@ -69,7 +70,8 @@ pub record GoesOn (l : Link) (s t : PlacedSegment) : Type 0 where
   pub file : s.file_offset + s.file_size ≤ t.file_offset
   pub slower : t.file_offset + s.address ≤ t.address + s.file_offset
 
-goes_on : (l : Link) (segments : List PlacedSegment) → EachNext (Follows l) segments → All IsPaged segments → (i j : ℕ) (e : PlacedSegment) → i < j
+goes_on : (l : Link) (segments : List PlacedSegment) → EachNext (Follows l) segments → All IsPaged segments → (i j : ℕ) (e : PlacedSegment)
+    → i < j
     → j < length segments → GoesOn l (get_or segments i e) (get_or segments j e)
 goes_on l segments h paged i zero e before within = absurd (omega (arith, before))
 goes_on l segments h paged i (suc m) e before within =

@@ -118,7 +118,8 @@ linkedit_end l counts p r h one =
     let m = of_map (λ (s : PlacedSegment). text_of s.name) p.segments LINKEDIT names in
     let named : is_segment_named LINKEDIT m.0 ≡ true = ap (λ (n : List ℕ). bytes_eq n LINKEDIT) m.2 ∙ itself LINKEDIT in
     let there = in_filter (is_segment_named LINKEDIT) p.segments m.0 m.1 named in
-    let lies = All-contains (LiesInFile p.segments) (linkedit_ranges p) r (tables_lie l counts p h.laid.segments (least_of h.laid.least)) one in
+    let lies =
+    All-contains (LiesInFile p.segments) (linkedit_ranges p) r (tables_lie l counts p h.laid.segments (least_of h.laid.least)) one in
     let part = All-contains (λ (s : PlacedSegment). (s.file_offset ≤ r.start) × (r.start ≤ r.end) × (r.end ≤ s.file_offset + s.file_size))
     (filter (is_segment_named LINKEDIT) p.segments) m.0 lies there in
     let near = segment_near l counts p m.0 h m.1 (ap (λ (n : List ℕ). bytes_eq n PAGEZERO) m.2) in

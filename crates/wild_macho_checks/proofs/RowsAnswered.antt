@@ -55,7 +55,13 @@ abbrev pub calling : Link
 calling = record (link_of fresh) { inputs = Object calls ∷ [] }
 
 pub calls_is_object : IsObject calls
-unfolding verdict header_of commands_from commands_of commands_end num_sections section_place section_at section_bytes symtab_of num_symbols symbol_place symbol_at strings_of symbol_name relocation_place relocation_at sections_of carried_of template_exponent placed_exponent symbols_of strong_of weak_of commons_of greatest_of libraries_with definition_of chosen_commons initializer_sections unwind_sections carried_relocations initializer_relocations personality_relocations imports_of libraries_needed target_of target_of_relocation slots_of stubs_of fields_of is_supported plain_entries all_entries entries_of other_segments segment_rank segment_names_of output_keys_of output_count content_sum command_sum unsigned_sum written_sum_of le_at le_bytes row_bytes reading words8 words halves name16 entry text_object calls
+unfolding verdict header_of commands_from commands_of commands_end num_sections section_place section_at section_bytes symtab_of num_symbols
+    symbol_place symbol_at strings_of symbol_name relocation_place relocation_at sections_of carried_of template_exponent placed_exponent
+    symbols_of strong_of weak_of commons_of greatest_of libraries_with definition_of chosen_commons initializer_sections unwind_sections
+    carried_relocations initializer_relocations personality_relocations imports_of libraries_needed target_of target_of_relocation slots_of
+    stubs_of fields_of is_supported plain_entries all_entries entries_of other_segments segment_rank segment_names_of output_keys_of
+    output_count content_sum command_sum unsigned_sum written_sum_of le_at le_bytes row_bytes reading words8 words halves name16 entry
+    text_object calls
 calls_is_object = is_object calls refl
 
 -- how its bytes begin, and what they say at 12: an object
@@ -99,28 +105,43 @@ no_symbol [] true s is = let no : false ≡ true = ap in_object is in cc
 no_symbol [] false s is = let no : false ≡ true = ap in_object is in cc
 
 -- where all symbols are hidden, so is what defines a name
-defined_hidden : (l : Link) (name : List ℕ) (s : SymbolId) → All (IsHidden l) (symbols_of l) → definition_of l name ≡ Some (Symbol s) → IsHidden l s
+defined_hidden : (l : Link) (name : List ℕ) (s : SymbolId) → All (IsHidden l) (symbols_of l) → definition_of l name ≡ Some (Symbol s)
+    → IsHidden l s
 unfolding first_definition strong_of weak_of commons_of greatest_of
 defined_hidden l name s all is =
     from_symbols l (strong_of l name) _ s (All-filter (λ t. is_strong l t && has_name l name t) (IsHidden l) (symbols_of l) all)
     (λ weak. from_symbols l (weak_of l name) _ s (All-filter (λ t. is_weak l t && has_name l name t) (IsHidden l) (symbols_of l) all)
     (λ common. from_symbols l (greatest_of l name) _ s (All-filter _ (IsHidden l) (commons_of l name)
     (All-filter (λ t. is_common_of (entry_at l t) && has_name l name t) (IsHidden l) (symbols_of l) all))
-    (λ library. absurd (no_symbol (libraries_with l name) (bytes_eq name DSO_HANDLE) s library)) common) weak) (sym (definition_is_first l name) ∙ is)
+    (λ library. absurd (no_symbol (libraries_with l name) (bytes_eq name DSO_HANDLE) s library)) common) weak)
+    (sym (definition_is_first l name) ∙ is)
 
 -- a link whose symbols are all hidden, and that has no export lists, exports nothing
-exports_nothing : (l : Link) → All (IsHidden l) (symbols_of l) → has_lists l ≡ false → (name : List ℕ) (weak : Bool) → IsToldExport l name weak → ⊥
+exports_nothing : (l : Link) → All (IsHidden l) (symbols_of l) → has_lists l ≡ false → (name : List ℕ) (weak : Bool)
+    → IsToldExport l name weak → ⊥
 exports_nothing l all none name _ (told.from_object s exported) =
     let no : true ≡ false = sym (defined_hidden l name s all exported.0) ∙ exported.1 in cc
 exports_nothing l all none name _ (told.from_library reexported) = let no : false ≡ true = sym none ∙ reexported.1 in cc
 
 -- the two symbols of the object
 symbols_are : symbols_of calling ≡ symbol 0 0 ∷ symbol 0 1 ∷ []
-unfolding header_of commands_from commands_of commands_end num_sections section_place section_at section_bytes symtab_of num_symbols symbol_place symbol_at strings_of symbol_name relocation_place relocation_at sections_of carried_of template_exponent placed_exponent symbols_of strong_of weak_of commons_of greatest_of libraries_with definition_of chosen_commons initializer_sections unwind_sections carried_relocations initializer_relocations personality_relocations imports_of libraries_needed target_of target_of_relocation slots_of stubs_of fields_of is_supported plain_entries all_entries entries_of other_segments segment_rank segment_names_of output_keys_of output_count content_sum command_sum unsigned_sum written_sum_of le_at le_bytes row_bytes reading words8 words halves name16 entry text_object calls
+unfolding header_of commands_from commands_of commands_end num_sections section_place section_at section_bytes symtab_of num_symbols
+    symbol_place symbol_at strings_of symbol_name relocation_place relocation_at sections_of carried_of template_exponent placed_exponent
+    symbols_of strong_of weak_of commons_of greatest_of libraries_with definition_of chosen_commons initializer_sections unwind_sections
+    carried_relocations initializer_relocations personality_relocations imports_of libraries_needed target_of target_of_relocation slots_of
+    stubs_of fields_of is_supported plain_entries all_entries entries_of other_segments segment_rank segment_names_of output_keys_of
+    output_count content_sum command_sum unsigned_sum written_sum_of le_at le_bytes row_bytes reading words8 words halves name16 entry
+    text_object calls
 symbols_are = refl
 
 hidden_are : IsHidden calling (symbol 0 0) × IsHidden calling (symbol 0 1)
-unfolding header_of commands_from commands_of commands_end num_sections section_place section_at section_bytes symtab_of num_symbols symbol_place symbol_at strings_of symbol_name relocation_place relocation_at sections_of carried_of template_exponent placed_exponent symbols_of strong_of weak_of commons_of greatest_of libraries_with definition_of chosen_commons initializer_sections unwind_sections carried_relocations initializer_relocations personality_relocations imports_of libraries_needed target_of target_of_relocation slots_of stubs_of fields_of is_supported plain_entries all_entries entries_of other_segments segment_rank segment_names_of output_keys_of output_count content_sum command_sum unsigned_sum written_sum_of le_at le_bytes row_bytes reading words8 words halves name16 entry text_object calls
+unfolding header_of commands_from commands_of commands_end num_sections section_place section_at section_bytes symtab_of num_symbols
+    symbol_place symbol_at strings_of symbol_name relocation_place relocation_at sections_of carried_of template_exponent placed_exponent
+    symbols_of strong_of weak_of commons_of greatest_of libraries_with definition_of chosen_commons initializer_sections unwind_sections
+    carried_relocations initializer_relocations personality_relocations imports_of libraries_needed target_of target_of_relocation slots_of
+    stubs_of fields_of is_supported plain_entries all_entries entries_of other_segments segment_rank segment_names_of output_keys_of
+    output_count content_sum command_sum unsigned_sum written_sum_of le_at le_bytes row_bytes reading words8 words halves name16 entry
+    text_object calls
 hidden_are = (refl, refl)
 
 all_hidden : All (IsHidden calling) (symbols_of calling)
@@ -148,7 +169,14 @@ are_sizes = record {
 
 -- each part of a valid link, by its test
 each_part : valid_verdict calling sizes ≡ verdict_but (λ q. false)
-unfolding valid_verdict header_of commands_from commands_of commands_end num_sections section_place section_at section_bytes symtab_of num_symbols symbol_place symbol_at strings_of symbol_name relocation_place relocation_at sections_of carried_of template_exponent placed_exponent symbols_of strong_of weak_of commons_of greatest_of libraries_with definition_of chosen_commons initializer_sections unwind_sections carried_relocations initializer_relocations personality_relocations imports_of libraries_needed target_of target_of_relocation slots_of stubs_of fields_of is_supported plain_entries all_entries entries_of other_segments segment_rank segment_names_of output_keys_of output_count content_sum command_sum unsigned_sum written_sum_of personality_targets entries_of_link le_at le_bytes row_bytes reading words8 words halves name16 entry text_object counts_with commands_size uuid_written initializers_of import_entries_of own_entries entries_have_addends table_symbols calls
+unfolding valid_verdict header_of commands_from commands_of commands_end num_sections section_place section_at section_bytes symtab_of
+    num_symbols symbol_place symbol_at strings_of symbol_name relocation_place relocation_at sections_of carried_of template_exponent
+    placed_exponent symbols_of strong_of weak_of commons_of greatest_of libraries_with definition_of chosen_commons initializer_sections
+    unwind_sections carried_relocations initializer_relocations personality_relocations imports_of libraries_needed target_of
+    target_of_relocation slots_of stubs_of fields_of is_supported plain_entries all_entries entries_of other_segments segment_rank
+    segment_names_of output_keys_of output_count content_sum command_sum unsigned_sum written_sum_of personality_targets entries_of_link
+    le_at le_bytes row_bytes reading words8 words halves name16 entry text_object counts_with commands_size uuid_written initializers_of
+    import_entries_of own_entries entries_have_addends table_symbols calls
 each_part = refl
 
 -- THE link is owed an image.

@@ -29,7 +29,8 @@ LeadsInto r row told = (l : Link) (noted : List (List ℕ)) → IsResolved l not
 abbrev pub leads_somewhere : Link → List (List ℕ) → ℕ → Option PersonalityUse → Bool
 leads_somewhere l noted file None = true
 leads_somewhere l noted file (Some p) =
-    is_defined (target_with l noted (symbol_id file p.relocation.r_symbolnum)) || is_import (target_with l noted (symbol_id file p.relocation.r_symbolnum))
+    is_defined (target_with l noted (symbol_id file p.relocation.r_symbolnum))
+    || is_import (target_with l noted (symbol_id file p.relocation.r_symbolnum))
 
 abbrev pub LeadsSomewhere : ResolvedRows → ℕ → Option PersonalityUse → Bool → Type 0
 LeadsSomewhere r file used told = (l : Link) (noted : List (List ℕ)) → IsResolved l noted r → leads_somewhere l noted file used ≡ told

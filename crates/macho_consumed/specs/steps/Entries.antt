@@ -26,7 +26,8 @@ use Rattle.macho_consumed.specs.Rows.{entry_row}
 -- a relocation is a plain pointer at one of an entry's addresses
 abbrev pub unwind_relocation_fits : Link → SectionId → ℕ → Bool
 unwind_relocation_fits l s r =
-    is_plain_pointer (relocation_in l s r) && list_any (λ place. (relocation_in l s r).r_address % UNWIND_ENTRY_SIZE == place) ADDRESS_PLACES
+    is_plain_pointer (relocation_in l s r)
+    && list_any (λ place. (relocation_in l s r).r_address % UNWIND_ENTRY_SIZE == place) ADDRESS_PLACES
 
 -- the section that a relocation names
 abbrev pub named : RelocationInfo → ℕ
@@ -99,7 +100,8 @@ abbrev pub PersonalityBreaks : ResolvedRows → List ℕ → ℕ → ℕ → Opt
 PersonalityBreaks r b file k None rule = ⊥
 PersonalityBreaks r b file k (Some q) rule =
     (rule ≡ U7) × (((relocation_at b k q).r_extern ≡ false)
-    ⊎ (((relocation_at b k q).r_extern ≡ true) × LeadsSomewhere r file (Some (record { number = q; relocation = relocation_at b k q })) false))
+    ⊎ (((relocation_at b k q).r_extern ≡ true)
+    × LeadsSomewhere r file (Some (record { number = q; relocation = relocation_at b k q })) false))
 
 -- what the rule of personalities and language data asks of the bytes
 abbrev pub links_fit : List ℕ → ℕ → ℕ → Bool

@@ -33,7 +33,8 @@ abbrev pub FitsAt : ResolvedRows → List (Option FileBytes) → SectionRef → 
 FitsAt r files s = SectionFits r (bytes_in files s.file) s.file s.section
 
 abbrev pub BreaksAt : ResolvedRows → List (Option FileBytes) → ConsumedFault → Type 0
-BreaksAt r files fault = (s : SectionRef) × Contains (all_of Initializers files) s × IsBadSection r (bytes_in files s.file) s.file s.section fault
+BreaksAt r files fault = (s : SectionRef) × Contains (all_of Initializers files) s
+    × IsBadSection r (bytes_in files s.file) s.file s.section fault
 
 abbrev pub IsBadAt : ResolvedRows → List (Option FileBytes) → ConsumedFault → Type 0
 IsBadAt r files (BadInitializer f s offset) = BreaksAt r files (BadInitializer f s offset)
@@ -48,7 +49,8 @@ abbrev pub KeepsAt : ResolvedRows → List (Option FileBytes) → SectionRef →
 KeepsAt r files s = SectionKeeps r (bytes_in files s.file) s.file s.section
 
 abbrev pub BreaksRuleAt : ResolvedRows → List (Option FileBytes) → ConsumedFault → Type 0
-BreaksRuleAt r files fault = (s : SectionRef) × Contains (all_of Entries files) s × IsBadUnwind r (bytes_in files s.file) s.file s.section fault
+BreaksRuleAt r files fault = (s : SectionRef) × Contains (all_of Entries files) s
+    × IsBadUnwind r (bytes_in files s.file) s.file s.section fault
 
 abbrev pub IsBadRuleAt : ResolvedRows → List (Option FileBytes) → ConsumedFault → Type 0
 IsBadRuleAt r files (BadInitializer f s offset) = ⊥

@@ -46,7 +46,8 @@ pub record SlotsFit (b : List ℕ) (k n : ℕ) : Type 0 where
 
 -- each symbol that a relocation names is there
 abbrev pub ExternsExist : List ℕ → ℕ → Type 0
-ExternsExist b k = (r : ℕ) → r < (section_at b k).nreloc → (relocation_at b k r).r_extern ≡ true → (relocation_at b k r).r_symbolnum < num_symbols b
+ExternsExist b k = (r : ℕ) → r < (section_at b k).nreloc → (relocation_at b k r).r_extern ≡ true
+    → (relocation_at b k r).r_symbolnum < num_symbols b
 
 -- and each relocation begins in the section
 abbrev pub AreInside : List ℕ → ℕ → Type 0

@@ -23,7 +23,8 @@ use Rattle.macho_job.specs.Job.{SourceFile, IsReadAs, IsTaken, IsListed, AreFile
 use Rattle.macho_job.specs.Causes.{BytesRefused}
 
 -- An input that was asked for is found and added.
-pub record TakesFile (told : Option Store) (s : Settings) (asked : args.Input) (old_paths paths : List (List ℕ)) (old new : Link) : Type 0 where
+pub record TakesFile (told : Option Store) (s : Settings) (asked : args.Input) (old_paths paths : List (List ℕ))
+    (old new : Link) : Type 0 where
   pub file : SourceFile
   pub taken : IsTaken told s asked file
   pub named : paths ≡ old_paths ++ file.path ∷ []
@@ -57,7 +58,8 @@ pub record EndsWith (paths : List (List ℕ)) (path : List ℕ) : Type 0 where
   pub split : paths ≡ before ++ path ∷ []
 
 -- an input's bytes are refused: those of the first of its paths that holds a file, the last that was read
-pub record InputRefused (told : Option Store) (s : Settings) (paths : List (List ℕ)) (asked : args.Input) (refusal : LinkError) : Type 0 where
+pub record InputRefused (told : Option Store) (s : Settings) (paths : List (List ℕ)) (asked : args.Input)
+    (refusal : LinkError) : Type 0 where
   pub path : List ℕ
   pub bytes : List ℕ
   pub found : IsFirstHeld told (candidates_of s asked.kind asked.name) path bytes
@@ -73,7 +75,8 @@ pub record IsUnknown (told : Option Store) (s : Settings) (asked : args.Input) (
 
 -- why an input that was asked for isn't added
 abbrev pub InputFails : Option Store → Settings → List (List ℕ) → args.Input → ℕ → ℕ → Fault → Type 0
-InputFails told s paths asked old new (MissingFile word) = (word ≡ asked.word) × All (FileIs told None) (candidates_of s asked.kind asked.name)
+InputFails told s paths asked old new (MissingFile word) = (word ≡ asked.word)
+    × All (FileIs told None) (candidates_of s asked.kind asked.name)
 InputFails told s paths asked old new (UnknownKind word kind) = (word ≡ asked.word) × IsUnknown told s asked (head.Unknown kind)
 InputFails told s paths asked old new (InputFault word refusal) = (word ≡ asked.word) × InputRefused told s paths asked refusal
 InputFails told s paths asked old new (Read word) = (word ≡ asked.word) × CountRose old new

@@ -56,7 +56,8 @@ calling_parts front name pointer next =
 unfoldable pub last_parts : List ℕ → (name pointer : ℕ) → List ℕ
 last_parts front name pointer =
     front ++ joined_all LAST_SECTIONS ++ words (2 ∷ 24 ∷ 312 ∷ 2 ∷ 344 ∷ (3 + name + pointer) ∷ [])
-    ++ words (0x52800000 ∷ 0xd65f03c0 ∷ 0 ∷ 0 ∷ 0 ∷ 0x0e000000 ∷ []) ++ words (1 ∷ 0x10f ∷ 0 ∷ 0 ∷ (2 + name) ∷ 0x20f ∷ 8 ∷ 0 ∷ []) ++ (0 ∷ [])
+    ++ words (0x52800000 ∷ 0xd65f03c0 ∷ 0 ∷ 0 ∷ 0 ∷ 0x0e000000 ∷ []) ++ words (1 ∷ 0x10f ∷ 0 ∷ 0 ∷ (2 + name) ∷ 0x20f ∷ 8 ∷ 0 ∷ [])
+    ++ (0 ∷ [])
 
 -- the same with the strings, each with its NUL
 unfoldable pub calling_object : List ℕ → (name pointer next : List ℕ) → List ℕ

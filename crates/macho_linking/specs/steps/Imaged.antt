@@ -46,7 +46,8 @@ abbrev pub StandsAlways : Link → LinkError → Type 0
 StandsAlways l e = (counts : Counts) → AreCounts l counts → Stands l counts e
 
 -- What was read is that of a link.
-pub record IsToSize (l : Link) (views : List (Option FileBytes)) (objects : List LinkedObject) (lists : Option ListEntries) (read : ReadLink)
+pub record IsToSize (l : Link) (views : List (Option FileBytes)) (objects : List LinkedObject) (lists : Option ListEntries)
+    (read : ReadLink)
     (libraries : List (List ℕ)) : Type 0 where
   pub views_are : (views ≡ views_of l) × All ViewsObject views × (length views < 2 ^ 32)
   pub objects_are : AreObjects l objects × All (λ o. o.file.is_dynamic ≡ false) objects
@@ -67,7 +68,8 @@ pub record IsMade (l : Link) (uuid : List ℕ) (read : ReadLink) (written : Writ
   pub sizes : HasSizes l read sized
 
 -- THE link is to be answered by an image.
-pub record IsToAnswer (l : Link) (uuid : List ℕ) (written : Written) (sized : SizedLink) (read : ReadLink) (libraries : List (List ℕ)) : Type 0 where
+pub record IsToAnswer (l : Link) (uuid : List ℕ) (written : Written) (sized : SizedLink) (read : ReadLink)
+    (libraries : List (List ℕ)) : Type 0 where
   pub made : IsMade l uuid read written sized
   pub read_is : IsReadOf l read
   pub libraries_are : libraries ≡ libraries_needed l

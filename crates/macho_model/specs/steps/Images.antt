@@ -6,7 +6,8 @@ use Rattle.macho_model.specs.Commands.{Command}
 use Rattle.macho_model.specs.Images.{Table}
 
 abbrev pub symbols_range : List ℕ → Command → Table
-symbols_range b c = record { at = (reading symtab_command b c.at).symoff; size = size_of symtab_entry * (reading symtab_command b c.at).nsyms }
+symbols_range b c
+    = record { at = (reading symtab_command b c.at).symoff; size = size_of symtab_entry * (reading symtab_command b c.at).nsyms }
 
 abbrev pub strings_range : List ℕ → Command → Table
 strings_range b c = record { at = (reading symtab_command b c.at).stroff; size = (reading symtab_command b c.at).strsize }

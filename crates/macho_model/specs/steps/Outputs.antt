@@ -37,14 +37,16 @@ merged_in l segment test = map Merged (filter (λ key. bytes_eq key.segment segm
 -- The output sections of `__TEXT`: code, then what the linker makes, then other data, then zeros.
 abbrev pub sections_of_text : Link → Counts → List OutputSection
 sections_of_text l counts =
-    merged_in l TEXT (is_code l) ++ list_if (nat_lt 0 counts.initializers) (InitOffsets ∷ []) ++ list_if (nat_lt 0 counts.unwind) (UnwindInfo ∷ [])
+    merged_in l TEXT (is_code l) ++ list_if (nat_lt 0 counts.initializers) (InitOffsets ∷ [])
+    ++ list_if (nat_lt 0 counts.unwind) (UnwindInfo ∷ [])
     ++ list_if (not (length (stubs_of l) == 0)) (Stubs ∷ []) ++ merged_in l TEXT (λ key. not (is_zeros key) && not (is_code l key))
     ++ merged_in l TEXT is_zeros
 
 -- Of `__DATA`: data; the initial values of thread-local variables, first those with bytes; commons; other zeros.
 abbrev pub sections_of_data : Link → List OutputSection
 sections_of_data l =
-    merged_in l DATA (λ key. not (is_zeros key) && not (key.type == S_THREAD_LOCAL_REGULAR)) ++ merged_in l DATA (λ key. key.type == S_THREAD_LOCAL_REGULAR)
+    merged_in l DATA (λ key. not (is_zeros key) && not (key.type == S_THREAD_LOCAL_REGULAR))
+    ++ merged_in l DATA (λ key. key.type == S_THREAD_LOCAL_REGULAR)
     ++ merged_in l DATA (λ key. key.type == S_THREAD_LOCAL_ZEROFILL) ++ merged_in l DATA (same_key common_key)
     ++ merged_in l DATA (λ key. is_zeros key && not (key.type == S_THREAD_LOCAL_ZEROFILL) && not (same_key common_key key))
 
@@ -57,7 +59,8 @@ sections_of_other l segment =
 -- the output sections of a segment, and of the image, in the order in which they stand
 abbrev pub output_sections_in : Link → Counts → List ℕ → List OutputSection
 output_sections_in l counts segment =
-    if bytes_eq segment TEXT then sections_of_text l counts else if bytes_eq segment DATA then sections_of_data l else sections_of_other l segment
+    if bytes_eq segment TEXT then sections_of_text l counts else if bytes_eq segment DATA then sections_of_data l
+    else sections_of_other l segment
 
 unfoldable pub output_sections_of : Link → Counts → List OutputSection
 output_sections_of l counts = flat_map (output_sections_in l counts) (segment_names_of l)

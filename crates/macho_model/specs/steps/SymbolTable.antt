@@ -15,4 +15,5 @@ is_named_definition l s =
 -- labels do that assemblers make for themselves
 abbrev pub is_in_table : Link → SymbolId → Bool
 is_in_table l s =
-    (not ((entry_at l s).n_strx == 0) && (stands_in_carried l s || has_type N_ABS (entry_at l s) || is_common_of (entry_at l s))) && (if is_global (entry_at l s) then defines l s else not (starts_with nat_eq (name_at l s) (codes "ltmp")))
+    (not ((entry_at l s).n_strx == 0) && (stands_in_carried l s || has_type N_ABS (entry_at l s) || is_common_of (entry_at l s)))
+    && (if is_global (entry_at l s) then defines l s else not (starts_with nat_eq (name_at l s) (codes "ltmp")))

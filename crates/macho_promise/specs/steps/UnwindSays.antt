@@ -9,4 +9,5 @@ use Rattle.macho_unwind.specs.Personality.{Personality}
 
 -- a personality function is named by the number of its slot, and found through the slot
 abbrev pub personality_of : Link → Placed → EntryId → ℕ → Personality
-personality_of l p d r = record { id = slot_number l (target_of_relocation l d.of_section r); slot = slot_address p (target_of_relocation l d.of_section r) }
+personality_of l p d r
+    = record { id = slot_number l (target_of_relocation l d.of_section r); slot = slot_address p (target_of_relocation l d.of_section r) }

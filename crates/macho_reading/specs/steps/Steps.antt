@@ -20,7 +20,8 @@ unfoldable pub uses_before_names : Link → List Use
 uses_before_names l = uses_of_carried l ++ uses_of_initializers l ++ uses_of_personalities l
 
 -- The link whose carried relocations are noted, whose objects these views are of, and whose entry and export lists are given.
-pub record IsSurveyed (l : Link) (views : List (Option FileBytes)) (needs : Needs) (entry : Option (List ℕ)) (list : Option ListEntries) : Type 0 where
+pub record IsSurveyed (l : Link) (views : List (Option FileBytes)) (needs : Needs) (entry : Option (List ℕ))
+    (list : Option ListEntries) : Type 0 where
   pub views_are : views ≡ views_of l
   pub noted : IsNoted l (uses_of_carried l) needs
   pub entry_is : entry ≡ entry_of l

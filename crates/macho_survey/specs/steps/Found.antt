@@ -34,12 +34,15 @@ IsUnsupported l p =
 
 abbrev pub IsOverlap : Link → Pair → Type 0
 IsOverlap l p =
-    Contains (carried_of l) (section_id p.file p.section) × (p.first < p.second) × (p.second < (header_at l (section_id p.file p.section)).nreloc)
-    × (share_byte l (section_id p.file p.section) p.first p.second ≡ true) × (are_pair l (section_id p.file p.section) p.first p.second ≡ false)
+    Contains (carried_of l) (section_id p.file p.section) × (p.first < p.second)
+    × (p.second < (header_at l (section_id p.file p.section)).nreloc)
+    × (share_byte l (section_id p.file p.section) p.first p.second ≡ true)
+    × (are_pair l (section_id p.file p.section) p.first p.second ≡ false)
 
 abbrev pub IsBadAddend : Link → Addend → Type 0
 IsBadAddend l a =
-    (f : Field) × FieldOf l (section_id a.place.file a.place.section) a.place.relocation f × (is_pointer f ≡ true) × (is_import f.target ≡ true)
+    (f : Field) × FieldOf l (section_id a.place.file a.place.section) a.place.relocation f × (is_pointer f ≡ true)
+    × (is_import f.target ≡ true)
     × (a.addend ≡ f.addend) × (fits_signed 32 a.addend ≡ false)
 
 abbrev pub IsBadPlace : Link → Place → Type 0

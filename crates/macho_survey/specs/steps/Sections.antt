@@ -61,7 +61,8 @@ is_plain w = (w.this.r_type == ARM64_RELOC_UNSIGNED) && (w.this.r_length == 3) &
 
 abbrev pub pointer_at : List ℕ → ℕ → ℕ → Option ℕ
 pointer_at b k r =
-    if is_plain (window_in b k r) then Some (addend_by b (relocation_at b k r) (le_at 8 (section_bytes b k) (relocation_at b k r).r_address))
+    if is_plain (window_in b k r)
+    then Some (addend_by b (relocation_at b k r) (le_at 8 (section_bytes b k) (relocation_at b k r).r_address))
     else None
 
 -- a pointer to an import with an addend that doesn't fit

@@ -68,7 +68,8 @@ value_in look views weak t = value_said t weak (is_local_in views t) (max look.b
 -- what a target says
 abbrev pub says_said : Look → List (Option FileBytes) → List Import → List (List ℕ) → Bool → Target → ExportSays
 says_said look views imports libraries weak (target.Import id) = says_kept imports libraries (target.Import id)
-says_said look views imports libraries weak (target.Section file section offset) = value_in look views weak (target.Section file section offset)
+says_said look views imports libraries weak (target.Section file section offset) =
+    value_in look views weak (target.Section file section offset)
 says_said look views imports libraries weak (target.Common id) = value_in look views weak (target.Common id)
 says_said look views imports libraries weak target.Base = value_in look views weak target.Base
 says_said look views imports libraries weak (target.Absolute value) = value_in look views weak (target.Absolute value)

@@ -32,7 +32,8 @@ pub record IsMade (told : Option Store) (s : Settings) (paths : List (List ℕ))
 
 -- the refusal of a link: it is that of whatever settings link this
 pub record IsLinkFault (l : Link) (fault : Fault) : Type 0 where
-  pub fails : (told : Option Store) (s : Settings) (paths : List (List ℕ)) (old new : Failures) → Links told s paths l → JobFails told s paths old new fault
+  pub fails : (told : Option Store) (s : Settings) (paths : List (List ℕ)) (old new : Failures) → Links told s paths l
+      → JobFails told s paths old new fault
 
 -- what stands under the paths, and what was printed, before and after the image's end
 pub record Ends : Type 0 where
@@ -58,7 +59,8 @@ LeavesLines (Some Print) old new text = TakesPrefix old new text
 LeavesLines (Some fault) old new text = ⊥
 
 -- an image that is there is this one, written and printed as the fault tells
-pub record EndsWith (s : Settings) (paths : List (List ℕ)) (made : Made) (e : Ends) (fault : Option Fault) (image : LinkedImage) : Type 0 where
+pub record EndsWith (s : Settings) (paths : List (List ℕ)) (made : Made) (e : Ends) (fault : Option Fault)
+    (image : LinkedImage) : Type 0 where
   pub same : image ≡ made.image
   pub left : LeavesOutput fault e.old_store e.new_store s.output image.bytes.items
   pub lines : LeavesLines fault e.old_printed e.new_printed (run_lines s made.linker paths image)
@@ -83,7 +85,8 @@ PrintFails prints after (Some Print) = CountRose prints after
 PrintFails prints after (Some fault) = ⊥
 
 -- An image was printed: its lines, or the first of them where a print failed.
-pub record Prints (s : Settings) (paths : List (List ℕ)) (made : Made) (taken later : Option (List ℕ)) (prints after : ℕ) (ran : Ran) : Type 0 where
+pub record Prints (s : Settings) (paths : List (List ℕ)) (made : Made) (taken later : Option (List ℕ)) (prints after : ℕ)
+    (ran : Ran) : Type 0 where
   pub status : ran.status ≡ status_of ran.fault
   pub image : ran.image ≡ Some made.image
   pub lines : LeavesLines ran.fault taken later (run_lines s made.linker paths made.image)

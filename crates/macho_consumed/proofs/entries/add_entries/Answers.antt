@@ -14,7 +14,8 @@ pub returns-then-lacks_bytes-clause-why : goal.returns-then-lacks_bytes-clause-w
 returns-then-lacks_bytes-clause-why c =
     let e = c.section_of-source.ensures.is in
     let breaks = c.lacks_bytes.ensures.none c.args.symbols.now c.args.number c.if-lacks_bytes.true in
-    bad_at _ _ _ _ 0 U4 _ (subst (λ (s : RelocationBytes). SectionBreaksRule c.args.symbols.now s.bytes c.args.number s.section 0 U4) e breaks)
+    bad_at _ _ _ _ 0 U4 _
+    (subst (λ (s : RelocationBytes). SectionBreaksRule c.args.symbols.now s.bytes c.args.number s.section 0 U4) e breaks)
     c.bad_unwind.ensures
 
 pub loop-entry-init : goal.loop-entry-init

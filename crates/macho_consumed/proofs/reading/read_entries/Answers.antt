@@ -25,6 +25,7 @@ returns-in_err-check_starts-clause-why c = λ l noted views resolved.
 
 pub returns-clause-keeps : goal.returns-clause-keeps
 returns-clause-keeps c = λ l noted views resolved.
-    rules_kept l noted c.args.files.now c.args.symbols.now c.in_ok-rows.rows.items views resolved c.in_ok-rows.ensures.found c.in_ok-rows.ensures.rows
+    rules_kept l noted c.args.files.now c.args.symbols.now c.in_ok-rows.rows.items views resolved c.in_ok-rows.ensures.found
+    c.in_ok-rows.ensures.rows
     (subst (λ (xs : List UnwindEntry). AllPairs
     (λ d e. start_key d ≢ start_key e) xs) c.deref.ensures.value c.in_ok-check_starts.ensures.found)

@@ -4,7 +4,8 @@ use Rattle.macho_consumed.proofs.ReadInitializers.{rows_read, bad_stands, rules_
 use Rattle.macho_consumed.proofs.reading.read_initializers.Goals as goal
 
 pub returns-clause-rows : goal.returns-clause-rows
-returns-clause-rows c = λ l views. IfOk-weaker c.gather_initializers.result _ _ (λ v rows. rows ∙ rows_read l _ views) c.gather_initializers.ensures.rows
+returns-clause-rows c
+    = λ l views. IfOk-weaker c.gather_initializers.result _ _ (λ v rows. rows ∙ rows_read l _ views) c.gather_initializers.ensures.rows
 
 pub returns-clause-keeps : goal.returns-clause-keeps
 returns-clause-keeps c = λ l noted views resolved.

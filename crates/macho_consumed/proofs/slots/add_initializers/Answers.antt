@@ -68,6 +68,7 @@ pub returns-clause-found : goal.returns-clause-found
 returns-clause-found c =
     let e = c.section_of-source.ensures.is in
     let places = subst (λ (s : RelocationBytes). ArePlaces s.bytes s.section c.in_ok-places.places) e c.in_ok-places.ensures in
-    section_fits _ _ _ _ c.loop-slot.slot _ (subst (λ (s : RelocationBytes). initializer_section_fits (alone s.bytes) (own s.section) ≡ true)
+    section_fits _ _ _ _ c.loop-slot.slot _
+    (subst (λ (s : RelocationBytes). initializer_section_fits (alone s.bytes) (own s.section) ≡ true)
     e (sym c.if-not-has_slots.ensures)) places.table c.loop-slot.invariant.fit c.loop-slot.invariant.lead c.loop-slot.invariant.none
     c.section_of-source.ensures.inside (omega (arith, c.loop-slot-test.false, c.len-slot-end.ensures))

@@ -57,7 +57,8 @@ unfolding table_text
 returns-clause-long c =
     omega (
       arith,
-      joined_long (spelling chained_fixups_header_rows (table_header c.args.fixups.now c.args.segments.now c.args.format c.args.imports.now))
+      joined_long
+          (spelling chained_fixups_header_rows (table_header c.args.fixups.now c.args.segments.now c.args.format c.args.imports.now))
           (image_starts_text c.args.base c.args.fixups.now c.args.segments.now) (flat_map (entry_text c.args.format) c.args.imports.now)
           c.args.names.now,
       c.write_image_starts-imports_at.ensures.long,

@@ -10,5 +10,6 @@ loop-name-preserved c =
     let i = c.loop-name.name-index in
     let none : Bor (List ℕ) = record { ref_ptr = (0, 0); now = [] } in
     let x : Bor (List ℕ) = get_or xs i none in
-    distinct_more xs i x c.loop-name.set.keys c.insert.new.self.keys c.loop-name-test.true (get_or_default xs i none x c.loop-name-test.true)
+    distinct_more xs i x c.loop-name.set.keys c.insert.new.self.keys c.loop-name-test.true
+    (get_or_default xs i none x c.loop-name-test.true)
     c.loop-name.invariant c.in_ok-insert.ensures.keys

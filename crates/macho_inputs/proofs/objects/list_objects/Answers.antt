@@ -18,12 +18,16 @@ loop-number-preserved c =
     c.loop-number-test.true c.index-inputs-number.is c.loop-number.invariant.listed in
     elim c.match-input.branch [
       | in-Object+in_ok-push-in-Object w ↦ record {
-        listed = more (ap (λ (v : Vec LinkedObject Global). map seen_object v.items) w.objects-is ∙ ap (map seen_object) w.in_ok-push-in-Object.ensures.items
+        listed = more
+            (ap (λ (v : Vec LinkedObject Global). map seen_object v.items) w.objects-is
+            ∙ ap (map seen_object) w.in_ok-push-in-Object.ensures.items
             ∙ map-append seen_object c.loop-number.objects.items _
-            ∙ ap (λ (xs : List (ℕ × List ℕ)). seen ++ xs) (one_object i c.index-inputs-number.result w.in-Object.bytes w.of_valid.result.bytes w.in-Object.is
+            ∙ ap (λ (xs : List (ℕ × List ℕ)). seen ++ xs)
+            (one_object i c.index-inputs-number.result w.in-Object.bytes w.of_valid.result.bytes w.in-Object.is
             (ap (λ (f : FileBytes). f.bytes) w.of_valid.ensures ∙ w.deref.ensures.value)));
         kinds = subst (λ (v : Vec LinkedObject Global). All kind v.items) (sym w.objects-is)
-            (subst (All kind) (sym w.in_ok-push-in-Object.ensures.items) (All-push kind c.loop-number.objects.items _ c.loop-number.invariant.kinds
+            (subst (All kind) (sym w.in_ok-push-in-Object.ensures.items)
+            (All-push kind c.loop-number.objects.items _ c.loop-number.invariant.kinds
             (ap (λ (f : FileBytes). f.is_dynamic) w.of_valid.ensures)));
       }
       | in_default w ↦ record {

@@ -10,12 +10,14 @@ use Rattle.macho_layout.proofs.compute.all_segments.Goals.{then-executable+in_ok
 pub loop-segment-preserved : goal.loop-segment-preserved
 loop-segment-preserved c =
     rw (c.in_ok-push-2.ensures.items, c.loop-segment.invariant, append_assoc)
-    (ap (λ (ss : List PlacedSegment). c.if-executable.segments.items ++ ss) (sym (take_more c.args.mapped.now _ _ c.loop-segment-test.true)))
+    (ap (λ (ss : List PlacedSegment). c.if-executable.segments.items ++ ss)
+    (sym (take_more c.args.mapped.now _ _ c.loop-segment-test.true)))
 
 pub returns : goal.returns
 returns c =
     let front : c.if-executable.segments.items ≡ list_if c.args.executable (zero_page ∷ []) = elim c.if-executable.branch [
-      | then-executable+in_ok-push w ↦ rw (w.segments-is, w.in_ok-push.ensures.items, c.new-segments.ensures.items, w.if-executable.true) refl
+      | then-executable+in_ok-push w ↦ rw
+          (w.segments-is, w.in_ok-push.ensures.items, c.new-segments.ensures.items, w.if-executable.true) refl
       | else-executable w ↦ rw (w.segments-is, c.new-segments.ensures.items, w.if-executable.false) refl
     ] in
     rw (c.in_ok-push-3.ensures.items, c.loop-segment.invariant, take_all _ c.args.mapped.now c.loop-segment-test.false, front) refl

@@ -10,7 +10,13 @@ use Rattle.macho_linkedit.proofs.imports.add_imports.Goals as goal
 
 pub overflow_cast-len : goal.overflow_cast-len
 overflow_cast-len c =
-    omega (arith, c.len.ensures, ap length c.loop-import.invariant.text, names_short c.args.imports.now c.loop-import.import-index, c.requires.short)
+    omega (
+      arith,
+      c.len.ensures,
+      ap length c.loop-import.invariant.text,
+      names_short c.args.imports.now c.loop-import.import-index,
+      c.requires.short,
+    )
 
 pub loop-import-preserved : goal.loop-import-preserved
 loop-import-preserved c =
@@ -18,7 +24,8 @@ loop-import-preserved c =
     let library = c.library_number.ensures.is ∙ ap
     (λ (x : List ℕ). position_or_len (bytes_eq x) (texts c.args.libraries.now) + 1) c.deref.ensures.value in
     plain_more (texts c.args.libraries.now) c.args.imports.now c.loop-import.import-index c.loop-import.entries.items c.push.new.self.items
-    c.loop-import.names.items c.push-in-loop-import.new.self.items c.import-item.result _ c.loop-import.invariant c.loop-import-test.true c.import-item.is
+    c.loop-import.names.items c.push-in-loop-import.new.self.items c.import-item.result _ c.loop-import.invariant c.loop-import-test.true
+    c.import-item.is
     (ap (λ (n : ℕ). let e : ImportEntry = record { library = n; name_offset = c.len.result; addend = pos 0 } in e) library
     ∙ ap (λ (n : ℕ). let e : ImportEntry = record {
       library = position_or_len (bytes_eq c.import-item.result.library.items) (texts c.args.libraries.now) + 1;

@@ -16,7 +16,8 @@ loop-entry-preserved c =
     let n = c.loop-entry.entry-index in
     let o : OwnEntry = get_or own n (record { import = 0; addend = 0 }) in
     let within : o.import < length plain = c.requires.among n (record { import = 0; addend = 0 }) c.loop-entry-test.true in
-    let same = λ (d : ImportEntry). among_plain plain c.loop-entry.invariant.rest c.loop-entry.entries.items o.import d c.index-plain.result.now
+    let same = λ
+    (d : ImportEntry). among_plain plain c.loop-entry.invariant.rest c.loop-entry.entries.items o.import d c.index-plain.result.now
     c.loop-entry.invariant.are within c.index-plain.ensures in
     own_more plain own n c.loop-entry.entries.items c.push.new.self.items o _ c.loop-entry.invariant c.loop-entry-test.true
     (get_or_default own n (record { import = 0; addend = 0 }) o c.loop-entry-test.true) c.in_ok-push.ensures.items (record {

@@ -6,7 +6,8 @@ use Rattle.macho_linkedit.proofs.imports.import_table.Goals.{then-is_empty, else
 
 pub returns-clause-fits : goal.returns-clause-fits
 returns-clause-fits c =
-    table_fits c.args.imports.now c.args.own.now c.args.libraries.now c.add_own.new.entries.items c.in_ok-names.names.items c.is_empty.result
+    table_fits c.args.imports.now c.args.own.now c.args.libraries.now c.add_own.new.entries.items c.in_ok-names.names.items
+    c.is_empty.result
     c.if-is_empty.format c.requires
     (record { plain = c.add_plain.new.entries.items; first = c.in_ok-names.ensures; behind = c.in_ok-add_own.ensures })
     c.is_empty.ensures
@@ -17,7 +18,8 @@ returns-clause-fits c =
 
 pub returns-clause-done : goal.returns-clause-done
 returns-clause-done c l are =
-    table_is l c.args.imports.now c.args.own.now c.args.libraries.now c.add_own.new.entries.items c.in_ok-names.names.items c.is_empty.result
+    table_is l c.args.imports.now c.args.own.now c.args.libraries.now c.add_own.new.entries.items c.in_ok-names.names.items
+    c.is_empty.result
     c.if-is_empty.format c.requires
     (record { plain = c.add_plain.new.entries.items; first = c.in_ok-names.ensures; behind = c.in_ok-add_own.ensures })
     c.is_empty.ensures

@@ -24,8 +24,10 @@ loop-symbol-preserved c =
     elim c.match-listed.branch [
       | in-Some+in_ok-push w ↦ record {
         done = λ l noted resolved is.
-            lists_add l c.args.object.now.number c.loop-symbol.symbol w.in-Some.length c.args.object.now.file.bytes c.args.table.now c.loop-symbol.table
-            c.match-listed.table (c.loop-symbol.invariant.done l noted resolved is) (sym w.in-Some.is ∙ c.in_ok-listed.ensures.is l noted resolved is)
+            lists_add l c.args.object.now.number c.loop-symbol.symbol w.in-Some.length c.args.object.now.file.bytes c.args.table.now
+            c.loop-symbol.table
+            c.match-listed.table (c.loop-symbol.invariant.done l noted resolved is)
+            (sym w.in-Some.is ∙ c.in_ok-listed.ensures.is l noted resolved is)
             (ap (λ (t : TableSymbols). t.symbols.items) w.table-is ∙ w.in_ok-push.ensures.items)
             (omega (arith, ap (λ (t : TableSymbols). t.strings) w.table-is, w.from.ensures));
         names = c.in_ok-listed.ensures.kept;

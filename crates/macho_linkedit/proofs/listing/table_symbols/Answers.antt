@@ -31,7 +31,9 @@ loop-object-preserved c = record {
         arith,
         c.in_ok-list_object.ensures.room,
         c.loop-object.invariant.room,
-        sum_by_more (λ (o : LinkedObject). num_symbols o.file.bytes) c.args.objects.now c.loop-object.object-index c.object-item.result c.loop-object-test.true,
+        sum_by_more
+            (λ (o : LinkedObject). num_symbols o.file.bytes) c.args.objects.now c.loop-object.object-index c.object-item.result
+            c.loop-object-test.true,
         ap (λ (o : LinkedObject). num_symbols o.file.bytes) c.object-item.is,
       );
 }

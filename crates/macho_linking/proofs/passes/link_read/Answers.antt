@@ -15,7 +15,8 @@ pub answer-requires : goal.answer-requires
 answer-requires c =
     let l = link_asked c.args.viewed.now.asked.now in
     let few = libraries_few l c.args.read c.in_ok-made.made.sized c.in_ok-made.ensures.done.sizes in
-    let long : length (map (λ n. n.items) c.args.libraries.items) ≡ length (libraries_needed l) = ap length c.requires.read_is.libraries_are in
+    let long : length (map (λ n. n.items) c.args.libraries.items) ≡ length (libraries_needed l) =
+    ap length c.requires.read_is.libraries_are in
     record { few = omega (arith, few, long, length-map c.args.libraries.items (λ n. n.items)) }
 
 pub returns-clause-done : goal.returns-clause-done

@@ -13,7 +13,10 @@ write_image-requires c =
 pub returns-in-Ok-clause-done : goal.returns-in-Ok-clause-done
 returns-in-Ok-clause-done c =
     let l = link_asked c.args.viewed.now.asked.now in
-    record { image = c.in-Ok.ensures.done l (to_planned l _ refl c.requires c.in_ok-sized.ensures.done); sizes = c.in_ok-sized.ensures.done }
+    record {
+      image = c.in-Ok.ensures.done l (to_planned l _ refl c.requires c.in_ok-sized.ensures.done);
+      sizes = c.in_ok-sized.ensures.done;
+    }
 
 pub returns-in-Err-clause-why : goal.returns-in-Err-clause-why
 returns-in-Err-clause-why c =

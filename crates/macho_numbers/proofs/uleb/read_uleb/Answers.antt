@@ -34,25 +34,30 @@ returns-in_err-groups-clause-only c n last u =
 pub returns-in_err-value-clause-value : goal.returns-in_err-value-clause-value
 returns-in_err-value-clause-value c =
     c.from_residual-in_err-value.ensures
-    ∙ sym (great c.args.bytes.now c.in_ok-groups.groups.now c.args.at c.in_ok-groups.ensures.0 c.in_ok-groups.ensures.1 c.in_err-value.ensures)
+    ∙ sym (great c.args.bytes.now c.in_ok-groups.groups.now c.args.at c.in_ok-groups.ensures.0 c.in_ok-groups.ensures.1
+    c.in_err-value.ensures)
 
 pub returns-in_err-value-clause-only : goal.returns-in_err-value-clause-only
 returns-in_err-value-clause-only c n last u =
     c.from_residual-in_err-value.ensures
-    ∙ sym (great c.args.bytes.now c.in_ok-groups.groups.now c.args.at c.in_ok-groups.ensures.0 c.in_ok-groups.ensures.1 c.in_err-value.ensures)
+    ∙ sym (great c.args.bytes.now c.in_ok-groups.groups.now c.args.at c.in_ok-groups.ensures.0 c.in_ok-groups.ensures.1
+    c.in_err-value.ensures)
     ∙ uleb_at-only c.args.bytes.now c.args.at n last u
 
 pub returns-clause-value : goal.returns-clause-value
 returns-clause-value c =
-    sym (told c.args.bytes.now c.in_ok-groups.groups.now c.args.at c.in_ok-value.value c.in_ok-groups.ensures.0 c.in_ok-groups.ensures.1 c.in_ok-value.ensures (omega arith))
+    sym (told c.args.bytes.now c.in_ok-groups.groups.now c.args.at c.in_ok-value.value c.in_ok-groups.ensures.0 c.in_ok-groups.ensures.1
+    c.in_ok-value.ensures (omega arith))
 
 pub returns-clause-found : goal.returns-clause-found
 returns-clause-found c =
-    let is = told c.args.bytes.now c.in_ok-groups.groups.now c.args.at c.in_ok-value.value c.in_ok-groups.ensures.0 c.in_ok-groups.ensures.1 c.in_ok-value.ensures (omega arith) in
+    let is = told c.args.bytes.now c.in_ok-groups.groups.now c.args.at c.in_ok-value.value c.in_ok-groups.ensures.0 c.in_ok-groups.ensures.1
+    c.in_ok-value.ensures (omega arith) in
     let P : Option (ℕ × ℕ) → Type 0 = λ o. IfSome o (λ r. IsUlebAt c.args.bytes.now c.args.at r.0 r.1) in
     subst P is (uleb_at-found c.args.bytes.now c.args.at)
 
 pub returns-clause-only : goal.returns-clause-only
 returns-clause-only c n last u =
-    sym (told c.args.bytes.now c.in_ok-groups.groups.now c.args.at c.in_ok-value.value c.in_ok-groups.ensures.0 c.in_ok-groups.ensures.1 c.in_ok-value.ensures (omega arith))
+    sym (told c.args.bytes.now c.in_ok-groups.groups.now c.args.at c.in_ok-value.value c.in_ok-groups.ensures.0 c.in_ok-groups.ensures.1
+    c.in_ok-value.ensures (omega arith))
     ∙ uleb_at-only c.args.bytes.now c.args.at n last u

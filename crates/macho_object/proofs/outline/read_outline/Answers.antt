@@ -9,6 +9,7 @@ returns-clause-found c =
       tables = c.in_ok-symtab.ensures.tables;
       symtab_is = c.in_ok-symtab.ensures.found;
       sections = λ (k : ℕ) lt.
-          sections_stand c.args.is_dynamic c.args.input.now c.in_ok-places.places _ k c.in_ok-places.ensures.found c.count_sections.ensures lt;
+          sections_stand c.args.is_dynamic c.args.input.now c.in_ok-places.places _ k c.in_ok-places.ensures.found c.count_sections.ensures
+          lt;
       sections_is = c.count_sections.ensures;
     }

@@ -13,6 +13,7 @@ abbrev pub invariant-loop-entry : goal.invariant-loop-entry
 invariant-loop-entry v =
     record {
       noted : (l : Link) (us : List Use) → IsNoted l us v.initial.needs → All (IsEntryOf l) v.entries
-          → BeginsWith l (us ++ flat_map uses_of_entry v.entries) → IsNoted l (us ++ flat_map uses_of_entry (take v.entry-index v.entries)) v.needs;
+          → BeginsWith l (us ++ flat_map uses_of_entry v.entries)
+          → IsNoted l (us ++ flat_map uses_of_entry (take v.entry-index v.entries)) v.needs;
       kept : (inputs : List Input) → Keeps inputs v.initial.needs.resolved.files → Keeps inputs v.needs.resolved.files;
     }

@@ -15,7 +15,8 @@ returns-clause-noted c l us noted of begins =
     let used = entry_used c.args.entry c.in-Some.used c.in-Some.is in
     let at = section_id c.args.entry.file c.args.entry.section in
     subst (λ (ws : List Use). IsNoted l (us ++ ws) c.use_personality.new.self) (sym used)
-    (c.in_ok-use_personality.ensures.noted l us at c.in-Some.used.number noted (subst (λ (ws : List Use). BeginsWith l (us ++ ws)) used begins)
+    (c.in_ok-use_personality.ensures.noted l us at c.in-Some.used.number noted
+    (subst (λ (ws : List Use). BeginsWith l (us ++ ws)) used begins)
     (subst (λ (o : Option PersonalityUse). IsPersonalityOf l at o) c.in-Some.is of) refl)
 
 pub returns-in_err-use_personality-clause-why : goal.returns-in_err-use_personality-clause-why

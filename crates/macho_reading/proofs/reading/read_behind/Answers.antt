@@ -15,7 +15,8 @@ pub returns-clause-done : goal.returns-clause-done
 returns-clause-done c l at =
     let keep = c.in-Ok.ensures.keeps l (imports_in l (uses_of_carried l)) at.views_are at.noted.imports in
     let are = c.in-Ok.ensures.rows l at.views_are in
-    let half = half_read l c.args.views.now (option_copied c.args.entry) (option_copied c.args.list) c.args.needs.now c.in-Ok.rows at are keep in
+    let half =
+    half_read l c.args.views.now (option_copied c.args.entry) (option_copied c.args.list) c.args.needs.now c.in-Ok.rows at are keep in
     record { noted = c.in_ok-note_rest.ensures.noted l half; are = are; keep = keep; entry = c.in_ok-note_rest.ensures.found l half }
 
 pub returns-in_err-note_rest-clause-why : goal.returns-in_err-note_rest-clause-why

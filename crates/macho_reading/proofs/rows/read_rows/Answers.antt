@@ -29,8 +29,10 @@ returns-clause-usable c =
     let read = objects_read c.args.views.now same.inputs same.are c.are_whole.ensures in
     let keeps = resolved.keeps in
     record {
-      initializers = subst (λ (xs : List Initializer). All (IsUsable c.args.symbols.now) xs) (sym (c.in_ok-initializers.ensures.rows l views))
-          (initializers_usable l c.args.symbols.now read keeps (c.in_ok-initializers.ensures.keeps l c.args.symbols.now.noted views resolved));
+      initializers =
+          subst (λ (xs : List Initializer). All (IsUsable c.args.symbols.now) xs) (sym (c.in_ok-initializers.ensures.rows l views))
+          (initializers_usable l c.args.symbols.now read keeps
+          (c.in_ok-initializers.ensures.keeps l c.args.symbols.now.noted views resolved));
       entries = subst (λ (xs : List UnwindEntry). All (IsUsableEntry c.args.symbols.now) xs) (sym (c.in_ok-entries.ensures.rows l views))
           (entries_usable l c.args.symbols.now read keeps (c.in_ok-entries.ensures.keeps l c.args.symbols.now.noted views resolved));
     }

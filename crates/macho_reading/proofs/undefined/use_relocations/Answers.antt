@@ -27,7 +27,8 @@ returns-in_err-use_symbol-clause-why c l counts has keeps =
     let got = some_section (nat_lt c.loop-index.index (section_at list.bytes list.section).nreloc) _ _ c.in-Some.ensures.done in
     let e = err_from_is_err_and c.from_residual.result c.from_residual.ensures.1 in
     rw (e.1, e.2)
-    (c.in_err-use_symbol.ensures.why l counts (section_id c.args.file list.section) c.loop-index.index (c.loop-index.invariant l.inputs keeps)
+    (c.in_err-use_symbol.ensures.why l counts (section_id c.args.file list.section) c.loop-index.index
+    (c.loop-index.invariant l.inputs keeps)
     (walk_got l c.args.needs.now.resolved.files c.args.file list c.args.kind c.args.size c.loop-index.index c.in-Some.relocation
     c.requires.section has below got (sym c.is_use.ensures ∙ c.if-not-is_use.false))
     (relocation_got l c.args.file list c.loop-index.index c.in-Some.relocation has got) refl)

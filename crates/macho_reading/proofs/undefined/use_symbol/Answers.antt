@@ -11,12 +11,15 @@ pub returns-in_err-use_initializer-in-Initializers-clause-why : goal.returns-in_
 returns-in_err-use_initializer-in-Initializers-clause-why c l counts s r keeps there is at =
     let e = err_from_is_err_and c.from_residual.result c.from_residual.ensures.1 in
     rw (e.1, e.2)
-    (c.in_err-use_initializer-in-Initializers.ensures.why l counts c.args.needs.now.resolved.noted s r (still_resolved l c.args.needs.now.resolved keeps)
+    (c.in_err-use_initializer-in-Initializers.ensures.why l counts c.args.needs.now.resolved.noted s r
+    (still_resolved l c.args.needs.now.resolved keeps)
     (subst (λ (k : Kind). Contains (uses_of l) (use_of k s r)) c.in-Initializers.is there) is at)
 
 pub returns-in_err-use_personality-in-Entries-clause-why : goal.returns-in_err-use_personality-in-Entries-clause-why
 returns-in_err-use_personality-in-Entries-clause-why c l counts s r keeps there is at =
-    let e = err_from_is_err_and c.from_residual-in_err-use_personality-in-Entries.result c.from_residual-in_err-use_personality-in-Entries.ensures.1 in
+    let e = err_from_is_err_and c.from_residual-in_err-use_personality-in-Entries.result
+    c.from_residual-in_err-use_personality-in-Entries.ensures.1 in
     rw (e.1, e.2)
-    (c.in_err-use_personality-in-Entries.ensures.why l counts c.args.needs.now.resolved.noted s r (still_resolved l c.args.needs.now.resolved keeps)
+    (c.in_err-use_personality-in-Entries.ensures.why l counts c.args.needs.now.resolved.noted s r
+    (still_resolved l c.args.needs.now.resolved keeps)
     (subst (λ (k : Kind). Contains (uses_of l) (use_of k s r)) c.in-Entries.is there) is at)

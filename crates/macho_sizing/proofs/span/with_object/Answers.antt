@@ -19,7 +19,8 @@ with_section-requires c =
     let b = c.args.object.now.bytes in
     let k = c.loop-section.section in
     let seen = header_viewed c.args.object.now k c.in-Some.header c.requires.object c.in-Some.ensures in
-    subst (λ (h : SectionHeader). h.align ≤ 14) (sym seen.0) (leb-true (section_at b k).align 14 ((object_keeps c.requires.rules).o7 k seen.1))
+    subst (λ (h : SectionHeader). h.align ≤ 14) (sym seen.0)
+    (leb-true (section_at b k).align 14 ((object_keeps c.requires.rules).o7 k seen.1))
 
 pub returns-in_err-span : goal.returns-in_err-span
 returns-in_err-span c =

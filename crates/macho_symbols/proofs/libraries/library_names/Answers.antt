@@ -13,6 +13,7 @@ loop-file-preserved c =
           (sym c.is_object.ensures ∙ w.if-not-is_object.true) w.library.ensures (ap (λ v. v.items) w.names-is ∙ w.in_ok-push.ensures.items)
       | else-not-is_object w ↦
           ap (λ v. map (λ n. n.now) v.items) w.names-is
-          ∙ object_more c.args.files.now c.loop-file.file-index c.file-item.result c.loop-file.names.items c.loop-file-test.true c.file-item.is
+          ∙ object_more c.args.files.now c.loop-file.file-index c.file-item.result c.loop-file.names.items c.loop-file-test.true
+          c.file-item.is
           c.loop-file.invariant (sym c.is_object.ensures ∙ w.if-not-is_object.false)
     ]

@@ -28,7 +28,8 @@ no_header = record {
 
 pub loop-done-init : goal.loop-done-init
 loop-done-init c =
-    finds_none (placed_of c.args.placement.now) (length c.args.placement.now.output_sections.items - 0) (get same_output c.new-numbers.result)
+    finds_none (placed_of c.args.placement.now) (length c.args.placement.now.output_sections.items - 0)
+    (get same_output c.new-numbers.result)
     (omega arith) (λ q. search)
 
 pub loop-done-preserved : goal.loop-done-preserved

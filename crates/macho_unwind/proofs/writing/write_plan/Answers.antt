@@ -47,7 +47,8 @@ returns c =
           ∙ ap (λ (h : CompactUnwindInfoHeader). put 0 (spelling compact_unwind_info_header_rows h) out) c.header_of.ensures;
       long = length-header_text plan;
     } in
-    let globals = put_next out c.write.new.out c.put_littles.new.out _ (row_bytes little 4 plan.globals) 28 (personalities_place plan) header
+    let globals =
+    put_next out c.write.new.out c.put_littles.new.out _ (row_bytes little 4 plan.globals) 28 (personalities_place plan) header
     (c.put_littles.ensures.written ∙ ap (λ (ns : List ℕ). put 28 (row_bytes little 4 ns) c.write.new.out) c.as_slice.ensures.value)
     (omega (arith, length-row_little 4 plan.globals)) (omega (arith, room)) in
     let place : 28 + 4 * c.len.result ≡ personalities_place plan = omega (arith, c.len.ensures) in

@@ -108,8 +108,10 @@ returns-clause-near c =
 
 pub returns-clause-pages : goal.returns-clause-pages
 returns-clause-pages c =
-    (plans_short c.args.text_start c.args.entries.now (plan_list c.in_ok-plan.plan) c.requires.some c.requires.entries (returns-clause-done c)).0
+    (plans_short c.args.text_start c.args.entries.now (plan_list c.in_ok-plan.plan) c.requires.some c.requires.entries
+    (returns-clause-done c)).0
 
 pub returns-clause-short : goal.returns-clause-short
 returns-clause-short c =
-    (plans_short c.args.text_start c.args.entries.now (plan_list c.in_ok-plan.plan) c.requires.some c.requires.entries (returns-clause-done c)).1
+    (plans_short c.args.text_start c.args.entries.now (plan_list c.in_ok-plan.plan) c.requires.some c.requires.entries
+    (returns-clause-done c)).1

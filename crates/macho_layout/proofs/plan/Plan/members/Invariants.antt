@@ -1,5 +1,5 @@
--- The members: what holds before section k is that the list has those of the first k sections; before common k, those of all sections and of the
--- first k commons.
+-- The members: what holds before section k is that the list has those of the first k sections; before common k, those of all sections and
+-- of the first k commons.
 use Rattle.std.proofs.Common.{◌≡◌, ◌++◌, map, take}
 use Rattle.macho_layout.specs.Keys.{specs_of}
 use Rattle.macho_layout.specs.Members.{section_member, common_member}

@@ -38,4 +38,5 @@ returns-clause-done c =
 pub returns-clause-found : goal.returns-clause-found
 returns-clause-found c =
     let all : c.loop-row.row ≡ row_count c.args.files.now c.args.file = omega (arith, c.loop-row-test.false, c.rows_in-count.ensures) in
-    subst (λ n. AreFoundIn c.args.files.now c.loop-row.self.entries.items c.args.file n c.loop-row.found.items) all c.loop-row.invariant.found
+    subst (λ n. AreFoundIn c.args.files.now c.loop-row.self.entries.items c.args.file n c.loop-row.found.items) all
+    c.loop-row.invariant.found

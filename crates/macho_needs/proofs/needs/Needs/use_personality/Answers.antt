@@ -22,17 +22,21 @@ returns-in_err-target-clause-why c l counts noted s r is there of here =
 
 pub returns-in_err-add_slot-clause-kept : goal.returns-in_err-add_slot-clause-kept
 returns-in_err-add_slot-clause-kept c inputs keeps =
-    files_stay c.use_symbol.result inputs c.args.self.now.resolved c.use_symbol.new.self.resolved (symbol_id c.args.file c.args.relocation.r_symbolnum) keeps c.use_symbol.ensures.noted c.use_symbol.ensures.kept
+    files_stay c.use_symbol.result inputs c.args.self.now.resolved c.use_symbol.new.self.resolved
+    (symbol_id c.args.file c.args.relocation.r_symbolnum) keeps c.use_symbol.ensures.noted c.use_symbol.ensures.kept
 
 pub returns-clause-noted : goal.returns-clause-noted
 returns-clause-noted c l us s r is next of here =
     let it = names_it l s r c.args.relocation c.args.file of here (no_addend c.args.relocation c.requires.form) c.requires.named in
     let leads = c.in_ok-target.ensures.leads l (imports_in l us) is.imports
     ∙ pointer_leads l us (ByPersonality s r) s r c.args.relocation c.args.file next of here c.requires.form c.requires.named refl in
-    let slots = ap (λ (t : Numbered). t.slots) c.in_ok-add_slot.ensures ∙ ap (λ (t : Numbered). with_some same_target t.slots (Some c.in_ok-target.target)) c.in_ok-target.ensures.others
+    let slots = ap (λ (t : Numbered). t.slots) c.in_ok-add_slot.ensures
+    ∙ ap (λ (t : Numbered). with_some same_target t.slots (Some c.in_ok-target.target)) c.in_ok-target.ensures.others
     ∙ ap (λ t. with_some same_target c.args.self.now.tables.slots (Some t)) leads in
-    symbol_noted l us (ByPersonality s r) (symbol_id c.args.file c.args.relocation.r_symbolnum) c.args.self.now (record { resolved = c.use_symbol.new.self.resolved; tables = c.add_slot.new.self })
-    is it (ap (global_name l) it) (c.in_ok-target.ensures.noted l (imports_in l us) is.imports) (c.in_ok-target.ensures.found l (imports_in l us) is.imports) slots
+    symbol_noted l us (ByPersonality s r) (symbol_id c.args.file c.args.relocation.r_symbolnum) c.args.self.now
+    (record { resolved = c.use_symbol.new.self.resolved; tables = c.add_slot.new.self })
+    is it (ap (global_name l) it) (c.in_ok-target.ensures.noted l (imports_in l us) is.imports)
+    (c.in_ok-target.ensures.found l (imports_in l us) is.imports) slots
     (ap (λ (t : Numbered). t.stubs) c.in_ok-add_slot.ensures ∙ ap (λ (t : Numbered). t.stubs) c.in_ok-target.ensures.others)
     (ap (λ (t : Numbered). t.own) c.in_ok-add_slot.ensures ∙ ap (λ (t : Numbered). t.own) c.in_ok-target.ensures.others) refl refl
 
@@ -43,4 +47,5 @@ returns-clause-leads c l us s r is next of here =
 
 pub returns-clause-kept : goal.returns-clause-kept
 returns-clause-kept c inputs keeps =
-    files_stay c.use_symbol.result inputs c.args.self.now.resolved c.use_symbol.new.self.resolved (symbol_id c.args.file c.args.relocation.r_symbolnum) keeps c.use_symbol.ensures.noted c.use_symbol.ensures.kept
+    files_stay c.use_symbol.result inputs c.args.self.now.resolved c.use_symbol.new.self.resolved
+    (symbol_id c.args.file c.args.relocation.r_symbolnum) keeps c.use_symbol.ensures.noted c.use_symbol.ensures.kept

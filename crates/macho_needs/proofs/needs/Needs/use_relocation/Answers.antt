@@ -21,24 +21,36 @@ returns-in_err-target-clause-why c l counts noted s r is there of here =
     (c.in_err-target.ensures.why l noted is))
 
 pub returns-in_err-note-clause-kept : goal.returns-in_err-note-clause-kept
-returns-in_err-note-clause-kept c inputs keeps = files_kept inputs c.args.self.now.resolved c.lead.new.self.resolved c.args.file c.args.relocation keeps c.in_ok-target.ensures.noted
+returns-in_err-note-clause-kept c inputs keeps =
+    files_kept inputs c.args.self.now.resolved c.lead.new.self.resolved c.args.file c.args.relocation keeps c.in_ok-target.ensures.noted
 
 pub returns-clause-noted : goal.returns-clause-noted
 returns-clause-noted c l us s r is next of here told =
     let other : (c.args.relocation.r_type == ARM64_RELOC_ADDEND) ≡ false = ne_eqb _ _ c.if-relocation-eq-ARM64_RELOC_ADDEND.false in
-    let whole : IsObject c.args.object.now.bytes = subst (λ b. IsFile b c.args.object.now.bytes) c.requires.object c.is_dynamic-object.ensures.kept in
-    let leads = c.in_ok-target.ensures.leads l (imports_in l us) is.imports (named_there l s r c.args.object.now c.args.relocation whole of other)
+    let whole : IsObject c.args.object.now.bytes =
+    subst (λ b. IsFile b c.args.object.now.bytes) c.requires.object c.is_dynamic-object.ensures.kept in
+    let leads =
+    c.in_ok-target.ensures.leads l (imports_in l us) is.imports (named_there l s r c.args.object.now c.args.relocation whole of other)
     ∙ leads_there l us s r c.args.object.now c.args.relocation c.args.file next of here other in
-    let tables = c.in_ok-note.ensures ∙ ap (with_use c.args.relocation.r_type c.in_ok-target.target c.args.pointer) c.in_ok-target.ensures.others in
-    use_noted l us s r c.args.self.now (record { resolved = c.lead.new.self.resolved; tables = c.note.new.self }) c.args.object.now c.args.relocation c.args.file c.args.pointer
-    c.in_ok-target.target is next of here told other (c.in_ok-target.ensures.noted l (imports_in l us) is.imports) (c.in_ok-target.ensures.found l (imports_in l us) is.imports) leads tables
+    let tables = c.in_ok-note.ensures
+    ∙ ap (with_use c.args.relocation.r_type c.in_ok-target.target c.args.pointer) c.in_ok-target.ensures.others in
+    use_noted l us s r c.args.self.now
+    (record {
+      resolved = c.lead.new.self.resolved;
+      tables = c.note.new.self;
+    }) c.args.object.now c.args.relocation c.args.file c.args.pointer
+    c.in_ok-target.target is next of here told other (c.in_ok-target.ensures.noted l (imports_in l us) is.imports)
+    (c.in_ok-target.ensures.found l (imports_in l us) is.imports) leads tables
 
 pub returns-clause-leads : goal.returns-clause-leads
 returns-clause-leads c l us s r is next of here =
     let other : (c.args.relocation.r_type == ARM64_RELOC_ADDEND) ≡ false = ne_eqb _ _ c.if-relocation-eq-ARM64_RELOC_ADDEND.false in
-    let whole : IsObject c.args.object.now.bytes = subst (λ b. IsFile b c.args.object.now.bytes) c.requires.object c.is_dynamic-object.ensures.kept in
+    let whole : IsObject c.args.object.now.bytes =
+    subst (λ b. IsFile b c.args.object.now.bytes) c.requires.object c.is_dynamic-object.ensures.kept in
     c.in_ok-target.ensures.leads l (imports_in l us) is.imports (named_there l s r c.args.object.now c.args.relocation whole of other)
-    ∙ leads_there l us s r c.args.object.now c.args.relocation c.args.file next of here other ∙ referent_is l s r c.args.object.now c.args.relocation of other
+    ∙ leads_there l us s r c.args.object.now c.args.relocation c.args.file next of here other
+    ∙ referent_is l s r c.args.object.now c.args.relocation of other
 
 pub returns-clause-kept : goal.returns-clause-kept
-returns-clause-kept c inputs keeps = files_kept inputs c.args.self.now.resolved c.lead.new.self.resolved c.args.file c.args.relocation keeps c.in_ok-target.ensures.noted
+returns-clause-kept c inputs keeps =
+    files_kept inputs c.args.self.now.resolved c.lead.new.self.resolved c.args.file c.args.relocation keeps c.in_ok-target.ensures.noted

@@ -11,5 +11,9 @@ pub returns : goal.returns
 returns c =
     let put = ap (map target_of) c.in_ok-insert.ensures.keys ∙ slot_put c.self.inside.slots.keys c.key.result
     ∙ ap (insert_key same_target (map target_of c.self.inside.slots.keys)) c.key.ensures in
-    ap (λ slots. record { slots = slots; stubs = map target.Import c.self.inside.stubs.keys; own = map entry_of c.self.inside.own.keys }) put
+    ap (λ slots. record {
+      slots = slots;
+      stubs = map target.Import c.self.inside.stubs.keys;
+      own = map entry_of c.self.inside.own.keys;
+    }) put
     ∙ ap (λ (t : Numbered). record t { slots = insert_key same_target t.slots c.args.target }) c.self.view_is

@@ -10,7 +10,8 @@ use Rattle.macho_symbols.specs.Entries.{entry_of}
 use Rattle.macho_needs.proofs.Mapped.{stub_put}
 use Rattle.macho_needs.proofs.tables.Tables.note_stub.Goals as goal
 
-needed : (kind : ℕ) (t : Target) (id : ℕ) → kind ≡ ARM64_RELOC_BRANCH26 → t ≡ target.Import id → stub_of_relocation kind t ≡ Some (target.Import id)
+needed : (kind : ℕ) (t : Target) (id : ℕ) → kind ≡ ARM64_RELOC_BRANCH26 → t ≡ target.Import id
+    → stub_of_relocation kind t ≡ Some (target.Import id)
 needed kind t id branch import = rw (branch, import) refl
 
 pub returns-in_ok-insert : goal.returns-in_ok-insert

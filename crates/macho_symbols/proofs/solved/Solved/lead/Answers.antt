@@ -31,6 +31,7 @@ returns-in_default c =
     let s = c.args.self.now in
     let name = get_or (names_of s.files.items s.table.entries.items) c.args.number [] in
     own
-    ∙ sym (leads_itself s.files.items (noted_of s.imports.items) name (event_at s.files.items c.entry-entry.result.file c.entry-entry.result.row)
+    ∙ sym (leads_itself s.files.items (noted_of s.imports.items) name
+    (event_at s.files.items c.entry-entry.result.file c.entry-entry.result.row)
     _ (λ e. c.in_default.not-Offered (sort ∙ e)) (λ e. c.in_default.not-Nowhere (sort ∙ e)))
     ∙ sym (leads s name c.args.number _ _ c.requires.solved (c.requires.entry, refl) c.entry-entry.ensures refl)

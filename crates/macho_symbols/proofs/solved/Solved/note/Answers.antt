@@ -21,7 +21,15 @@ returns-in_err-push-clause-kept c =
     let s = c.args.self.now in
     let same : IsUnchanged s
     (record { files = s.files; table = s.table; found = s.found; commons = s.commons; imports = c.push.new.self; numbers = s.numbers }) =
-    record { files = refl; heads = refl; entries = refl; found = refl; commons = refl; imports = c.in_err-push.ensures.items; numbers = refl } in
+    record {
+      files = refl;
+      heads = refl;
+      entries = refl;
+      found = refl;
+      commons = refl;
+      imports = c.in_err-push.ensures.items;
+      numbers = refl;
+    } in
     on_err _ _ same
 
 vec_len_is : {X A : Type 0} (v : Vec X A) → vec_len v ≡ length v.items

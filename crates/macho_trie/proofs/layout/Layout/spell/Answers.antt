@@ -30,7 +30,8 @@ loop-row-preserved c =
 
 pub returns-clause-done : goal.returns-clause-done
 returns-clause-done c =
-    spelled_last (tree_bytes (says_at c.args.self.now) (slice_index c.args.places.now) 0 (tree_at c.args.self.now)) c.args.at _ c.args.out.now
+    spelled_last
+    (tree_bytes (says_at c.args.self.now) (slice_index c.args.places.now) 0 (tree_at c.args.self.now)) c.args.at _ c.args.out.now
     c.loop-row.out c.loop-row.place c.loop-row.invariant
     (ap (λ (rs : List Row). tree_bytes (says_at c.args.self.now) (slice_index c.args.places.now) c.loop-row.row
     (trees_of (names_at c.args.self.now) rs)) (drop_all c.loop-row.row c.args.self.now.rows.now c.loop-row-test.false))
