@@ -2,7 +2,7 @@
 use Rattle.std.specs.Prelude.{ℕ, ◌+◌, nat_le, if◌then◌else◌, List, length, slice_range, Option, Some, None}
 use Rattle.macho_bytes.specs.Numbers.{ByteOrder, little}
 
--- A layout: the order of the bytes of numbers, how many bytes a record has, and how the record is made of what stands there: of numbers,
+-- A layout: the byte order, how many bytes a record has, and how the record is made of what stands there: of numbers,
 -- each by its width in bytes and its offset in the record, and of texts of 16 bytes (a name or a UUID), each by its offset.
 pub record Layout (R : Type 0) : Type 0 where
   pub order : ByteOrder

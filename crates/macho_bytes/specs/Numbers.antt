@@ -59,6 +59,6 @@ low x = x % PAGE
 abbrev pub page : ℕ → ℕ
 page x = x - low x
 
--- a number rounded up to a multiple of another, as sizes and places are aligned
+-- a number rounded up to a multiple of another
 abbrev pub rounded_up : ℕ → ℕ → ℕ
 rounded_up to n = (n + (to - 1)) / to * to

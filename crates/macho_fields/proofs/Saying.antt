@@ -16,7 +16,8 @@ use Rattle.macho_model.specs.Words.{is_ldr}
 use Rattle.macho_model.specs.Fields.{Field}
 use Rattle.macho_model.specs.Meaning.{Same, address, IsDistance}
 use Rattle.macho_model.specs.Placement.{Placed, id_of}
-use Rattle.macho_model.specs.Stands.{IsAt, Kind, Pointer, Difference, Branch, Page, Offset, SlotPage, SlotOffset, SlotDistance, NoKind, PointerSays, LoadSays, SubtrahendIsAt, Says, is_template_offset}
+use Rattle.macho_model.specs.Stands.{IsAt, Kind, Pointer, Difference, Branch, Page, Offset, SlotPage, SlotOffset, SlotDistance, NoKind, PointerSays, LoadSays, SubtrahendIsAt, is_template_offset}
+use Rattle.macho_model.specs.steps.Stands.{SaysOf}
 use Rattle.macho_model.specs.Values.{less}
 use Rattle.macho_model.proofs.EachBelow.{true_or_false}
 use Rattle.macho_arm64.specs.declared.kinds.FieldSize.{FieldSize}
@@ -133,7 +134,7 @@ pub says_by_kind : (l : Link) (p : Placed) (look : Look) (q : PlacedSection) (f 
     → TellsAddresses p look → IsPlacedOnce p → place_in q f < 2 ^ 64 → KindFits p f input kind
     → (kind ≡ Pointer → (is_import f.target ≡ false) × IsStart (is_template_offset l (id_of q) f) p.template start)
     → le_at f.width old f.offset ≡ input → IsPut (write_in look (place_in q f) start f kind) old new
-    → Says l p 0 empty (id_of q) f (q.address + f.offset + 0) (le_at f.width new f.offset) input kind
+    → SaysOf l p 0 empty (id_of q) f (q.address + f.offset + 0) (le_at f.width new f.offset) input kind
 says_by_kind l p look q f start input old new Pointer tells once below fits begins still put =
     let own = begins refl in
     let at = subst (IsAt l p 0 empty f.target) (sym (address_told p look f.target tells))

@@ -18,7 +18,8 @@ use Rattle.macho_model.specs.Links.{Link, SectionId, object_of, header_at, carri
 use Rattle.macho_model.specs.Needs.{relocation_in}
 use Rattle.macho_model.specs.Fields.{Field, field_of, content_of, is_prefix_type, is_pair, is_difference, is_with_addend, takes_addend}
 use Rattle.macho_model.specs.Placement.{Placed, id_of}
-use Rattle.macho_model.specs.Stands.{Says, kind_of}
+use Rattle.macho_model.specs.Stands.{kind_of}
+use Rattle.macho_model.specs.steps.Stands.{SaysOf}
 use Rattle.macho_model.specs.Values.{needs_fixup}
 use Rattle.macho_model.specs.Supported.{RelocationsAreSupported}
 use Rattle.macho_model.proofs.EachBelow.{true_or_false, and_left, and_right, either}
@@ -104,7 +105,7 @@ set_stays : (l : Link) (p : Placed) (q : PlacedSection) (f g : Field) (old new :
     → AreApart f g
     → f.offset + f.width ≤ length old → FieldIsSet l p q old f → FieldIsSet l p q new f
 set_stays l p q f g old new changes apart inside set plain =
-    subst (λ (word : ℕ). Says l p 0 empty (id_of q) f (q.address + f.offset + 0) word (content_of l (id_of q) f.relocation)
+    subst (λ (word : ℕ). SaysOf l p 0 empty (id_of q) f (q.address + f.offset + 0) word (content_of l (id_of q) f.relocation)
     (kind_of f.type (is_some f.subtrahend)))
     (sym (number_stands f.offset f.width g.offset g.width old new changes apart inside)) (set plain)
 

@@ -12,12 +12,12 @@ use Rattle.macho_model.specs.Targets.{is_import, is_defined}
 use Rattle.macho_model.specs.Fields.{Field, content_of}
 use Rattle.macho_model.specs.Placement.{Placed, id_of}
 use Rattle.macho_model.specs.Memory.{Choice, Covers, HoldsNumber}
-use Rattle.macho_model.specs.Stands.{IsAt, CallIsAt, LoadIsAt, LoadSays, SlotAt, SubtrahendIsAt, Kind, Pointer, Difference, Branch, Page, Offset, SlotPage, SlotOffset, SlotDistance, NoKind, kind_of, Says, Denotes}
+use Rattle.macho_model.specs.Stands.{IsAt, CallIsAt, LoadIsAt, LoadSays, SlotAt, SubtrahendIsAt, Kind, Pointer, Difference, Branch, Page, Offset, SlotPage, SlotOffset, SlotDistance, NoKind, kind_of, Denotes}
 use Rattle.macho_model.specs.SlideLaws.{subtrahend_moves, targets_move}
 use Rattle.macho_model.proofs.EachBelow.{true_or_false, and_left, and_right}
 use Rattle.macho_model.proofs.ChainMemory.{memory_moves}
 use Rattle.macho_model.proofs.Slides.{branch_slides, difference_slides, distance_slides, page_of_slides, offset_slides, adds_slides, loads_slides}
-use Rattle.macho_model.specs.steps.Stands.{StubAt}
+use Rattle.macho_model.specs.steps.Stands.{StubAt, SaysOf}
 
 -- a target that moves with the image is at its place plus the slide
 pub defined_moves : (l : Link) (p : Placed) (c d : Choice) (t : Target) (x s : ℕ) → is_defined t ≡ true → IsAt l p 0 c t x
@@ -78,7 +78,7 @@ subtrahend_at l p c d (Some t) y s moves h = defined_moves l p c d t y s moves h
 -- What a field says at slide 0 it says at every slide of whole pages.
 pub says_at_every_slide : (l : Link) (p : Placed) (c d : Choice) (id : SectionId) (f : Field) (place word input s : ℕ) (kind : Kind)
     → s % 4096 ≡ 0
-    → targets_move f kind ≡ true → Says l p 0 c id f place word input kind → Says l p s d id f (place + s) word input kind
+    → targets_move f kind ≡ true → SaysOf l p 0 c id f place word input kind → SaysOf l p s d id f (place + s) word input kind
 says_at_every_slide l p c d id f place word input s Pointer whole moves h = absurd (true_or_false false moves refl)
 says_at_every_slide l p c d id f place word input s Difference whole moves h =
     let one = and_left (is_defined f.target) (subtrahend_moves f.subtrahend) moves in
@@ -132,6 +132,6 @@ denotes_at_every_slide l b p s c d q f whole moves uncovered h =
           (subst (λ x. HoldsNumber b 0 c f.width x h.word) zero_slide h.held);
       says = says_at_every_slide l p c d (id_of q) f (q.address + f.offset) h.word (content_of l (id_of q) f.relocation) s
           (kind_of f.type (is_some f.subtrahend)) whole moves
-          (subst (λ x. Says l p 0 c (id_of q) f x h.word (content_of l (id_of q) f.relocation)
+          (subst (λ x. SaysOf l p 0 c (id_of q) f x h.word (content_of l (id_of q) f.relocation)
           (kind_of f.type (is_some f.subtrahend))) zero_slide h.says);
     }

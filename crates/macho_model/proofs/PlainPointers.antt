@@ -14,7 +14,8 @@ use Rattle.macho_model.specs.Links.{Link, SectionId, header_at}
 use Rattle.macho_model.specs.Fields.{Field, content_of}
 use Rattle.macho_model.specs.Placement.{Placed, id_of}
 use Rattle.macho_model.specs.Memory.{Choice, HoldsNumber}
-use Rattle.macho_model.specs.Stands.{Pointer, Kind, kind_of, is_in_template, is_template_offset, IsAt, PointerSays, Says, Denotes}
+use Rattle.macho_model.specs.Stands.{Pointer, Kind, kind_of, is_in_template, is_template_offset, IsAt, PointerSays, Denotes}
+use Rattle.macho_model.specs.steps.Stands.{SaysOf}
 use Rattle.macho_model.specs.Values.{is_absolute_target}
 use Rattle.macho_model.specs.HeldLaws.{IsFree}
 use Rattle.macho_model.proofs.EachBelow.{true_or_false, and_right, or_right}
@@ -48,11 +49,11 @@ absolute_stays l p c d target.None x s is at = absurd (true_or_false false is re
 
 -- what a pointer says, whatever its place and the input's word are
 pointer_stays : (l : Link) (p : Placed) (c d : Choice) (id : SectionId) (f : Field) (word s : ℕ)
-    → (is_template_offset l id f || is_absolute_target f.target) ≡ true → Says l p 0 c id f 0 word 0 Pointer
-    → Says l p s d id f 0 word 0 Pointer
+    → (is_template_offset l id f || is_absolute_target f.target) ≡ true → SaysOf l p 0 c id f 0 word 0 Pointer
+    → SaysOf l p s d id f 0 word 0 Pointer
 pointer_stays l p c d id f word s plain h = by (is_template_offset l id f) refl
   where
-    by : (t : Bool) → is_template_offset l id f ≡ t → Says l p s d id f 0 word 0 Pointer
+    by : (t : Bool) → is_template_offset l id f ≡ t → SaysOf l p s d id f 0 word 0 Pointer
     by true is = (
       h.0 + s,
       template_moves l p c d f.target h.0 s
@@ -77,8 +78,9 @@ pub plain_pointer_stays : (l : Link) (b : List ℕ) (p : Placed) (s : ℕ) (c d 
 plain_pointer_stays l b p s c d q f kind plain free h =
     let zero_slide : q.address + f.offset + 0 ≡ q.address + f.offset = omega arith in
     let input : ℕ = content_of l (id_of q) f.relocation in
-    let says = subst (λ (k : Kind). Says l p 0 c (id_of q) f (q.address + f.offset + 0) h.word input k) kind h.says in
-    let moved : Says l p s d (id_of q) f (q.address + f.offset + s) h.word input Pointer = pointer_stays l p c d (id_of q) f h.word s plain
+    let says = subst (λ (k : Kind). SaysOf l p 0 c (id_of q) f (q.address + f.offset + 0) h.word input k) kind h.says in
+    let moved : SaysOf l p s d (id_of q) f (q.address + f.offset + s) h.word input Pointer =
+    pointer_stays l p c d (id_of q) f h.word s plain
     says in
     record {
       word = h.word;

@@ -95,26 +95,33 @@ LoadIsAt l p s choice t x = IsAt l p s choice t x
 abbrev pub SubtrahendIsAt : Link → Placed → ℕ → Choice → Option Target → ℕ → Type 0
 SubtrahendIsAt l p s choice subtrahend x = MatchOption subtrahend ⊥ (λ t. IsAt l p s choice t x)
 
--- What a field says, by its kind: of its place in memory, the word that is there, and the one that the input has. A pointer has 8 bytes, a
--- distance to a slot is a signed number of 4.
-abbrev pub Says : Link → Placed → ℕ → Choice → SectionId → Field → ℕ → ℕ → ℕ → Kind → Type 0
-Says l p s choice id f place word input Pointer =
-    (x : ℕ) × IsAt l p s choice f.target x × PointerSays (is_template_offset l id f) p.template s word (x + f.addend) × (f.width ≡ 8)
-Says l p s choice id f place word input Difference =
-    (x : ℕ) × (y : ℕ) × IsAt l p s choice f.target x × SubtrahendIsAt l p s choice f.subtrahend y × IsDifference f.width word x y f.addend
-Says l p s choice id f place word input Branch = (x : ℕ) × CallIsAt l p s choice f.target x × BranchesTo place word input (x + f.addend)
-Says l p s choice id f place word input Page = (x : ℕ) × IsAt l p s choice f.target x × PagesTo place word input (x + f.addend)
-Says l p s choice id f place word input Offset = (x : ℕ) × IsAt l p s choice f.target x × OffsetsTo word input (x + f.addend)
-Says l p s choice id f place word input SlotPage = (x : ℕ) × LoadIsAt l p s choice f.target x × PagesTo place word input x
-Says l p s choice id f place word input SlotOffset = LoadSays l p s choice f.target word input
-Says l p s choice id f place word input SlotDistance = (slot : ℕ) × SlotAt p s f.target slot × Same (place + signed 32 word) slot
-Says l p s choice id f place word input NoKind = ⊥
+-- What is seen of a field: its place in memory, the word that is there, and the one that the input has.
+pub record Seen : Type 0 where
+  pub place : ℕ
+  pub word : ℕ
+  pub input : ℕ
+
+-- What a field says, by its kind. A pointer has 8 bytes, a distance to a slot is a signed number of 4.
+abbrev pub Says : Link → Placed → ℕ → Choice → SectionId → Field → Seen → Kind → Type 0
+Says l p s choice id f seen Pointer =
+    (x : ℕ) × IsAt l p s choice f.target x × PointerSays (is_template_offset l id f) p.template s seen.word (x + f.addend) × (f.width ≡ 8)
+Says l p s choice id f seen Difference =
+    (x : ℕ) × (y : ℕ) × IsAt l p s choice f.target x × SubtrahendIsAt l p s choice f.subtrahend y
+    × IsDifference f.width seen.word x y f.addend
+Says l p s choice id f seen Branch = (x : ℕ) × CallIsAt l p s choice f.target x × BranchesTo seen.place seen.word seen.input (x + f.addend)
+Says l p s choice id f seen Page = (x : ℕ) × IsAt l p s choice f.target x × PagesTo seen.place seen.word seen.input (x + f.addend)
+Says l p s choice id f seen Offset = (x : ℕ) × IsAt l p s choice f.target x × OffsetsTo seen.word seen.input (x + f.addend)
+Says l p s choice id f seen SlotPage = (x : ℕ) × LoadIsAt l p s choice f.target x × PagesTo seen.place seen.word seen.input x
+Says l p s choice id f seen SlotOffset = LoadSays l p s choice f.target seen.word seen.input
+Says l p s choice id f seen SlotDistance = (slot : ℕ) × SlotAt p s f.target slot × Same (seen.place + signed 32 seen.word) slot
+Says l p s choice id f seen NoKind = ⊥
 
 -- A field of a placed section denotes its target and addend in memory.
 pub record Denotes (l : Link) (b : List ℕ) (p : Placed) (s : ℕ) (choice : Choice) (q : PlacedSection) (f : Field) : Type 0 where
   pub word : ℕ
   pub held : HoldsNumber b s choice f.width (q.address + f.offset + s) word
-  pub says : Says l p s choice (id_of q) f (q.address + f.offset + s) word (content_of l (id_of q) f.relocation)
+  pub says : Says l p s choice (id_of q) f
+      (record { place = q.address + f.offset + s; word = word; input = content_of l (id_of q) f.relocation })
       (kind_of f.type (is_some f.subtrahend))
 
 -- A carried section stands: outside its fields its input's bytes, zeros for zerofill; and each field denotes.

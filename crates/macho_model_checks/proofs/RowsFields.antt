@@ -9,7 +9,8 @@ use Rattle.macho_model.specs.Links.{Link, SectionId}
 use Rattle.macho_model.specs.Fields.{Field}
 use Rattle.macho_model.specs.Placement.{Placed}
 use Rattle.macho_model.specs.Memory.{Choice}
-use Rattle.macho_model.specs.Stands.{Pointer, Says, LoadSays, LoadIsAt}
+use Rattle.macho_model.specs.Stands.{Pointer, LoadSays, LoadIsAt}
+use Rattle.macho_model.specs.steps.Stands.{SaysOf}
 use Rattle.macho_model.specs.Words.{is_branch, is_adrp, is_add, is_ldr, is_load_store, scale_of}
 use Rattle.macho_model.specs.Meaning.{PointsTo, IsDifference, BranchesTo, PagesTo, OffsetsTo, AddsTo, LoadsFrom, IsDistance, GoesThrough}
 use Rattle.macho_model.specs.steps.Words.{load_scale}
@@ -133,7 +134,7 @@ a_stub_slid = record {
 -- a pointer has 8 bytes: one of 4 says nothing, whatever word is there
 pub short_pointer_says_nothing : (l : Link) (p : Placed) (s : ℕ) (choice : Choice) (id : SectionId) (f : Field) (place word input : ℕ)
     → f.width ≡ 4
-    → Says l p s choice id f place word input Pointer → ⊥
+    → SaysOf l p s choice id f place word input Pointer → ⊥
 short_pointer_says_nothing l p s choice id f place word input four says = absurd (omega (arith, four, says.3))
 
 -- and a value that does not move is not loaded, nor is its page

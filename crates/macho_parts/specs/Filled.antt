@@ -21,7 +21,8 @@ use Rattle.macho_model.specs.Spans.{IsOutsideField}
 abbrev pub FieldIsSet : Link → Placed → PlacedSection → List ℕ → Field → Type 0
 FieldIsSet l p q text f =
     needs_fixup l (id_of q) f ≡ false
-    → Says l p 0 empty (id_of q) f (q.address + f.offset + 0) (le_at f.width text f.offset) (content_of l (id_of q) f.relocation)
+    → Says l p 0 empty (id_of q) f
+    (record { place = q.address + f.offset + 0; word = le_at f.width text f.offset; input = content_of l (id_of q) f.relocation })
     (kind_of f.type (is_some f.subtrahend))
 
 -- THE bytes of a placed section.

@@ -35,7 +35,7 @@ use Rattle.macho_model.specs.steps.Parts.{LiesInNamed, SectionLies}
 use Rattle.macho_model.specs.Addresses.{offset_in_file}
 use Rattle.macho_model.specs.Memory.{Choice, BindsAll, Holds, HoldsNumber}
 use Rattle.macho_model.specs.HeldLaws.{IsFree}
-use Rattle.macho_model.specs.Stands.{kind_of, Says, Denotes, SectionStands, StubStands}
+use Rattle.macho_model.specs.Stands.{kind_of, Denotes, SectionStands, StubStands}
 use Rattle.macho_model.specs.Values.{needs_fixup}
 use Rattle.macho_parts.specs.Filled.{FieldIsSet, bytes_in_file}
 use Rattle.macho_standing.specs.Composed.{SectionIsWritten, StubIsWritten}
@@ -46,7 +46,7 @@ use Rattle.macho_standing.proofs.Apart.{parts_apart, placed_is_carried, part_fre
 use Rattle.macho_standing.proofs.Held.{IsBacked, place_in_file, number_held, byte_held, zero_held, section_is_mapped, segment_small}
 use Rattle.macho_standing.proofs.Rests.{RestsOn, IsReady, IsJoined, AreZero}
 use Rattle.macho_standing.proofs.Words.{pointer_stands}
-use Rattle.macho_model.specs.steps.Stands.{CommonStands}
+use Rattle.macho_model.specs.steps.Stands.{CommonStands, SaysOf}
 use Rattle.macho_model.proofs.Parts.{apart_of, in_segment_of}
 
 -- a segment that is not the one that keeps addresses free
@@ -208,7 +208,7 @@ plain_denotes rests l counts b p ready joined q f one written field plain some =
       held = number_held rests.memory.numbers b seg.segment 0 empty (q.address + f.offset) f.width seg.back (omega (arith, seg.from))
           (omega (arith, to, inside))
           (field_free l counts b p q f ready joined one field plain);
-      says = subst (λ (w : ℕ). Says l p 0 empty (id_of q) f (q.address + f.offset + 0) w (content_of l (id_of q) f.relocation)
+      says = subst (λ (w : ℕ). SaysOf l p 0 empty (id_of q) f (q.address + f.offset + 0) w (content_of l (id_of q) f.relocation)
           (kind_of f.type (is_some f.subtrahend))) word
           (All-contains (FieldIsSet l p q (bytes_in_file b p q.address (header_at l (id_of q)).size))
           (fields_of l (id_of q)) f filled.set field plain);

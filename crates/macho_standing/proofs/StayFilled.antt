@@ -28,7 +28,8 @@ use Rattle.macho_model.specs.Addresses.{offset_in_file}
 use Rattle.macho_model.specs.Needs.{POINTER_SIZE}
 use Rattle.macho_model.specs.Fixups.{IsFixupPlace}
 use Rattle.macho_model.specs.Meaning.{GoesThrough}
-use Rattle.macho_model.specs.Stands.{Says, kind_of}
+use Rattle.macho_model.specs.Stands.{kind_of}
+use Rattle.macho_model.specs.steps.Stands.{SaysOf}
 use Rattle.macho_model.specs.Values.{needs_fixup}
 use Rattle.macho_fixups.specs.declared.run.Fixup.{Fixup}
 use Rattle.macho_fixups.specs.Laws.{BytesStay}
@@ -164,7 +165,7 @@ sections_stay_filled stay l counts p fixups before now q link w one some filled 
         little_is_local.alike f.width (bytes_in_file before p q.address (header_at l (id_of q)).size)
         (bytes_in_file now p q.address (header_at l (id_of q)).size)
         f.offset f.offset (λ k within. sym (field_byte f field plain k within)) in
-        subst (λ (word : ℕ). Says l p 0 empty (id_of q) f (q.address + f.offset + 0) word (content_of l (id_of q) f.relocation)
+        subst (λ (word : ℕ). SaysOf l p 0 empty (id_of q) f (q.address + f.offset + 0) word (content_of l (id_of q) f.relocation)
         (kind_of f.type (is_some f.subtrahend))) same
         (was plain)
 
