@@ -3,14 +3,16 @@
 believed.py                 the definitions under the clauses of `run`, in reading order, with lines; then the rules below
 believed.py --crate NAME    the files of a crate's specs/, and which definitions of each a public clause rests on
 believed.py --shares        the definitions under `run` that take the most lines with them: what would go if nothing needed them
-believed.py --lines         writes the reading list and its parts into docs/THEOREMS.md, and the lines of the files that its tables name
+believed.py --lines         writes the reading list and its parts into docs/THEOREMS.md, the lines of the files that its tables name, and the
+                            number of all lines into README.md
 
 The size of what must be believed is the lines of the definitions under `run`: types, equations, fields and cases. Comments are told apart:
 no theorem rests on them.
 
 Refused are: more lines than MOST_LINES under the clauses of `run`, a file of specs/steps/ under a clause of a public function of any crate
-(or under what a public type or trait stands for), a file of specs/ that imports one of specs/steps/, and a row of a table of sentences
-(README.md and docs/PROVED.md have these) that names a function or clause that isn't there. Refused is also a file of the reading list
+(or under what a public type or trait stands for), a file of specs/ that imports one of specs/steps/, a row of a table of sentences
+(docs/PROVED.md has these) that names a function or clause that isn't there, and a clause of `run` or of `link` that no such row names.
+A table of sentences on another page is refused: its rows would be told twice. Refused is also a file of the reading list
 that isn't in just one row of the table of public sources (docs/THEOREMS.md), and a row of that table that names a file that isn't
 there, or no source.
 """
@@ -28,14 +30,15 @@ SOURCES, SOURCES_END = "<!-- sources -->\n", "<!-- end of the sources -->\n"
 # The most lines of definitions under `run`, without comments.
 MOST_LINES = 3500
 
-# The pages whose tables say which clause carries a sentence.
-TABLES = ["README.md", os.path.join("docs", "PROVED.md")]
+# The page whose tables say which clause carries a sentence, and the functions each clause of which has to be in them.
+TABLES = os.path.join("docs", "PROVED.md")
+TOLD_WHOLE = [("wild_macho", "run"), ("macho_linking", "link")]
 
 # What is promised, from the headline outwards: each part's last definition, and what it says.
 PROMISED = [
     ("macho_model.specs.Stands", "IsLoadable", "the headline: parts have their places, the loader accepts the file, and at every slide and for every choice of import addresses the image stands in memory"),
     ("macho_promise.specs.Promise", "IsLinked", "the image whole: sizes and order, commands and tables, exports and unwind information by look-up, and every byte of what isn't a section's"),
-    ("macho_faults.specs.Standing", "Stands", "why a link is refused"),
+    ("macho_answer.specs.Standing", "Stands", "why a link is refused"),
     ("macho_model.specs.Valid", "IsValid", "for which links the linker must write an image"),
     ("macho_job.specs.Job", "IsJob", "what words and files ask for: options, search, kinds of input, objects, libraries and text stubs, made objects"),
     ("wild_macho.specs.Runs", "IsRun", "a run: what it leaves, prints and answers, and the cause of every other status"),
@@ -524,15 +527,32 @@ def wrong_row(crates, row):
     return wrong
 
 
-def wrong_rows(crates):
-    """What is wrong with the rows of the tables of sentences, and whether a page has none."""
+def untold(rows):
+    """The clauses of the functions of TOLD_WHOLE that no row of theirs names."""
     wrong = []
-    for page in TABLES:
-        rows = rows_of(page)
-        wrong += [f"{page}: {it}" for row in rows for it in wrong_row(crates, row)]
-        if not rows:
-            wrong.append(f"{page} has no table of sentences")
+    for crate, name in TOLD_WHOLE:
+        told = set()
+        for row in rows:
+            cells = row.strip().strip("|").split(" | ")
+            words = re.findall(r"`([^`]+)`", cells[1]) if len(cells) == 3 else []
+            if words[:1] == [crate] and name in words[1:]:
+                told |= set(re.findall(r"`([^`]+)`", cells[2]))
+        found = [function for function in functions_of(crate) if function.is_public and function.name == name and not function.owner]
+        clauses = [label or kind for function in found for kind, label, _ in function.clauses if kind == "ensures"]
+        if not clauses:
+            wrong.append(f"{crate} {name} has no clauses")
+        wrong += [f"no row names clause '{it}' of {crate} {name}" for it in clauses if it not in told]
     return wrong
+
+
+def wrong_rows(crates):
+    """What is wrong with the rows of the tables of sentences, and whether they are elsewhere."""
+    rows = rows_of(TABLES)
+    wrong = [f"{TABLES}: {it}" for row in rows for it in wrong_row(crates, row)] + [f"{TABLES}: {it}" for it in untold(rows)]
+    if not rows:
+        wrong.append(f"{TABLES} has no table of sentences")
+    pages = ["README.md"] + sorted(os.path.join("docs", name) for name in os.listdir(os.path.join(TOP, "docs")) if name.endswith(".md"))
+    return wrong + [f"{page} has a table of sentences, which {TABLES} should have" for page in pages if page != TABLES and rows_of(page)]
 
 
 def rows_of_sources():
@@ -630,7 +650,12 @@ def write_lines(world):
             lines[number] = f"| {row.group(1)} | {total} |" + line[row.end():]
     with open(path, "w", encoding="utf-8") as file:
         file.write("\n".join(lines))
-    return missing
+    front = os.path.join(TOP, "README.md")
+    total = sum(lines_of(world, one) for found in reading_list(world, run_of(world)).values() for one in found)
+    text, count = re.subn(r"lists the [\d,]+ lines of", f"lists the {total:,} lines of", read(front))
+    with open(front, "w", encoding="utf-8") as file:
+        file.write(text)
+    return missing if count == 1 else missing + ["README.md doesn't tell the lines of definitions once"]
 
 
 def main():

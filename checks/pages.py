@@ -3,8 +3,8 @@
 docs/USAGE.md has each option, each rule on inputs, and the words of each line that is printed; docs/ARCHITECTURE.md has each crate once,
 and no other; each page that README.md names is there, and each file of docs/ is named there; crates.txt names for a crate the libraries
 that its files name, and no other, and those that its edits name; each edit of must-fail/ and planted/ fits its files; little is read along
-the paths down from its crates. No line of a crate is wider than MOST_WIDE, but for imports and attributes. `pages.py --paths` prints the
-libraries that cost most.
+the paths down from its crates. No line of a crate is wider than MOST_WIDE, but for imports and attributes, and no line of a page, but for
+tables and what is indented as code. README.md has at most MOST_FRONT lines. `pages.py --paths` prints the libraries that cost most.
 """
 import os
 import re
@@ -186,10 +186,21 @@ def wrong_widths():
     return wrong
 
 
+# The page that is read first has at most so many lines.
+MOST_FRONT = 90
+
+
 def wrong_pages():
     told = set(re.findall(r"^\| `docs/(\w+\.md)` \|", read("README.md"), re.M))
     there = {name for name in os.listdir(os.path.join(TOP, "docs")) if name.endswith(".md")}
-    return [f"README.md and docs/ differ in {name}" for name in sorted(told ^ there)]
+    wrong = [f"README.md and docs/ differ in {name}" for name in sorted(told ^ there)]
+    for page in ["README.md"] + [os.path.join("docs", name) for name in sorted(there)]:
+        lines = read(page).split("\n")
+        wide = [number for number, line in enumerate(lines, 1) if len(line) > MOST_WIDE and not line.startswith(("|", "    "))]
+        wrong += [f"{page}:{number} has {len(lines[number - 1])} characters" for number in wide]
+        if page == "README.md" and len(lines) - 1 > MOST_FRONT:
+            wrong.append(f"{page} has {len(lines) - 1} lines, more than {MOST_FRONT}")
+    return wrong
 
 
 if __name__ == "__main__":

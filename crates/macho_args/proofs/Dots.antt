@@ -2,8 +2,7 @@
 --
 -- Where there is no dot, the text is the one part. Else the first part ends before the first dot, and the
 -- other parts are those of the text behind it. A fourth part makes the text no version.
-use Rattle.std.proofs.Common.{ℕ, suc, ◌<◌, nat_lt, true, cond}
-use Rattle.std.proofs.Common.{◌≡◌, ◌≢◌, codes, List, [], ◌∷◌, length, eqb, get_or, arith, Option, None, refl}
+use Rattle.std.proofs.Common.{ℕ, suc, ◌<◌, nat_lt, true, cond, ◌≡◌, ◌≢◌, codes, List, [], ◌∷◌, length, eqb, get_or, arith, Option, None, refl}
 use Rattle.std.specs.List.{position_or_len, before_first, after_first}
 use Rattle.std.proofs.lemmas.Bool.Decides.{nat_tests}
 use Rattle.std.proofs.lemmas.List.{get_or_default}

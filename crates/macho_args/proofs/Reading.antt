@@ -3,8 +3,7 @@
 -- The words from number i on are the word i and the words behind it. If it is a value, one value fewer is
 -- left. Else it is read, and the words behind it go on from what it gave; its fault is theirs. After the last
 -- word nothing is left. What all words say is the fold from the fresh fields, and then the rule on inputs.
-use Rattle.std.proofs.Common.{◌≡◌, ℕ, zero, suc, ◌+◌, ◌-◌, ◌<◌, ◌≤◌, arith, refl, ap, ◌∙◌, inl, inr, add-one}
-use Rattle.std.proofs.Common.{List, [], ◌∷◌, length, map, drop, get_or, Result, Ok, Err, IfOk, IfErr, String}
+use Rattle.std.proofs.Common.{◌≡◌, ℕ, zero, suc, ◌+◌, ◌-◌, ◌<◌, ◌≤◌, arith, refl, ap, ◌∙◌, inl, inr, add-one, List, [], ◌∷◌, length, map, drop, get_or, Result, Ok, Err, IfOk, IfErr, String}
 use Rattle.std.specs.String.{string_bytes}
 use Rattle.std.proofs.Math.Seq.{drop-cons}
 use Rattle.std.proofs.lemmas.List.{drop-map, drop-drop}

@@ -5,10 +5,8 @@
 -- drops the same library paths in both. So by induction on the words the fold with canonical paths is the fold
 -- that keeps paths, finished at the end. The root for the last path that was kept is all that it asks, so any
 -- answer to one question gives a choice of roots for all paths.
-use Rattle.std.proofs.Common.{◌≡◌, ℕ, zero, suc, ◌+◌, List, [], ◌∷◌, ◌++◌, Bool, true, false, cond, ◌&&◌, arith, refl, ap, sym, ◌∙◌, drop}
-use Rattle.std.proofs.Common.{Option, Some, None, Result, Ok, Err, codes, nat_eq, ◌⊎◌, inl, inr}
-use Rattle.std.specs.List.{starts_with}
-use Rattle.std.specs.List.{AllZip}
+use Rattle.std.proofs.Common.{◌≡◌, ℕ, zero, suc, ◌+◌, List, [], ◌∷◌, ◌++◌, Bool, true, false, cond, ◌&&◌, arith, refl, ap, sym, ◌∙◌, drop, Option, Some, None, Result, Ok, Err, codes, nat_eq, ◌⊎◌, inl, inr}
+use Rattle.std.specs.List.{starts_with, AllZip}
 use Rattle.std.specs.Option.{ok_or, option_map, option_map_or, unwrap_or}
 use Rattle.std.specs.Str.{bytes_eq}
 use Rattle.std.proofs.lemmas.Bool.Decides.{nat_tests}
@@ -19,9 +17,7 @@ use Rattle.macho_args.specs.declared.options.LinkOption.TheVariants.{Sets, Takes
 use Rattle.macho_args.specs.declared.options.Flag.{Flag}
 use Rattle.macho_args.specs.declared.options.Flag.TheVariants.{Dylib, DeadStripDylibs, HeaderpadMaxInstallNames, Map}
 use Rattle.macho_args.specs.declared.options.Valued.{Valued}
-use Rattle.macho_args.specs.declared.options.Valued.TheVariants.{Output, Entry, InstallName, LtoLibrary, ExportedSymbolsList}
-use Rattle.macho_args.specs.declared.options.Valued.TheVariants.{Rpath, LibraryPath, FrameworkPath, Root, Library, Framework}
-use Rattle.macho_args.specs.declared.options.Valued.TheVariants.{Arch, Mllvm, Uuid, Generate}
+use Rattle.macho_args.specs.declared.options.Valued.TheVariants.{Output, Entry, InstallName, LtoLibrary, ExportedSymbolsList, Rpath, LibraryPath, FrameworkPath, Root, Library, Framework, Arch, Mllvm, Uuid, Generate}
 use Rattle.macho_args.specs.declared.fault.ArgsFault.TheVariants.{Unknown, Unsupported, BadVersion, BadPlatform, BadUuid, BadNumber, OutOfMemory}
 use Rattle.macho_args.specs.steps.Effects.{HasCause, uuid_of, count_of}
 use Rattle.macho_args.specs.Effects.{◌>>=◌, at_root, joined, with_flag, with_value, with_platform}

@@ -1,20 +1,16 @@
 -- What each option does to the settings, and which values it takes.
-use Rattle.std.specs.Prelude.{ℕ, ◌+◌, ◌==◌, List, [], ◌∷◌, ◌++◌, codes, true, nat_eq, if◌then◌else◌}
-use Rattle.std.specs.Prelude.{Option, Some, None, option_and_then, Result, Ok, Err}
+use Rattle.std.specs.Prelude.{ℕ, ◌+◌, ◌==◌, List, [], ◌∷◌, ◌++◌, codes, true, nat_eq, if◌then◌else◌, Option, Some, None, option_and_then, Result, Ok, Err}
 use Rattle.std.specs.List.{starts_with, ends_with, list_any}
 use Rattle.std.specs.Option.{ok_or, unwrap_or}
 use Rattle.std.specs.Result.{result_ok}
 use Rattle.std.specs.Str.{bytes_eq}
 use Rattle.hex.specs.Hex.{decode_sized}
 use Rattle.macho_args.specs.declared.fault.ArgsFault.{ArgsFault}
-use Rattle.macho_args.specs.declared.fault.ArgsFault.TheVariants.{Unsupported}
-use Rattle.macho_args.specs.declared.fault.ArgsFault.TheVariants.{BadVersion, BadPlatform, BadArch, BadUuid, BadNumber}
+use Rattle.macho_args.specs.declared.fault.ArgsFault.TheVariants.{Unsupported, BadVersion, BadPlatform, BadArch, BadUuid, BadNumber}
 use Rattle.macho_args.specs.declared.options.Flag.{Flag}
 use Rattle.macho_args.specs.declared.options.Flag.TheVariants.{Dylib, DeadStripDylibs, HeaderpadMaxInstallNames, Map}
 use Rattle.macho_args.specs.declared.options.Valued.{Valued}
-use Rattle.macho_args.specs.declared.options.Valued.TheVariants.{Output, Entry, InstallName, LtoLibrary, ExportedSymbolsList}
-use Rattle.macho_args.specs.declared.options.Valued.TheVariants.{Rpath, LibraryPath, FrameworkPath, Root, Library, Framework}
-use Rattle.macho_args.specs.declared.options.Valued.TheVariants.{Arch, Mllvm, Uuid, Generate}
+use Rattle.macho_args.specs.declared.options.Valued.TheVariants.{Output, Entry, InstallName, LtoLibrary, ExportedSymbolsList, Rpath, LibraryPath, FrameworkPath, Root, Library, Framework, Arch, Mllvm, Uuid, Generate}
 use Rattle.macho_args.specs.Numbers.{number_up_to}
 use Rattle.macho_args.specs.Settings.{Settings, library, framework}
 use Rattle.macho_args.specs.Version.{version_of}

@@ -1,6 +1,5 @@
 -- The meaning of a command line: what its words say, and then the rule on framework paths.
-use Rattle.std.specs.Prelude.{◌≡◌, ℕ, drop, List, [], ◌∷◌, ◌++◌, codes, Bool, ◌&&◌, nat_eq, if◌then◌else◌}
-use Rattle.std.specs.Prelude.{Option, unwrap_or, Ok, Err}
+use Rattle.std.specs.Prelude.{◌≡◌, ℕ, drop, List, [], ◌∷◌, ◌++◌, codes, Bool, ◌&&◌, nat_eq, if◌then◌else◌, Option, unwrap_or, Ok, Err}
 use Rattle.std.specs.List.{AllZip, starts_with}
 use Rattle.macho_args.specs.declared.fault.ArgsFault.{ArgsFault}
 use Rattle.macho_args.specs.Effects.{joined}

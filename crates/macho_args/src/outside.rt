@@ -3,8 +3,7 @@
 ghost use Rattle.std.specs.Prelude.{ℕ, Option, IfOk};
 ghost use Rattle.std.specs.Option.{option_map};
 ghost use Rattle.std.specs.String.{string_bytes};
-ghost use Rattle.macho_args.specs.Store.{Store, Directories, CanonicalPaths};
-ghost use Rattle.macho_args.specs.Store.{IsToldDirectory, IsToldCanonical, KeepsOutside};
+ghost use Rattle.macho_args.specs.Store.{Store, Directories, CanonicalPaths, IsToldDirectory, IsToldCanonical, KeepsOutside};
 
 use std::alloc::{AllocError, Global};
 

@@ -3,8 +3,7 @@
 //! Each word is an option's name, a value of the option before it, an option with its value behind two letters,
 //! or an input. So `-o out a.o -lc` gives the output `out`, the file `a.o` of word 2 and the library `c` of word 3.
 
-ghost use Rattle.std.specs.Prelude.{◌≡◌, ◌+◌, ◌-◌, ◌<◌, ◌^◌, length, drop, map};
-ghost use Rattle.std.specs.Prelude.{Some, Ok, Err, OnOk, OnErr, IfOk, IfErr, MatchResult, ◌⊎◌, []};
+ghost use Rattle.std.specs.Prelude.{◌≡◌, ◌+◌, ◌-◌, ◌<◌, ◌^◌, length, drop, map, Some, Ok, Err, OnOk, OnErr, IfOk, IfErr, MatchResult, ◌⊎◌, []};
 ghost use Rattle.std.specs.Option.{option_map_or};
 ghost use Rattle.std.specs.String.{string_bytes};
 ghost use Rattle.macho_args.specs.declared.fault.ArgsFault.TheVariants.{OutOfMemory};

@@ -6,8 +6,7 @@ use Rattle.std.specs.Prelude.{codes}
 use Rattle.std.specs.Fmt.{digits}
 use Rattle.macho_model.specs.Words.{scale_of}
 use Rattle.macho_model.specs.Meaning.{BranchesTo, PagesTo, OffsetsTo, AddsTo, LoadsFrom, IsDistance, IsDifference, GoesThrough}
-use Rattle.macho_records.specs.declared.constants.TheConstants.{ARM64_RELOC_UNSIGNED, ARM64_RELOC_BRANCH26, ARM64_RELOC_PAGEOFF12}
-use Rattle.macho_records.specs.declared.constants.TheConstants.{ARM64_RELOC_TLVP_LOAD_PAGEOFF12}
+use Rattle.macho_records.specs.declared.constants.TheConstants.{ARM64_RELOC_UNSIGNED, ARM64_RELOC_BRANCH26, ARM64_RELOC_PAGEOFF12, ARM64_RELOC_TLVP_LOAD_PAGEOFF12}
 use Rattle.macho_arm64.specs.declared.kinds.RelocationKind.TheVariants.{Absolute}
 use Rattle.macho_arm64.specs.declared.kinds.FieldSize.TheVariants.{Bytes, Adr, JumpCall, Low12}
 use Rattle.macho_arm64.specs.Kinds.{kind_among, kind_at, type_text}

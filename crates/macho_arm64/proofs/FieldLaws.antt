@@ -90,10 +90,6 @@ adds_to input add word value x s y load made h row whole moved =
     let registers : bits 0 10 word ≡ bits 0 10 add = same_registers word add h.kept in
     record { load = load; add = still; base = omega arith; written = omega arith; reaches = omega arith }
 
--- an ADD that a load was made takes any offset in a page
-pub add_fits : (input word : ℕ) → IsMadeAdd input word → fits_word Low12 word ≡ true
-add_fits input word made = rw made.add refl
-
 pub add_can_hold : (input word value : ℕ) → IsMadeAdd input word → value < PAGE → can_hold Low12 word value ≡ true
 add_can_hold input word value made small = rw (scale_of-add word made.add) (grind (arith, nat_tests))
 

@@ -14,19 +14,7 @@ use Rattle.macho_arm64.specs.declared.kinds.RelocationKind.TheVariants as way
 use Rattle.macho_arm64.specs.declared.kinds.RelocationKindInfo.{RelocationKindInfo}
 use Rattle.macho_arm64.specs.Kinds.{kinds, kind_among, is_row_of, same_flag}
 use Rattle.macho_arm64.specs.Laws.{Agrees, way_of, size_for, is_paged, KindsAgree}
-
--- tests joined
-pub left : (a b : Bool) → (a && b) ≡ true → a ≡ true
-left true b h = refl
-left false b h = h
-
-pub right : (a b : Bool) → (a && b) ≡ true → b ≡ true
-right true b h = h
-right false b h = absurd (cc)
-
-pub either : (a b : Bool) → (a || b) ≡ true → (a ≡ true) ⊎ (b ≡ true)
-either true b h = inl refl
-either false b h = inr h
+use Rattle.macho_bytes.proofs.Bools.{and_left, and_right}
 
 -- a row that a look-up finds is one of the table: so it has what all rows have
 record IsFound (P : KindRow → Type 0) (type length : ℕ) (info : RelocationKindInfo) : Type 0 where
@@ -44,12 +32,12 @@ found_row P (k ∷ rows) type length pcrel info all h =
     elim (cases_Bool (is_row_of type length pcrel k)) [
       | inl hit ↦
           let same : Some k.info ≡ Some info = rw hit at h in
-          let first = left ((k.r_type == type) && (k.r_length == length)) (same_flag k.r_pcrel pcrel) hit in
+          let first = and_left ((k.r_type == type) && (k.r_length == length)) (same_flag k.r_pcrel pcrel) hit in
           record {
             row = k;
             has = all.0;
-            type_is = eqb-true k.r_type type (left (k.r_type == type) (k.r_length == length) first);
-            length_is = eqb-true k.r_length length (right (k.r_type == type) (k.r_length == length) first);
+            type_is = eqb-true k.r_type type (and_left (k.r_type == type) (k.r_length == length) first);
+            length_is = eqb-true k.r_length length (and_right (k.r_type == type) (k.r_length == length) first);
             info_is = cc;
           }
       | inr other ↦ found_row P rows type length pcrel info all.1 (rw other at h)

@@ -5,7 +5,7 @@
 use Rattle.std.proofs.Common.{◌≡◌, ℕ, Bool, map, refl, Option, Some, None}
 use Rattle.std.specs.Prelude.{IfOk, OnErr}
 use Rattle.std.specs.Option.{ok_or}
-use Rattle.macho_structs.specs.declared.relocations.RelocationInfo.{RelocationInfo}
+use Rattle.macho_wire.specs.declared.relocations.RelocationInfo.{RelocationInfo}
 use Rattle.macho_arm64.specs.declared.kinds.TheConstants.{KINDS}
 use Rattle.macho_arm64.specs.Kinds.{kinds, kind_among, kind_at, info_of}
 
@@ -25,7 +25,3 @@ none-ok_or None e = refl
 pub kind_is : (rel : RelocationInfo) (type length : ℕ) (pcrel : Bool) → rel.r_type ≡ type → rel.r_length ≡ length → rel.r_pcrel ≡ pcrel
     → info_of rel ≡ kind_at type length pcrel
 kind_is rel type length pcrel t n p = rw (t, n, p) refl
-
-pub each_row_is_found : map (λ k. kind_at k.r_type k.r_length k.r_pcrel) kinds ≡ map (λ k. Some k.info) kinds
-unfolding kind_among
-each_row_is_found = refl

@@ -9,14 +9,8 @@ use Rattle.byteorder.specs.Endian.{little_number}
 use Rattle.byteorder.specs.Numbers.{little_from-append}
 use Rattle.macho_bytes.specs.Numbers.{little, le_at, le_bytes}
 use Rattle.macho_bytes.specs.Texts.{put, Part, end_of, Stands}
-use Rattle.macho_bytes.proofs.Numbers.{little_is_sound, number-stands, drop-stands}
-use Rattle.macho_bytes.proofs.Puts.{put_stands, stands_beside}
-
--- the number that was put
-pub le_at-put : (w at n : ℕ) (bytes : List ℕ) → n < 256 ^ w → at + w ≤ length bytes → le_at w (put at (le_bytes w n) bytes) at ≡ n
-le_at-put w at n bytes fits room =
-    number-stands little little_is_sound w n (put at (le_bytes w n) bytes) at fits
-    (put_stands at (le_bytes w n) bytes (omega (arith, little_is_sound.long w n)))
+use Rattle.macho_bytes.proofs.Numbers.{little_is_sound, drop-stands}
+use Rattle.macho_bytes.proofs.Puts.{stands_beside}
 
 -- a number is that of its bytes
 le_at-stands : (w : ℕ) (bytes : List ℕ) (p : Part) → Stands bytes p → w ≤ length p.text → le_at w bytes p.at ≡ little_number w p.text

@@ -16,9 +16,6 @@ use Rattle.macho_arm64.specs.Fields.{fits_word, can_hold}
 pub less_leads : (x place : ℕ) → Same (less x place + place) x
 less_leads x place = omega arith
 
-less_below : (x y : ℕ) → less x y < 2 ^ 64
-less_below x y = omega arith
-
 and_zero : (b : Bool) (n : ℕ) → n ≡ 0 → (b && (n == 0)) ≡ b
 and_zero true n is = rw is refl
 and_zero false n is = refl
@@ -26,7 +23,7 @@ and_zero false n is = refl
 and_below : (b : Bool) (n : ℕ) → n < PAGE → (nat_lt n PAGE && b) ≡ b
 and_below b n below = let test : nat_lt n PAGE ≡ true = grind (arith, nat_tests) in rw test refl
 
-out_of_33 : (n : ℕ) → 2 ^ 32 ≤ n → n + 2 ^ 32 < 2 ^ 64 → fits_signed 33 n ≡ false
+pub out_of_33 : (n : ℕ) → 2 ^ 32 ≤ n → n + 2 ^ 32 < 2 ^ 64 → fits_signed 33 n ≡ false
 out_of_33 n low high = grind (arith, nat_tests)
 
 -- a branch

@@ -3,26 +3,19 @@
 -- A link supports a relocation of each type under a form: its length and whether it is relative, which are those of a row
 -- of that type, and an instruction at its place, which is one that the row's field is part of. The tests of its type are
 -- taken one by one.
-use Rattle.std.proofs.Common.{◌≡◌, ℕ, ◌==◌, ◌&&◌, ◌||◌, not, if◌then◌else◌, Bool, true, false, Option, Some, refl, sym, ap, subst, ◌∙◌}
-use Rattle.std.proofs.Common.{inl, inr}
+use Rattle.std.proofs.Common.{◌≡◌, ℕ, ◌==◌, ◌&&◌, ◌||◌, not, if◌then◌else◌, Bool, true, false, Option, Some, refl, sym, ap, subst, ◌∙◌, inl, inr}
 use Rattle.std.specs.Prelude.{is_some}
 use Rattle.std.proofs.lemmas.Bool.{cases_Bool, cases_eq, eqb-true, eq-eqb, ne_eqb}
-use Rattle.macho_structs.specs.declared.relocations.RelocationInfo.{RelocationInfo}
-use Rattle.macho_records.specs.declared.constants.TheConstants.{ARM64_RELOC_ADDEND, ARM64_RELOC_BRANCH26, ARM64_RELOC_GOT_LOAD_PAGE21}
-use Rattle.macho_records.specs.declared.constants.TheConstants.{ARM64_RELOC_GOT_LOAD_PAGEOFF12, ARM64_RELOC_PAGE21, ARM64_RELOC_PAGEOFF12}
-use Rattle.macho_records.specs.declared.constants.TheConstants.{ARM64_RELOC_POINTER_TO_GOT, ARM64_RELOC_SUBTRACTOR}
-use Rattle.macho_records.specs.declared.constants.TheConstants.{ARM64_RELOC_TLVP_LOAD_PAGE21, ARM64_RELOC_TLVP_LOAD_PAGEOFF12}
-use Rattle.macho_records.specs.declared.constants.TheConstants.{ARM64_RELOC_UNSIGNED}
+use Rattle.macho_wire.specs.declared.relocations.RelocationInfo.{RelocationInfo}
+use Rattle.macho_records.specs.declared.constants.TheConstants.{ARM64_RELOC_ADDEND, ARM64_RELOC_BRANCH26, ARM64_RELOC_GOT_LOAD_PAGE21, ARM64_RELOC_GOT_LOAD_PAGEOFF12, ARM64_RELOC_PAGE21, ARM64_RELOC_PAGEOFF12, ARM64_RELOC_POINTER_TO_GOT, ARM64_RELOC_SUBTRACTOR, ARM64_RELOC_TLVP_LOAD_PAGE21, ARM64_RELOC_TLVP_LOAD_PAGEOFF12, ARM64_RELOC_UNSIGNED}
 use Rattle.macho_model.specs.declared.targets.Target.{Target}
 use Rattle.macho_model.specs.Links.{Link, SectionId}
 use Rattle.macho_model.specs.Needs.{relocation_in}
 use Rattle.macho_model.specs.Targets.{target_of_relocation, is_defined}
 use Rattle.macho_model.specs.Fields.{content_of, has_subtrahend}
 use Rattle.macho_model.specs.Words.{is_adrp, is_branch, is_ldr}
-use Rattle.macho_model.specs.Rows.{has_form, begins_pair, is_none, difference_fits, pointer_fits}
-use Rattle.macho_model.specs.Supported.{addend_fits, may_be_called}
-use Rattle.macho_model.specs.Rows.{defined_or_import, is_supported}
-use Rattle.macho_model.specs.Supported.{takes_offset, load_fits}
+use Rattle.macho_model.specs.Rows.{has_form, begins_pair, is_none, difference_fits, pointer_fits, defined_or_import, is_supported}
+use Rattle.macho_model.specs.Supported.{addend_fits, may_be_called, takes_offset, load_fits}
 use Rattle.macho_arm64.specs.declared.kinds.RelocationKindInfo.{RelocationKindInfo}
 use Rattle.macho_arm64.specs.Kinds.{kind_among, kind_at, info_of}
 use Rattle.macho_arm64.specs.Fields.{fits_word}
@@ -30,7 +23,7 @@ use Rattle.macho_arm64.specs.Laws.{SupportedIsKnown, SupportedFits}
 use Rattle.macho_arm64.proofs.KindTable.{kind_is}
 use Rattle.macho_arm64.proofs.FieldLaws.{slot_load_fits}
 use Rattle.macho_arm64.proofs.ReachLaws.{offset_words}
-use Rattle.macho_arm64.proofs.KindLaws.{left, right, either}
+use Rattle.macho_bytes.proofs.Bools.{false_of_not, pick, skip, and_left, and_right, either, or_first, or_second, neither}
 
 -- a form tells the length, and whether a relocation is relative
 flag : (a b : Bool) → (if a then b else not b) ≡ true → a ≡ b
@@ -39,14 +32,15 @@ flag true false h = absurd (cc)
 flag false true h = absurd (cc)
 flag false false h = refl
 
-form_length : (rel : RelocationInfo) (length : ℕ) (pcrel extern : Bool) → has_form rel length pcrel extern ≡ true → rel.r_length ≡ length
-form_length rel length pcrel extern h = eqb-true rel.r_length length (left (rel.r_length == length) _
-    (left ((rel.r_length == length) && _) _ h))
+pub form_length : (rel : RelocationInfo) (length : ℕ) (pcrel extern : Bool) → has_form rel length pcrel extern ≡ true → rel.r_length ≡
+    length
+form_length rel length pcrel extern h = eqb-true rel.r_length length (and_left (rel.r_length == length) _
+    (and_left ((rel.r_length == length) && _) _ h))
 
 form_pcrel : (rel : RelocationInfo) (length : ℕ) (pcrel extern : Bool) → has_form rel length pcrel extern ≡ true → rel.r_pcrel ≡ pcrel
 form_pcrel rel length pcrel extern h =
-    flag rel.r_pcrel pcrel (right (rel.r_length == length) (if rel.r_pcrel then pcrel else not pcrel)
-    (left ((rel.r_length == length) && (if rel.r_pcrel then pcrel else not pcrel)) (if rel.r_extern then extern else not extern) h))
+    flag rel.r_pcrel pcrel (and_right (rel.r_length == length) (if rel.r_pcrel then pcrel else not pcrel)
+    (and_left ((rel.r_length == length) && (if rel.r_pcrel then pcrel else not pcrel)) (if rel.r_extern then extern else not extern) h))
 
 -- What is known of a supported relocation: its kind, whose field the word at its place has.
 pub record IsKnown (rel : RelocationInfo) (word : ℕ) : Type 0 where
@@ -58,10 +52,6 @@ pub record IsKnown (rel : RelocationInfo) (word : ℕ) : Type 0 where
 known : (rel : RelocationInfo) (type length word : ℕ) (pcrel : Bool) (info : RelocationKindInfo) → rel.r_type ≡ type → rel.r_length ≡ length
     → rel.r_pcrel ≡ pcrel → kind_at type length pcrel ≡ Some info → fits_word info.size word ≡ true → IsKnown rel word
 known rel type length word pcrel info t n p at fits = record { info = info; is = kind_is rel type length pcrel t n p ∙ at; fits = fits }
-
-not_true : (b : Bool) → not b ≡ true → b ≡ false
-not_true true h = absurd (cc)
-not_true false h = refl
 
 -- a form of a type, with what the word at its place is
 formed : (rel : RelocationInfo) (type length word : ℕ) (pcrel : Bool) (info : RelocationKindInfo) → rel.r_type ≡ type
@@ -85,7 +75,7 @@ of_difference : (l : Link) (s : SectionId) (r type : ℕ) (four eight : Relocati
     → fits_word eight.size (content_of l s r) ≡ true → difference_fits l s r ≡ true → IsKnown (relocation_in l s r) (content_of l s r)
 of_difference l s r type four eight t at_four at_eight fits_four fits_eight h =
     of_bytes (relocation_in l s r) type (content_of l s r) four eight t at_four at_eight fits_four fits_eight
-    (left (has_form (relocation_in l s r) 2 false true || has_form (relocation_in l s r) 3 false true)
+    (and_left (has_form (relocation_in l s r) 2 false true || has_form (relocation_in l s r) 3 false true)
     (is_defined (target_of_relocation l s r)) h)
 
 of_pointer : (l : Link) (s : SectionId) (r : ℕ) → (relocation_in l s r).r_type ≡ ARM64_RELOC_UNSIGNED → pointer_fits l s r ≡ true
@@ -100,55 +90,35 @@ of_pointer l s r t h =
           let g : (((relocation_in l s r).r_length == 3) && not (relocation_in l s r).r_pcrel && not
           (is_none (target_of_relocation l s r))) ≡ true =
           rw alone at h in
-          let both = left (((relocation_in l s r).r_length == 3) && not (relocation_in l s r).r_pcrel) _ g in
+          let both = and_left (((relocation_in l s r).r_length == 3) && not (relocation_in l s r).r_pcrel) _ g in
           known (relocation_in l s r) ARM64_RELOC_UNSIGNED 3 (content_of l s r) false _ t
-          (eqb-true (relocation_in l s r).r_length 3 (left ((relocation_in l s r).r_length == 3) _ both))
-          (not_true (relocation_in l s r).r_pcrel (right ((relocation_in l s r).r_length == 3) _ both)) refl refl
+          (eqb-true (relocation_in l s r).r_length 3 (and_left ((relocation_in l s r).r_length == 3) _ both))
+          (false_of_not (relocation_in l s r).r_pcrel (and_right ((relocation_in l s r).r_length == 3) _ both)) refl refl
     ]
 
 of_subtractor : (l : Link) (s : SectionId) (r : ℕ) → (relocation_in l s r).r_type ≡ ARM64_RELOC_SUBTRACTOR
     → (difference_fits l s r && begins_pair l s r) ≡ true → IsKnown (relocation_in l s r) (content_of l s r)
 unfolding kind_among
 of_subtractor l s r t h =
-    of_difference l s r ARM64_RELOC_SUBTRACTOR _ _ t refl refl refl refl (left (difference_fits l s r) (begins_pair l s r) h)
+    of_difference l s r ARM64_RELOC_SUBTRACTOR _ _ t refl refl refl refl (and_left (difference_fits l s r) (begins_pair l s r) h)
 
 of_addend : (l : Link) (s : SectionId) (r : ℕ) → (relocation_in l s r).r_type ≡ ARM64_RELOC_ADDEND
     → (addend_fits l s r && begins_pair l s r) ≡ true → IsKnown (relocation_in l s r) (content_of l s r)
 unfolding kind_among
 of_addend l s r t h =
-    let g = left (((relocation_in l s r).r_length == 2) && not (relocation_in l s r).r_pcrel) (begins_pair l s r) h in
+    let g = and_left (((relocation_in l s r).r_length == 2) && not (relocation_in l s r).r_pcrel) (begins_pair l s r) h in
     known (relocation_in l s r) ARM64_RELOC_ADDEND 2 (content_of l s r) false _ t
-    (eqb-true (relocation_in l s r).r_length 2 (left ((relocation_in l s r).r_length == 2) _ g))
-    (not_true (relocation_in l s r).r_pcrel (right ((relocation_in l s r).r_length == 2) _ g)) refl refl
-
--- one case of a chain of tests
-pick : (t a b : Bool) → t ≡ true → (if t then a else b) ≡ true → a ≡ true
-pick true a b is h = h
-pick false a b is h = absurd (cc)
-
-skip : (t a b : Bool) → t ≡ false → (if t then a else b) ≡ true → b ≡ true
-skip true a b is h = absurd (cc)
-skip false a b is h = h
-
-or_left : (a b : Bool) → a ≡ true → (a || b) ≡ true
-or_left true b h = refl
-or_left false b h = absurd (cc)
-
-or_right : (a b : Bool) → b ≡ true → (a || b) ≡ true
-or_right true b h = refl
-or_right false b h = h
-
-neither : (a b : Bool) → a ≡ false → b ≡ false → (a || b) ≡ false
-neither true b h k = absurd (cc)
-neither false b h k = k
+    (eqb-true (relocation_in l s r).r_length 2 (and_left ((relocation_in l s r).r_length == 2) _ g))
+    (false_of_not (relocation_in l s r).r_pcrel (and_right ((relocation_in l s r).r_length == 2) _ g)) refl refl
 
 -- a word with a field of a type
 word_known : (rel : RelocationInfo) (type w : ℕ) (pcrel : Bool) (info : RelocationKindInfo) (test rest : Bool) → rel.r_type ≡ type
     → kind_at type 2 pcrel ≡ Some info → (has_form rel 2 pcrel true && test && rest) ≡ true → (test ≡ true → fits_word info.size w ≡ true)
     → IsKnown rel w
 word_known rel type w pcrel info test rest is at h fits =
-    let both = left (has_form rel 2 pcrel true && test) rest h in
-    formed rel type 2 w pcrel info is at (left (has_form rel 2 pcrel true) test both) (fits (right (has_form rel 2 pcrel true) test both))
+    let both = and_left (has_form rel 2 pcrel true && test) rest h in
+    formed rel type 2 w pcrel info is at (and_left (has_form rel 2 pcrel true) test both)
+    (fits (and_right (has_form rel 2 pcrel true) test both))
 
 -- A supported relocation is known. The tests of its type are taken one by one: `from_page` is what is asked of a type that
 -- is none of those before the page's.
@@ -222,7 +192,7 @@ supported_known l s r h =
         elim (cases_eq type ARM64_RELOC_POINTER_TO_GOT) [
           | inl is ↦
               let asked = pick _ _ _ (eq-eqb type ARM64_RELOC_POINTER_TO_GOT is) h in
-              formed rel ARM64_RELOC_POINTER_TO_GOT 2 w true _ is refl (left (has_form rel 2 true true) _ asked) refl
+              formed rel ARM64_RELOC_POINTER_TO_GOT 2 w true _ is refl (and_left (has_form rel 2 true true) _ asked) refl
           | inr other ↦ from_addend_known (skip _ _ _ (ne_eqb type ARM64_RELOC_POINTER_TO_GOT other) h)
         ]
 
@@ -230,14 +200,14 @@ supported_known l s r h =
     from_load_known h =
         elim (cases_eq type ARM64_RELOC_GOT_LOAD_PAGEOFF12) [
           | inl is ↦
-              let asked = pick _ _ _ (or_left _ _ (eq-eqb type ARM64_RELOC_GOT_LOAD_PAGEOFF12 is)) h in
+              let asked = pick _ _ _ (or_first _ _ (eq-eqb type ARM64_RELOC_GOT_LOAD_PAGEOFF12 is)) h in
               word_known rel ARM64_RELOC_GOT_LOAD_PAGEOFF12 w false _ (load_fits w t) (defined_or_import t) is refl asked
-              (λ b. slot_load_fits w (left (is_ldr w) _ b))
+              (λ b. slot_load_fits w (and_left (is_ldr w) _ b))
           | inr first ↦ elim (cases_eq type ARM64_RELOC_TLVP_LOAD_PAGEOFF12) [
             | inl is ↦
-                let asked = pick _ _ _ (or_right _ _ (eq-eqb type ARM64_RELOC_TLVP_LOAD_PAGEOFF12 is)) h in
+                let asked = pick _ _ _ (or_second _ _ (eq-eqb type ARM64_RELOC_TLVP_LOAD_PAGEOFF12 is)) h in
                 word_known rel ARM64_RELOC_TLVP_LOAD_PAGEOFF12 w false _ (load_fits w t) (defined_or_import t) is refl asked
-                (λ b. slot_load_fits w (left (is_ldr w) _ b))
+                (λ b. slot_load_fits w (and_left (is_ldr w) _ b))
             | inr second ↦
                 let none = neither _ _ (ne_eqb type ARM64_RELOC_GOT_LOAD_PAGEOFF12 first)
                 (ne_eqb type ARM64_RELOC_TLVP_LOAD_PAGEOFF12 second) in
@@ -249,11 +219,11 @@ supported_known l s r h =
     from_slot_page_known h =
         elim (cases_eq type ARM64_RELOC_GOT_LOAD_PAGE21) [
           | inl is ↦
-              let asked = pick _ _ _ (or_left _ _ (eq-eqb type ARM64_RELOC_GOT_LOAD_PAGE21 is)) h in
+              let asked = pick _ _ _ (or_first _ _ (eq-eqb type ARM64_RELOC_GOT_LOAD_PAGE21 is)) h in
               word_known rel ARM64_RELOC_GOT_LOAD_PAGE21 w true _ (is_adrp w) (defined_or_import t) is refl asked (λ b. b)
           | inr first ↦ elim (cases_eq type ARM64_RELOC_TLVP_LOAD_PAGE21) [
             | inl is ↦
-                let asked = pick _ _ _ (or_right _ _ (eq-eqb type ARM64_RELOC_TLVP_LOAD_PAGE21 is)) h in
+                let asked = pick _ _ _ (or_second _ _ (eq-eqb type ARM64_RELOC_TLVP_LOAD_PAGE21 is)) h in
                 word_known rel ARM64_RELOC_TLVP_LOAD_PAGE21 w true _ (is_adrp w) (defined_or_import t) is refl asked (λ b. b)
             | inr second ↦
                 let none = neither _ _ (ne_eqb type ARM64_RELOC_GOT_LOAD_PAGE21 first)

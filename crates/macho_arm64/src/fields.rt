@@ -12,7 +12,7 @@ use crate::words::{
     PAGE_SIZE, is_add, is_adrp, is_branch, is_ldr, is_load_store, scale_of, with_imm12, with_imm21,
     with_imm26,
 };
-use macho_numbers::{Number, put_little};
+use macho_wire::{Number, put_little};
 
 /// The value does not fit the field.
 #[derive(Clone, Copy)]

@@ -10,11 +10,11 @@ ghost use Rattle.macho_arm64.specs.Relaxations.{relaxation_of, relaxed_kind, can
 
 use crate::kinds::{FieldSize, MachOAArch64, RelocationKind, RelocationKindInfo};
 use crate::words::is_ldr;
-use macho_numbers::{Number, put_little};
 use macho_records::{
     ARM64_RELOC_GOT_LOAD_PAGE21, ARM64_RELOC_GOT_LOAD_PAGEOFF12, ARM64_RELOC_TLVP_LOAD_PAGEOFF12,
     RelocationInfo,
 };
+use macho_wire::{Number, put_little};
 
 /// How an instruction of a reference through a slot is relaxed.
 #[derive(Clone, Copy)]

@@ -11,7 +11,7 @@ ghost use Rattle.macho_model.specs.Meaning.{GoesThrough};
 ghost use Rattle.macho_arm64.specs.Stubs.{STUB_SIZE, ADRP_REACH, start_address};
 
 use crate::words::{PAGE_SIZE, with_imm12, with_imm21};
-use macho_numbers::put_little;
+use macho_wire::put_little;
 
 /// ADRP x16, LDR x16 from x16, and BR x16.
 const ADRP_X16: u32 = 0x9000_0010;

@@ -1,5 +1,4 @@
 pub mod Puts
-pub mod Images
 pub mod Numbers
 pub mod Layouts
 pub mod Writes
@@ -12,3 +11,9 @@ pub mod Groups
 pub mod Ulebs
 pub mod UlebRows
 pub mod Fills
+pub mod Members
+pub mod Orders
+pub mod Bools
+pub mod Comparing
+pub mod Maps
+pub mod Pairs

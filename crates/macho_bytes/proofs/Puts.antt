@@ -6,9 +6,10 @@
 -- both texts, what was put stands, and a part that shares no byte with the text stands as before.
 use Rattle.std.proofs.Common.{◌≡◌, ℕ, ◌+◌, ◌-◌, ◌<◌, ◌≤◌, List, [], ◌++◌, length, get_or, take, drop, slice_range, refl, sym, ap, ◌∙◌, arith, inl, inr}
 use Rattle.std.proofs.lemmas.Bool.{cases_lt}
-use Rattle.std.proofs.lemmas.List.{ext_get_or, get_or-take, get_or-drop, get_or_append_left, get_or-append_right, length-take, length-drop, length-append}
+use Rattle.std.proofs.lemmas.List.{ext_get_or, get_or-take, get_or-drop, get_or_append_left, get_or-append_right, length-take, length-drop, length-append, append-nil}
 use Rattle.std.proofs.lemmas.List.Edits.{length-between, get_or-between}
 use Rattle.macho_bytes.specs.Texts.{put, Part, end_of, Stands, Apart}
+use Rattle.std.proofs.Math.Seq.{drop-length}
 
 -- a put keeps the length
 pub length-put : (at : ℕ) (text bytes : List ℕ) → at + length text ≤ length bytes → length (put at text bytes) ≡ length bytes
@@ -109,7 +110,7 @@ put_nothing at bytes fits =
     sym (is_put at [] bytes bytes (omega arith) refl (λ i from to. absurd (omega arith)) (λ i below. refl) (λ i above. refl))
 
 -- the bytes of a part
-get_or-part : (bytes : List ℕ) (p : Part) → Stands bytes p → (i : ℕ) → i < length p.text → get_or p.text i 0 ≡ get_or bytes (p.at + i) 0
+pub get_or-part : (bytes : List ℕ) (p : Part) → Stands bytes p → (i : ℕ) → i < length p.text → get_or p.text i 0 ≡ get_or bytes (p.at + i) 0
 get_or-part bytes p s i h =
     ap (λ (t : List ℕ). get_or t i 0) (sym s.same) ∙ get_or-between bytes p.at (end_of p) i 0 (omega arith)
 
@@ -143,3 +144,9 @@ stands_beside at text bytes p fits s apart =
     ])
 
 pub ruleset puts = (put-put, length-put, put_nothing)
+
+-- a text put over a list of its length is all of it; and so it is what a `Vec` has whose bytes were written
+pub put_all : (text bytes : List ℕ) → length text ≡ length bytes → put 0 text bytes ≡ text
+unfolding put
+put_all text bytes same =
+    ap (λ (n : ℕ). text ++ drop n bytes) (omega (arith, same)) ∙ ap (λ (t : List ℕ). text ++ t) (drop-length bytes) ∙ append-nil text

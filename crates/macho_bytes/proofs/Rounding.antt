@@ -2,7 +2,7 @@
 --
 -- Write n as q times `to` with a rest r below `to`. Where r is 0, n is a multiple already and both give n. Else both
 -- give (q + 1) times `to`: n plus `to - 1` lies from there up to below the next multiple, so its quotient is q + 1.
-use Rattle.std.proofs.Common.{◌≡◌, ℕ, ◌+◌, ◌*◌, ◌/◌, ◌%◌, ◌-◌, ◌<◌, sym, ap, ◌∙◌, arith, inl, inr}
+use Rattle.std.proofs.Common.{◌≡◌, ℕ, ◌+◌, ◌*◌, ◌/◌, ◌%◌, ◌-◌, ◌<◌, sym, ap, ◌∙◌, arith, inl, inr, ◌≤◌}
 use Rattle.std.specs.Int.{next_multiple_of}
 use Rattle.std.proofs.lemmas.Bool.{cases_lt}
 use Rattle.std.proofs.lemmas.Nat.{div-mul-add, div-add-mod'}
@@ -34,3 +34,11 @@ next_multiple_of-is n to some =
           let left : (to - n % to) % to ≡ 0 = ap (λ (k : ℕ). k % to) (omega arith) ∙ mod_self to in
           omega (arith, left) ∙ sym (same (n / to) to some) ∙ ap (rounded_up to) whole
     ]
+
+-- nothing is rounded down
+pub rounded-above : (k n : ℕ) → 0 < k → n ≤ rounded_up k n
+rounded-above k n some = omega (arith, div-add-mod' (n + (k - 1)) k, mod-lt (n + (k - 1)) some)
+
+-- rounding costs less than the alignment
+pub rounded-near : (k n : ℕ) → 0 < k → rounded_up k n ≤ n + (k - 1)
+rounded-near k n some = omega (arith, div-add-mod' (n + (k - 1)) k)

@@ -61,19 +61,3 @@ row_goes_on order sound w at place i ns before out now lt fits here so_far is =
 pub row_ends : (order : ByteOrder) (w at i : ℕ) (ns before out : List ℕ) → length ns ≤ i
     → out ≡ put at (row_bytes order w (take i ns)) before → out ≡ put at (row_bytes order w ns) before
 row_ends order w at i ns before out past so_far = so_far ∙ ap (λ (t : List ℕ). put at (row_bytes order w t) before) (take_all i ns past)
-
--- numbers of a type of w bytes each fit w bytes
-pub all_below : (w : ℕ) (ns : List ℕ) → ((i : ℕ) → slice_index ns i < 256 ^ w) → AllBelow w ns
-all_below w [] fits = tt
-all_below w (n ∷ ns) fits = (fits 0, all_below w ns (λ i. fits (suc i)))
-
--- bytes are their own row, in either order
-pub row_bytes-little : (ns : List ℕ) → ((i : ℕ) → slice_index ns i < 256) → row_bytes little 1 ns ≡ ns
-unfolding row_bytes le_bytes
-row_bytes-little [] fits = refl
-row_bytes-little (n ∷ ns) fits = rw (row_bytes-little ns (λ i. fits (suc i)), mod-eq_of_lt {n = n} {m = 256} (fits 0)) refl
-
-pub row_bytes-big : (ns : List ℕ) → ((i : ℕ) → slice_index ns i < 256) → row_bytes big 1 ns ≡ ns
-unfolding row_bytes be_bytes
-row_bytes-big [] fits = refl
-row_bytes-big (n ∷ ns) fits = rw (row_bytes-big ns (λ i. fits (suc i)), mod-eq_of_lt {n = n} {m = 256} (fits 0)) refl

@@ -6,13 +6,11 @@ use Rattle.std.proofs.Common.{◌≡◌, ℕ, ◌+◌, ◌*◌, ◌-◌, Bool, t
 use Rattle.std.specs.Prelude.{if◌then◌else◌, sum_by, Option, Some, None}
 use Rattle.std.specs.List.{concat}
 use Rattle.std.proofs.lemmas.List.{append-nil, length-append, length-map, map-append}
-use Rattle.std.proofs.lemmas.List.Sums.{sum_by-cons}
 use Rattle.std.proofs.lemmas.List.Concat.{flat_map-append}
 use Rattle.macho_bytes.specs.Numbers.{little, row_bytes, le_bytes}
 use Rattle.macho_bytes.proofs.Numbers.{length-row_little}
 use Rattle.macho_bytes.specs.Texts.{Stands}
-use Rattle.macho_records.specs.declared.constants.TheConstants.{LC_BUILD_VERSION, LC_CODE_SIGNATURE, LC_DYLD_CHAINED_FIXUPS}
-use Rattle.macho_records.specs.declared.constants.TheConstants.{LC_DYLD_EXPORTS_TRIE, LC_ID_DYLIB, LC_LOAD_DYLIB, LC_LOAD_DYLINKER, LC_MAIN, LC_RPATH, LC_SYMTAB, LC_UUID}
+use Rattle.macho_records.specs.declared.constants.TheConstants.{LC_BUILD_VERSION, LC_CODE_SIGNATURE, LC_DYLD_CHAINED_FIXUPS, LC_DYLD_EXPORTS_TRIE, LC_ID_DYLIB, LC_LOAD_DYLIB, LC_LOAD_DYLINKER, LC_MAIN, LC_RPATH, LC_SYMTAB, LC_UUID}
 use Rattle.macho_records.specs.declared.header.MachHeader.{MachHeader}
 use Rattle.macho_model.specs.declared.placed.Counts.{Counts}
 use Rattle.macho_model.specs.Links.{Link}
@@ -21,8 +19,7 @@ use Rattle.macho_model.specs.Placement.{Placed}
 use Rattle.macho_model.specs.Segments.{list_if}
 use Rattle.macho_model.specs.Head as head
 use Rattle.macho_model.specs.Head.{range_size, head_for}
-use Rattle.macho_model.specs.HeadCommands.{HeadCommand, segment_for, entry_point_for, uuid_for, versions_for, dylinker_for, dylib_for, needed_dylib_for, rpath_for, header_with}
-use Rattle.macho_model.specs.HeadCommands.{linkedit_for, symtab_for, commands_for, path_command_size, path_filled, DYLINKER}
+use Rattle.macho_model.specs.HeadCommands.{HeadCommand, segment_for, entry_point_for, uuid_for, versions_for, dylinker_for, dylib_for, needed_dylib_for, rpath_for, header_with, linkedit_for, symtab_for, commands_for, path_command_size, path_filled, DYLINKER}
 use Rattle.macho_model.specs.Addresses.{address_of}
 use Rattle.macho_model.specs.Targets.{target_of_name}
 use Rattle.macho_model.specs.Signature.{uuid_written}
@@ -32,9 +29,11 @@ use Rattle.macho_commands.specs.Commands.{said_by, commands_text, commands_size}
 use Rattle.macho_commands.specs.Heads.{header_of_kind, head_text}
 use Rattle.macho_commands.specs.Laws.{HeadIsSpelled, HeadIsFoundAgain}
 use Rattle.macho_commands.proofs.HeadTexts.{found_said}
-use Rattle.macho_commands.proofs.LinkCommands.{length-uuid, length-path_text}
+use Rattle.macho_commands.proofs.LinkCommands.{length-path_text}
 use Rattle.macho_bytes.specs.Spellings.{spelling}
 use Rattle.macho_records.specs.Spellings.{mach_header_rows}
+use Rattle.macho_model.proofs.Sections.{length-uuid}
+use Rattle.macho_bytes.proofs.Maps.{length-joined}
 
 -- the texts of commands that are made one like the other
 each_text : {X : Type 0} (f : X → HeadCommand) (g : X → List ℕ) (xs : List X) → ((x : X) → text_said (f x) ≡ g x)
@@ -193,10 +192,6 @@ joined : (commands : List Command) → concat (map text_said (map said_by comman
 unfolding commands_text
 joined [] = refl
 joined (c ∷ commands) = ap (λ (t : List ℕ). text_said (said_by c) ++ t) (joined commands)
-
-length-joined : (texts : List (List ℕ)) → length (concat texts) ≡ sum_by length texts
-length-joined [] = refl
-length-joined (t ∷ texts) = omega (arith, length-joined texts, length-append t (concat texts), sum_by-cons length t texts)
 
 header-long : (h : MachHeader) → length (spelling mach_header_rows h) ≡ 32
 unfolding spelling row_bytes le_bytes

@@ -8,8 +8,7 @@ use Rattle.macho_model.specs.Placement.{Placed}
 use Rattle.macho_model.specs.Segments.{list_if}
 use Rattle.macho_model.specs.HeadCommands.{HeadCommand, segment_for, entry_point_for}
 use Rattle.macho_commands.specs.Laws.{HeadIsRead}
-use Rattle.macho_commands.proofs.Told.{segment_taken, entry_taken, segments-told, headers-told, entry-told, uuid-told, libraries-told}
-use Rattle.macho_commands.proofs.Told.{fixups-told, trie-told, symbols-told, strings-told, signature-told}
+use Rattle.macho_commands.proofs.Told.{segment_taken, entry_taken, segments-told, headers-told, entry-told, uuid-told, libraries-told, fixups-told, trie-told, symbols-told, strings-told, signature-told}
 use Rattle.macho_model.specs.steps.Agreement.{SegmentPlace, place_by_command, place_told}
 
 -- a segment's command tells the placed segment

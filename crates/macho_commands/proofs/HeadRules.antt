@@ -4,17 +4,14 @@
 -- since a record has the size of its layout. What is asked of a segment's command is asked of its record, and the records
 -- are those of the placement: protections by name, whole pages, one behind the other. Ranks of names rise, so `__TEXT`
 -- stands once; it is there, begins the file and holds the commands.
-use Rattle.std.proofs.Common.{◌≡◌, ℕ, zero, suc, ◌+◌, ◌*◌, ◌<◌, ◌≤◌, ◌==◌, ◌&&◌, nat_le, Bool, true, false, List, [], ◌∷◌, map, length}
-use Rattle.std.proofs.Common.{get_or, inl, inr, refl, sym, ap, subst, ◌∙◌, arith, All}
+use Rattle.std.proofs.Common.{◌≡◌, ℕ, zero, suc, ◌+◌, ◌*◌, ◌<◌, ◌≤◌, ◌==◌, ◌&&◌, nat_le, Bool, true, false, List, [], ◌∷◌, map, length, get_or, inl, inr, refl, sym, ap, subst, ◌∙◌, arith, All}
 use Rattle.std.specs.Prelude.{◌||◌, sum_by, if◌then◌else◌, Option, Some, None}
 use Rattle.std.proofs.lemmas.Bool.{le-leb}
 use Rattle.std.proofs.lemmas.List.Elements.{All-map, All-cons, All-nil, All-append, All-from_recursion}
 use Rattle.macho_bytes.specs.Layouts.{size_of}
 use Rattle.macho_records.specs.Layouts.{segment_command, section_header, symtab_command}
-use Rattle.macho_structs.specs.Layouts.{entry_point_command, dylinker_command, dylib_command, rpath_command, linkedit_data_command}
-use Rattle.macho_structs.specs.Layouts.{uuid_command, build_version_command}
-use Rattle.macho_records.specs.declared.constants.TheConstants.{LC_CODE_SIGNATURE, LC_DYLD_CHAINED_FIXUPS, LC_DYLD_EXPORTS_TRIE}
-use Rattle.macho_records.specs.declared.constants.TheConstants.{LC_ID_DYLIB, MH_DYLIB, MH_EXECUTE}
+use Rattle.macho_wire.specs.Layouts.{entry_point_command, dylinker_command, dylib_command, rpath_command, linkedit_data_command, uuid_command, build_version_command}
+use Rattle.macho_records.specs.declared.constants.TheConstants.{LC_CODE_SIGNATURE, LC_DYLD_CHAINED_FIXUPS, LC_DYLD_EXPORTS_TRIE, LC_ID_DYLIB, MH_DYLIB, MH_EXECUTE}
 use Rattle.macho_records.specs.declared.header.MachHeader.{MachHeader}
 use Rattle.macho_model.specs.declared.placed.Counts.{Counts}
 use Rattle.macho_model.specs.Commands.{Command, commands_of, commands_end, command_fits}
@@ -24,15 +21,12 @@ use Rattle.macho_model.specs.Needs.{libraries_needed}
 use Rattle.macho_model.specs.Segments.{list_if}
 use Rattle.macho_model.specs.Placement.{Placed}
 use Rattle.macho_model.specs.LoadRules.{image_head_fits, needed_in_image}
-use Rattle.macho_model.specs.HeadCommands.{HeadCommand, Segment, EntryPoint, Uuid, BuildVersion, Dylinker, Dylib, Rpath, LinkeditData, Symtab}
-use Rattle.macho_model.specs.HeadCommands.{Other, segment_for, entry_point_for, uuid_for, versions_for, dylinker_for, dylib_for, needed_dylib_for, rpath_for}
+use Rattle.macho_model.specs.HeadCommands.{HeadCommand, Segment, EntryPoint, Uuid, BuildVersion, Dylinker, Dylib, Rpath, LinkeditData, Symtab, Other, segment_for, entry_point_for, uuid_for, versions_for, dylinker_for, dylib_for, needed_dylib_for, rpath_for, linkedit_for, symtab_for, command_in, commands_in, size_said, header_for, commands_for, CommandsSay}
 use Rattle.macho_model.specs.Head.{range_size}
-use Rattle.macho_model.specs.HeadCommands.{linkedit_for, symtab_for, command_in, commands_in, size_said, header_for, commands_for}
-use Rattle.macho_model.specs.HeadCommands.{CommandsSay}
 use Rattle.macho_commands.proofs.Told.{tables_for}
-use Rattle.macho_commands.proofs.Shapes.{IsRead, Shape, a_segment, an_entry_point, a_uuid, a_build_version, a_dylinker, a_dylib, an_rpath}
-use Rattle.macho_commands.proofs.Shapes.{a_symtab, a_table, unknown, shape, size_said-is}
+use Rattle.macho_commands.proofs.Shapes.{IsRead, Shape, a_segment, an_entry_point, a_uuid, a_build_version, a_dylinker, a_dylib, an_rpath, a_symtab, a_table, unknown, shape, size_said-is}
 use Rattle.macho_commands.proofs.Walked.{AllRead, commands-read, sizes-in, commands-end, each_said}
+use Rattle.macho_bytes.proofs.Bools.{and_both}
 
 -- the bytes that are read of a command, by what it says
 abbrev pub needed_said : HeadCommand → ℕ
@@ -140,9 +134,6 @@ read_at b [] read k d lt = absurd (omega arith)
 read_at b (c ∷ cs) read zero d lt = read.0
 read_at b (c ∷ cs) read (suc k) d lt = read_at b cs read.1 k d (omega arith)
 
-pub and-true : (p q : Bool) → p ≡ true → q ≡ true → (p && q) ≡ true
-and-true p q e f = rw (e, f) refl
-
 -- the commands end where the header says
 pub ends-said : (l : Link) (counts : Counts) (uuid b : List ℕ) (p : Placed) (h : CommandsSay l counts uuid b p)
     → commands_end b ≡ 32 + sum_by (λ c. c.size) (commands_of b)
@@ -165,7 +156,7 @@ each-fits l counts uuid b p h =
     let c : Command = get_or (commands_of b) k d in
     let size = size_said-is b c (read_at b (commands_of b) (commands-read b) k d lt) (shape b c) in
     let it = each k d lt in
-    and-true _ _ (and-true _ _ (le-leb 8 c.size (omega (arith, it.head, size))) (le-leb (c.at + c.size) (commands_end b) (inside k d lt)))
+    and_both _ _ (and_both _ _ (le-leb 8 c.size (omega (arith, it.head, size))) (le-leb (c.at + c.size) (commands_end b) (inside k d lt)))
     (le-leb (needed_in_image b c) c.size (omega (arith, needed-is b c (shape b c), it.needed, size)))
 
 -- an executable or a dynamic library

@@ -6,7 +6,6 @@ use Rattle.std.proofs.Common.{◌≡◌, ℕ, ◌+◌, ◌*◌, ◌-◌, Bool, t
 use Rattle.std.specs.Prelude.{sum_by}
 use Rattle.std.specs.List.{concat}
 use Rattle.std.proofs.lemmas.List.{length-append, length-replicate}
-use Rattle.std.proofs.lemmas.List.FromFn.{length-map-range_with_len}
 use Rattle.std.proofs.lemmas.List.Sums.{sum_by-append, sum_by-cons}
 use Rattle.macho_bytes.specs.Numbers.{little, row_bytes, rounded_up}
 use Rattle.macho_bytes.proofs.Numbers.{length-row_little}
@@ -18,10 +17,8 @@ use Rattle.macho_model.specs.Signature.{uuid_written}
 use Rattle.macho_model.specs.Head.{command, path_command, versions_for, link_commands}
 use Rattle.macho_model.specs.HeadCommands.{path_command_size, own_commands_size, versions_size, DYLINKER}
 use Rattle.macho_model.specs.steps.Signature.{uuid_byte}
-
-pub length-uuid : (uuid : List ℕ) → length (uuid_written uuid) ≡ 16
-unfolding uuid_written
-length-uuid uuid = length-map-range_with_len (λ k. uuid_byte k (slice_index uuid k)) 0 16
+use Rattle.macho_model.proofs.Sections.{length-uuid}
+use Rattle.macho_bytes.proofs.Maps.{length-joined}
 
 pub length-command : (number : ℕ) (text : List ℕ) → length (command number text) ≡ 8 + length text
 length-command number text =
@@ -54,11 +51,6 @@ length-path_command number numbers path =
     let text : List ℕ =
     row_bytes little 4 (front ∷ numbers) ++ (path ++ replicate (rounded_up 8 (front + length path + 1) - front - length path) 0) in
     omega (arith, length-command number text, length-path_text numbers path)
-
--- texts joined end to end
-length-joined : (texts : List (List ℕ)) → length (concat texts) ≡ sum_by length texts
-length-joined [] = refl
-length-joined (t ∷ texts) = omega (arith, length-joined texts, length-append t (concat texts), sum_by-cons length t texts)
 
 each-long : (f : List ℕ → List ℕ) (size : List ℕ → ℕ) → ((x : List ℕ) → length (f x) ≡ size x) → (xs : List (List ℕ))
     → sum_by length (map f xs) ≡ sum_by size xs

@@ -6,17 +6,16 @@ use Rattle.std.proofs.Common.{◌≡◌, ℕ, ◌+◌, ◌-◌, ◌≤◌, ◌�
 use Rattle.std.proofs.lemmas.List.{length-append, length-replicate}
 use Rattle.macho_bytes.specs.Texts.{put}
 use Rattle.macho_bytes.proofs.Puts.{put-put}
-use Rattle.macho_structs.specs.declared.commands.DylinkerCommand.{DylinkerCommand}
-use Rattle.macho_structs.specs.declared.commands.DylibCommand.{DylibCommand}
-use Rattle.macho_structs.specs.declared.commands.RpathCommand.{RpathCommand}
+use Rattle.macho_wire.specs.declared.commands.DylinkerCommand.{DylinkerCommand}
+use Rattle.macho_wire.specs.declared.commands.DylibCommand.{DylibCommand}
+use Rattle.macho_wire.specs.declared.commands.RpathCommand.{RpathCommand}
 use Rattle.macho_records.specs.declared.constants.TheConstants.{LC_ID_DYLIB, LC_LOAD_DYLIB, LC_LOAD_DYLINKER, LC_RPATH}
-use Rattle.macho_model.specs.HeadCommands.{DYLINKER, path_command_size, path_filled}
-use Rattle.macho_model.specs.HeadCommands.{HeadCommand, dylinker_for, dylib_for, rpath_for}
+use Rattle.macho_model.specs.HeadCommands.{DYLINKER, path_command_size, path_filled, HeadCommand, dylinker_for, dylib_for, rpath_for}
 use Rattle.macho_commands.specs.Texts.{text_said}
 use Rattle.macho_commands.specs.Reading.{IsReadable}
 use Rattle.macho_commands.proofs.Readable.{dylinker_readable, dylib_readable, rpath_readable}
 use Rattle.macho_bytes.specs.Spellings.{spelling, ReadsBack}
-use Rattle.macho_structs.specs.Spellings.{dylinker_command_rows, dylib_command_rows, rpath_command_rows}
+use Rattle.macho_wire.specs.Spellings.{dylinker_command_rows, dylib_command_rows, rpath_command_rows}
 
 -- the bytes of a path with its zeros
 pub length-filled : (front : ℕ) (path : List ℕ) → front + length (path_filled front path) ≡ path_command_size front path

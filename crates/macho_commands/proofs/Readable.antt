@@ -3,8 +3,7 @@
 -- Each record begins with the command's number and size, in the same four bytes each as the head that every command has:
 -- so where a record reads back, the head does. Behind the record stand records of one size each, which read back one by
 -- one, or a path, which is the bytes from the record's end to the command's.
-use Rattle.std.proofs.Common.{◌≡◌, ℕ, zero, suc, ◌+◌, ◌*◌, ◌<◌, List, [], ◌∷◌, ◌++◌, length, get_or, map, slice_range, refl, ◌⊎◌, ap, ◌∙◌}
-use Rattle.std.proofs.Common.{arith}
+use Rattle.std.proofs.Common.{◌≡◌, ℕ, zero, suc, ◌+◌, ◌*◌, ◌<◌, List, [], ◌∷◌, ◌++◌, length, get_or, map, slice_range, refl, ◌⊎◌, ap, ◌∙◌, arith}
 use Rattle.std.specs.List.{flat_map, range_with_len}
 use Rattle.std.proofs.lemmas.List.{ext_get_or}
 use Rattle.std.proofs.lemmas.List.FromFn.{length-map-range_with_len, get_or-map-range_with_len}
@@ -13,30 +12,27 @@ use Rattle.macho_bytes.specs.Layouts.{reading, size_of}
 use Rattle.macho_bytes.proofs.Numbers.{stands-front, stands-back}
 use Rattle.macho_bytes.proofs.Tables.{EachLong, table-stands}
 use Rattle.macho_records.specs.Layouts.{section_header}
-use Rattle.macho_structs.specs.Layouts.{build_tool_version}
+use Rattle.macho_wire.specs.Layouts.{build_tool_version}
 use Rattle.macho_records.specs.declared.header.SegmentCommand.{SegmentCommand}
 use Rattle.macho_records.specs.declared.header.SectionHeader.{SectionHeader}
 use Rattle.macho_records.specs.declared.symbols.SymtabCommand.{SymtabCommand}
-use Rattle.macho_structs.specs.declared.commands.EntryPointCommand.{EntryPointCommand}
-use Rattle.macho_structs.specs.declared.commands.DylinkerCommand.{DylinkerCommand}
-use Rattle.macho_structs.specs.declared.commands.DylibCommand.{DylibCommand}
-use Rattle.macho_structs.specs.declared.commands.RpathCommand.{RpathCommand}
-use Rattle.macho_structs.specs.declared.commands.LinkeditDataCommand.{LinkeditDataCommand}
-use Rattle.macho_structs.specs.declared.commands.UuidCommand.{UuidCommand}
-use Rattle.macho_structs.specs.declared.commands.BuildVersionCommand.{BuildVersionCommand}
-use Rattle.macho_structs.specs.declared.commands.BuildToolVersion.{BuildToolVersion}
-use Rattle.macho_records.specs.declared.constants.TheConstants.{LC_BUILD_VERSION, LC_ID_DYLIB, LC_LOAD_DYLIB, LC_LOAD_DYLINKER, LC_MAIN}
-use Rattle.macho_records.specs.declared.constants.TheConstants.{LC_RPATH, LC_SEGMENT_64, LC_SYMTAB, LC_UUID}
+use Rattle.macho_wire.specs.declared.commands.EntryPointCommand.{EntryPointCommand}
+use Rattle.macho_wire.specs.declared.commands.DylinkerCommand.{DylinkerCommand}
+use Rattle.macho_wire.specs.declared.commands.DylibCommand.{DylibCommand}
+use Rattle.macho_wire.specs.declared.commands.RpathCommand.{RpathCommand}
+use Rattle.macho_wire.specs.declared.commands.LinkeditDataCommand.{LinkeditDataCommand}
+use Rattle.macho_wire.specs.declared.commands.UuidCommand.{UuidCommand}
+use Rattle.macho_wire.specs.declared.commands.BuildVersionCommand.{BuildVersionCommand}
+use Rattle.macho_wire.specs.declared.commands.BuildToolVersion.{BuildToolVersion}
+use Rattle.macho_records.specs.declared.constants.TheConstants.{LC_BUILD_VERSION, LC_ID_DYLIB, LC_LOAD_DYLIB, LC_LOAD_DYLINKER, LC_MAIN, LC_RPATH, LC_SEGMENT_64, LC_SYMTAB, LC_UUID}
 use Rattle.macho_model.specs.Agreement.{section_headers_at}
 use Rattle.macho_model.specs.HeadCommands.{Segment, EntryPoint, Uuid, BuildVersion, Dylinker, Dylib, Rpath, LinkeditData, Symtab, behind, tools_at}
 use Rattle.macho_commands.specs.Texts.{text_said}
-use Rattle.macho_commands.specs.steps.Writing.{IsLinkedit}
+use Rattle.macho_commands.specs.steps.Writing.{IsLinkedit, EachReadsBack}
 use Rattle.macho_commands.specs.Reading.{IsReadable, placed_at}
-use Rattle.macho_commands.specs.steps.Writing.{EachReadsBack}
-use Rattle.macho_commands.proofs.Numbered.{in_segment, in_entry_point, in_uuid, in_build_version, in_dylinker, in_dylib, in_rpath}
-use Rattle.macho_commands.proofs.Numbered.{in_symtab, in_linkedit}
+use Rattle.macho_commands.proofs.Numbered.{in_segment, in_entry_point, in_uuid, in_build_version, in_dylinker, in_dylib, in_rpath, in_symtab, in_linkedit}
 use Rattle.macho_bytes.specs.Spellings.{Spelled, spelling, ReadsBack}
-use Rattle.macho_structs.specs.Spellings.{entry_point_command_rows, dylinker_command_rows, dylib_command_rows, rpath_command_rows, linkedit_data_command_rows, uuid_command_rows, build_version_command_rows, build_tool_version_rows}
+use Rattle.macho_wire.specs.Spellings.{entry_point_command_rows, dylinker_command_rows, dylib_command_rows, rpath_command_rows, linkedit_data_command_rows, uuid_command_rows, build_version_command_rows, build_tool_version_rows}
 use Rattle.macho_records.specs.Spellings.{segment_command_rows, section_header_rows, symtab_command_rows}
 
 -- records of one size, one behind the other, are read one by one

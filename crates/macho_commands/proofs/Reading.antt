@@ -11,16 +11,15 @@ use Rattle.macho_bytes.specs.Layouts.{reading}
 use Rattle.macho_bytes.proofs.Numbers.{stands-front, stands-back}
 use Rattle.macho_records.specs.declared.header.SectionHeader.{SectionHeader}
 use Rattle.macho_records.specs.declared.header.SegmentCommand.{SegmentCommand}
-use Rattle.macho_structs.specs.declared.commands.EntryPointCommand.{EntryPointCommand}
+use Rattle.macho_wire.specs.declared.commands.EntryPointCommand.{EntryPointCommand}
 use Rattle.macho_records.specs.declared.constants.TheConstants.{LC_MAIN, LC_SEGMENT_64}
 use Rattle.macho_records.specs.Layouts.{segment_command}
-use Rattle.macho_structs.specs.Layouts.{entry_point_command}
+use Rattle.macho_wire.specs.Layouts.{entry_point_command}
 use Rattle.macho_model.specs.Commands as found
 use Rattle.macho_model.specs.Agreement.{section_headers_at}
 use Rattle.macho_model.specs.HeadCommands.{HeadCommand, Segment, EntryPoint, command_in}
 use Rattle.macho_commands.specs.declared.command.Command.{Command}
 use Rattle.macho_commands.specs.Commands.{said_by, text_of, size_of_command, commands_text}
-use Rattle.macho_commands.proofs.Numbered.{in_segment, in_entry_point}
 use Rattle.macho_commands.specs.Reading.{IsFound, IsReadable, placed_at, placed_commands, EachFound, ListIsReadable}
 
 -- the first of some commands, and the rest of them
@@ -93,27 +92,3 @@ readable_ends i commands past so_far = record {
       let each = each_found commands b at (λ k d lt. so_far.readable k d (omega arith)) (λ k d lt. so_far.long k d (omega arith)) stands in
       record { list = commands_from-found commands b at each; each = each; said = commands-said commands b at each };
 }
-
--- the record of a segment, and of an entry, that is found
-pub segment-found : (b : List ℕ) (at : ℕ) (r : SegmentCommand) (headers : List SectionHeader) → r.cmd ≡ LC_SEGMENT_64
-    → IsFound b at (Segment r headers)
-    → reading segment_command b at ≡ r
-segment-found b at r headers number found =
-    let e : Segment (reading segment_command b at) (section_headers_at b at) ≡ Segment r headers =
-    sym (in_segment b (placed_at at (Segment r headers)) number) ∙ found.says in
-    cc
-
-pub headers-found : (b : List ℕ) (at : ℕ) (r : SegmentCommand) (headers : List SectionHeader) → r.cmd ≡ LC_SEGMENT_64
-    → IsFound b at (Segment r headers)
-    → section_headers_at b at ≡ headers
-headers-found b at r headers number found =
-    let e : Segment (reading segment_command b at) (section_headers_at b at) ≡ Segment r headers =
-    sym (in_segment b (placed_at at (Segment r headers)) number) ∙ found.says in
-    cc
-
-pub entry_point-found : (b : List ℕ) (at : ℕ) (r : EntryPointCommand) → r.cmd ≡ LC_MAIN → IsFound b at (EntryPoint r)
-    → reading entry_point_command b at ≡ r
-entry_point-found b at r number found =
-    let e : EntryPoint (reading entry_point_command b at) ≡ EntryPoint r = sym (in_entry_point b (placed_at at (EntryPoint r)) number)
-    ∙ found.says in
-    cc

@@ -4,8 +4,7 @@
 -- What the commands say of addresses and ranges doesn't count, so it is any.
 use Rattle.std.proofs.Common.{◌≡◌, ℕ, List, [], ◌∷◌, refl}
 use Rattle.std.specs.Prelude.{sum_by, codes}
-use Rattle.macho_records.specs.declared.constants.TheConstants.{LC_CODE_SIGNATURE, LC_DYLD_CHAINED_FIXUPS, LC_DYLD_EXPORTS_TRIE}
-use Rattle.macho_records.specs.declared.constants.TheConstants.{LC_ID_DYLIB}
+use Rattle.macho_records.specs.declared.constants.TheConstants.{LC_CODE_SIGNATURE, LC_DYLD_CHAINED_FIXUPS, LC_DYLD_EXPORTS_TRIE, LC_ID_DYLIB}
 use Rattle.macho_records.specs.declared.header.SectionHeader.{SectionHeader}
 use Rattle.macho_model.specs.declared.placed.PlacedSegment.{PlacedSegment}
 use Rattle.macho_model.specs.HeadCommands.{HeadCommand, size_said, dylinker_for, dylib_for, needed_dylib_for, linkedit_for}

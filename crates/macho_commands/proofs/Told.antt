@@ -3,21 +3,18 @@
 -- Each reading chooses the commands of a number and takes something of each. That is the same as choosing among what the
 -- file says; and of the commands of a link one piece has the number. So segments, section headers, tables, libraries,
 -- entry and UUID are those of the placement and of the link.
-use Rattle.std.proofs.Common.{◌≡◌, ℕ, zero, suc, ◌+◌, ◌*◌, ◌==◌, replicate, get_or, take, drop, Bool, true, false, List, [], ◌∷◌, ◌++◌}
-use Rattle.std.proofs.Common.{map, inl, inr, refl, sym, ap, ◌∙◌, arith}
+use Rattle.std.proofs.Common.{◌≡◌, ℕ, zero, suc, ◌+◌, ◌*◌, ◌==◌, replicate, get_or, take, drop, Bool, true, false, List, [], ◌∷◌, ◌++◌, map, inl, inr, refl, sym, ap, ◌∙◌, arith}
 use Rattle.std.specs.List.{flat_map}
 use Rattle.std.proofs.lemmas.List.{append-nil}
 use Rattle.std.proofs.lemmas.List.Folds.{flat_map-map}
 use Rattle.macho_bytes.specs.Layouts.{reading, size_of}
 use Rattle.macho_bytes.specs.Texts.{name_of}
 use Rattle.macho_records.specs.Layouts.{segment_command, symtab_entry}
-use Rattle.macho_structs.specs.Layouts.{entry_point_command, dylib_command, uuid_command}
+use Rattle.macho_wire.specs.Layouts.{entry_point_command, dylib_command, uuid_command}
 use Rattle.macho_records.specs.declared.header.SegmentCommand.{SegmentCommand}
 use Rattle.macho_records.specs.declared.header.SectionHeader.{SectionHeader}
 use Rattle.macho_records.specs.declared.symbols.SymtabCommand.{SymtabCommand}
-use Rattle.macho_records.specs.declared.constants.TheConstants.{LC_BUILD_VERSION, LC_CODE_SIGNATURE, LC_DYLD_CHAINED_FIXUPS}
-use Rattle.macho_records.specs.declared.constants.TheConstants.{LC_DYLD_EXPORTS_TRIE, LC_ID_DYLIB, LC_LOAD_DYLIB, LC_LOAD_DYLINKER}
-use Rattle.macho_records.specs.declared.constants.TheConstants.{LC_MAIN, LC_RPATH, LC_SEGMENT_64, LC_SYMTAB, LC_UUID}
+use Rattle.macho_records.specs.declared.constants.TheConstants.{LC_BUILD_VERSION, LC_CODE_SIGNATURE, LC_DYLD_CHAINED_FIXUPS, LC_DYLD_EXPORTS_TRIE, LC_ID_DYLIB, LC_LOAD_DYLIB, LC_LOAD_DYLINKER, LC_MAIN, LC_RPATH, LC_SEGMENT_64, LC_SYMTAB, LC_UUID}
 use Rattle.macho_model.specs.declared.placed.Counts.{Counts}
 use Rattle.macho_model.specs.Links.{Link}
 use Rattle.macho_model.specs.Needs.{libraries_needed}
@@ -25,20 +22,16 @@ use Rattle.macho_model.specs.Placement.{Placed}
 use Rattle.macho_model.specs.Segments.{list_if}
 use Rattle.macho_model.specs.Commands.{Command, numbered, path_of}
 use Rattle.macho_model.specs.Agreement.{section_headers_at, section_headers_of}
-use Rattle.macho_model.specs.Images.{segments_of, Table, table_of_command, tables_of, tries_of, signatures_of}
-use Rattle.macho_model.specs.Images.{symbol_tables_of, string_tables_of, entries_of_file, libraries_of}
+use Rattle.macho_model.specs.Images.{segments_of, Table, table_of_command, tables_of, tries_of, signatures_of, symbol_tables_of, string_tables_of, entries_of_file, libraries_of}
 use Rattle.macho_model.specs.Signature.{uuid_written}
-use Rattle.macho_model.specs.Head.{headers_in}
-use Rattle.macho_model.specs.HeadCommands.{HeadCommand, Segment, EntryPoint, Uuid, Dylib, LinkeditData, Symtab, segment_for}
-use Rattle.macho_model.specs.Head.{range_size}
-use Rattle.macho_model.specs.HeadCommands.{path_filled}
-use Rattle.macho_model.specs.HeadCommands.{entry_point_for, uuid_for, needed_dylib_for, linkedit_for, symtab_for, commands_for}
-use Rattle.macho_model.specs.HeadCommands.{commands_in, behind}
+use Rattle.macho_model.specs.Head.{headers_in, range_size}
+use Rattle.macho_model.specs.HeadCommands.{HeadCommand, Segment, EntryPoint, Uuid, Dylib, LinkeditData, Symtab, segment_for, path_filled, entry_point_for, uuid_for, needed_dylib_for, linkedit_for, symtab_for, commands_for, commands_in, behind}
 use Rattle.macho_commands.proofs.Numbered.{in_segment, in_entry_point, in_uuid, in_dylib, in_symtab, in_linkedit}
 use Rattle.macho_commands.proofs.Walked.{said_with, chosen_in}
 use Rattle.macho_commands.proofs.Listed.{pieces-are, all_kept, none_kept, entry_kept, entry_dropped}
 use Rattle.macho_records.specs.Spellings.{segment_command_rows, symtab_command_rows}
 use Rattle.macho_model.specs.steps.Images.{symbols_range, strings_range}
+use Rattle.macho_bytes.proofs.Names.{name_of-zeros}
 
 -- what is taken of a command
 abbrev pub segment_taken : HeadCommand → SegmentCommand
@@ -282,21 +275,6 @@ strings-told l counts uuid b p trie says =
     chosen_in LC_SYMTAB (strings_range b) strings_taken b (λ c n. sym (ap strings_taken (in_symtab b c n)))
     ∙ ap (λ (hs : List HeadCommand). map strings_taken (said_with LC_SYMTAB hs)) says
     ∙ ap (map strings_taken) (one-listed LC_SYMTAB l counts p uuid trie symtab_alone)
-
-first_stays : (x k : ℕ) (xs : List ℕ) → take (1 + k) (x ∷ xs) ≡ x ∷ take k xs
-first_stays x k xs =
-    let more : 1 + k ≡ suc k = omega arith in
-    ap (λ (n : ℕ). take n (x ∷ xs)) more
-
--- a name ends where the zeros behind it begin, or before
-name_of-zeros : (name : List ℕ) (n : ℕ) → name_of (name ++ replicate n 0) ≡ name_of name
-name_of-zeros [] zero = refl
-name_of-zeros [] (suc n) = refl
-name_of-zeros (x ∷ xs) n = by (name_of-zeros xs n) (x == 0) refl
-  where
-    by : name_of (xs ++ replicate n 0) ≡ name_of xs → (t : Bool) → (x == 0) ≡ t → name_of ((x ∷ xs) ++ replicate n 0) ≡ name_of (x ∷ xs)
-    by rest true e = rw e refl
-    by rest false e = rw e (first_stays x _ (xs ++ replicate n 0) ∙ ap (λ (t : List ℕ). x ∷ t) rest ∙ sym (first_stays x _ xs))
 
 -- what is taken of a library's command in the file
 abbrev pub path_at : List ℕ → Command → ℕ × List ℕ

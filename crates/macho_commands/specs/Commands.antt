@@ -6,8 +6,7 @@ use Rattle.macho_records.specs.declared.header.SectionHeader.{SectionHeader}
 use Rattle.macho_records.specs.declared.header.SegmentCommand.{SegmentCommand}
 use Rattle.macho_model.specs.declared.placed.PlacedSegment.{PlacedSegment}
 use Rattle.macho_model.specs.HeadCommands as records
-use Rattle.macho_model.specs.HeadCommands.{PLATFORM_MACOS, THIS_TOOL, THIS_VERSION}
-use Rattle.macho_model.specs.HeadCommands.{HeadCommand, dylinker_for, dylib_for, needed_dylib_for, rpath_for, linkedit_for, size_said}
+use Rattle.macho_model.specs.HeadCommands.{PLATFORM_MACOS, THIS_TOOL, THIS_VERSION, HeadCommand, dylinker_for, dylib_for, needed_dylib_for, rpath_for, linkedit_for, size_said}
 use Rattle.macho_commands.specs.declared.command.SymbolTable.{SymbolTable}
 use Rattle.macho_commands.specs.declared.command.Command.{Command}
 use Rattle.macho_commands.specs.declared.command.Command.TheVariants.{Segment, EntryPoint, Uuid, BuildVersion, Dylinker, IdDylib, LoadDylib, Rpath, ChainedFixups, ExportsTrie, Symtab, CodeSignature}

@@ -3,7 +3,7 @@ use Rattle.std.specs.Prelude.{ℕ, List, [], ◌++◌}
 use Rattle.std.specs.List.{flat_map}
 use Rattle.macho_model.specs.HeadCommands.{HeadCommand, Segment, EntryPoint, Uuid, BuildVersion, Dylinker, Dylib, Rpath, LinkeditData, Symtab, Other}
 use Rattle.macho_bytes.specs.Spellings.{spelling}
-use Rattle.macho_structs.specs.Spellings.{entry_point_command_rows, dylinker_command_rows, dylib_command_rows, rpath_command_rows, linkedit_data_command_rows, uuid_command_rows, build_version_command_rows, build_tool_version_rows}
+use Rattle.macho_wire.specs.Spellings.{entry_point_command_rows, dylinker_command_rows, dylib_command_rows, rpath_command_rows, linkedit_data_command_rows, uuid_command_rows, build_version_command_rows, build_tool_version_rows}
 use Rattle.macho_records.specs.Spellings.{segment_command_rows, section_header_rows, symtab_command_rows}
 
 unfoldable pub text_said : HeadCommand → List ℕ

@@ -3,8 +3,7 @@ ghost use Rattle.std.specs.Prelude.{◌≡◌, ◌+◌, ◌<◌, ◌≤◌, ◌-
 ghost use Rattle.macho_bytes.specs.Numbers.{rounded_up};
 ghost use Rattle.macho_bytes.specs.Texts.{put};
 ghost use Rattle.macho_records.specs.declared.constants.TheConstants.{LC_ID_DYLIB, LC_LOAD_DYLIB};
-ghost use Rattle.macho_model.specs.HeadCommands.{path_command_size, path_filled};
-ghost use Rattle.macho_model.specs.HeadCommands.{dylinker_for, dylib_for, needed_dylib_for, rpath_for};
+ghost use Rattle.macho_model.specs.HeadCommands.{path_command_size, path_filled, dylinker_for, dylib_for, needed_dylib_for, rpath_for};
 ghost use Rattle.macho_commands.specs.Texts.{text_said};
 ghost use Rattle.macho_commands.specs.Reading.{IsReadable};
 

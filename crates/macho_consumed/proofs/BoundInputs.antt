@@ -2,20 +2,18 @@
 --
 -- By the rules the relocation of a personality is a plain pointer to a symbol, so it leads where the symbol does, and the number of
 -- that target's slot is the place of the target among slots. Whether there is language data, its relocation tells.
-use Rattle.std.proofs.Common.{◌≡◌, ℕ, ◌+◌, ◌*◌, ◌/◌, ◌<◌, ◌≤◌, eqb, eq-eqb, Bool, true, false, cond, ◌&&◌, ◌||◌, not, ◌==◌, nat_lt, List}
-use Rattle.std.proofs.Common.{[], ◌∷◌, length, map, filter, Some, None, is_some, position, refl, sym, ap, ◌∙◌, subst, arith}
+use Rattle.std.proofs.Common.{◌≡◌, ℕ, ◌+◌, ◌*◌, ◌/◌, ◌<◌, ◌≤◌, eqb, eq-eqb, Bool, true, false, cond, ◌&&◌, ◌||◌, not, ◌==◌, nat_lt, List, [], ◌∷◌, length, map, filter, Some, None, is_some, position, refl, sym, ap, ◌∙◌, subst, arith, leb-true, nat_le}
 use Rattle.std.proofs.lemmas.Bool.Decides.{nat_tests}
 use Rattle.std.proofs.lemmas.Bool.{eqb-true}
 use Rattle.std.proofs.lemmas.List.{length-map}
 use Rattle.std.proofs.lemmas.List.Elements.{All-contains, All-map}
 use Rattle.std.specs.List.{range_with_len, Contains, position_or_len}
 use Rattle.macho_model.specs.declared.targets.Target.{Target}
-use Rattle.macho_model.specs.declared.rules.UnwindRule.TheVariants.{U2, U7}
+use Rattle.macho_model.specs.declared.rules.UnwindRule.TheVariants.{U2, U7, U3}
 use Rattle.macho_model.specs.Links.{Link, header_at}
 use Rattle.macho_model.specs.Needs.{relocation_in, unwind_sections, PERSONALITY_PLACE}
 use Rattle.macho_model.specs.Targets.{target_of, target_of_relocation, slot_number, slots_of, same_target, is_defined, is_import}
-use Rattle.macho_model.specs.Consumed.{EntryId, entry_count, entries_of_link, relocations_in_entry, unwind_entry}
-use Rattle.macho_model.specs.Consumed.{LSDA_PLACE}
+use Rattle.macho_model.specs.Consumed.{EntryId, entry_count, entries_of_link, relocations_in_entry, unwind_entry, LSDA_PLACE, START_PLACE}
 use Rattle.macho_symbols.specs.Kept.{symbol_id}
 use Rattle.macho_unwind_pages.specs.declared.entries.UnwindInput.{UnwindInput}
 use Rattle.macho_unwind_pages.specs.Bounds.{unwind_bound_of}
@@ -28,10 +26,12 @@ use Rattle.macho_consumed.specs.declared.rows.UnwindEntry.{UnwindEntry}
 use Rattle.macho_consumed.specs.Rows.{entry_row, entry_rows}
 use Rattle.macho_consumed.specs.Told.{EntriesKeepRules}
 use Rattle.macho_consumed.specs.steps.Inputs.{number_of_target, input_by}
-use Rattle.macho_consumed.proofs.Tests.{left_of, passes, not_true}
-use Rattle.macho_consumed.proofs.Members.{here, to_filter, in_filter, in_range, all_joined, all_there}
+use Rattle.macho_consumed.proofs.Tests.{not_true}
+use Rattle.macho_consumed.proofs.Members.{in_filter, all_joined}
 use Rattle.macho_consumed.proofs.Joined.{mapped_agree}
 use Rattle.macho_consumed.proofs.Leading.{pointer_leads}
+use Rattle.macho_bytes.proofs.Bools.{and_left, and_right}
+use Rattle.macho_bytes.proofs.Members.{contains_first, contains_all, contains_filter, range_contains, one_passes}
 
 -- an entry of the link is one of its section
 pub record IsInSection (l : Link) (d : EntryId) : Type 0 where
@@ -45,11 +45,11 @@ in_section l d c =
     (all_joined (IsInSection l) (λ s. map (λ e. record { of_section = s; entry = e }) (range_with_len 0 (entry_count l s)))
     (unwind_sections l) (λ s there.
     All-map (IsInSection l) (λ e. record { of_section = s; entry = e }) (range_with_len 0 (entry_count l s))
-    (all_there (λ e. IsInSection l (record { of_section = s; entry = e })) (range_with_len 0 (entry_count l s))
-    (λ e b. record { there = there; within = in_range (entry_count l s) e b })))) c
+    (contains_all (λ e. IsInSection l (record { of_section = s; entry = e })) (range_with_len 0 (entry_count l s))
+    (λ e b. record { there = there; within = range_contains (entry_count l s) e b })))) c
 
 -- the relocation of a personality is a pointer to a symbol
-person_leads : (l : Link) (d : EntryId) (r : ℕ) → EntriesKeepRules l → IsInSection l d
+pub person_leads : (l : Link) (d : EntryId) (r : ℕ) → EntriesKeepRules l → IsInSection l d
     → Contains (relocations_in_entry l d.of_section d.entry PERSONALITY_PLACE) r
     → target_of_relocation l d.of_section r ≡ target_of l (symbol_id d.of_section.file (relocation_in l d.of_section r).r_symbolnum)
 unfolding target_of
@@ -58,13 +58,13 @@ person_leads l d r keeps it c =
     let hit = in_filter (λ q. eqb (relocation_in l s q).r_address (32 * d.entry + 16)) (range_with_len 0 (header_at l s).nreloc) r c in
     let address : (relocation_in l s r).r_address ≡ 32 * d.entry + 16 = eqb-true _ _ hit.0 in
     let mine : eqb ((relocation_in l s r).r_address / 32) d.entry ≡ true = eq-eqb _ _ (omega (arith, address)) in
-    let plain = left_of _ _ (passes (unwind_relocation_fits l s) (filter (λ q. eqb ((relocation_in l s q).r_address / 32) d.entry)
+    let plain = and_left _ _ (one_passes (unwind_relocation_fits l s) (filter (λ q. eqb ((relocation_in l s q).r_address / 32) d.entry)
     (range_with_len 0 (header_at l s).nreloc)) r
     (keeps.unwind s d.entry U2 it.there it.within)
-    (to_filter (λ q. eqb ((relocation_in l s q).r_address / 32) d.entry) (range_with_len 0 (header_at l s).nreloc) r hit.1 mine)) in
-    let extern = left_of _ _ (passes (λ q. (relocation_in l s q).r_extern && (is_defined (target_of_relocation l s q) || is_import
+    (contains_filter (λ q. eqb ((relocation_in l s q).r_address / 32) d.entry) (range_with_len 0 (header_at l s).nreloc) r hit.1 mine)) in
+    let extern = and_left _ _ (one_passes (λ q. (relocation_in l s q).r_extern && (is_defined (target_of_relocation l s q) || is_import
     (target_of_relocation l s q)))
-    (relocations_in_entry l s d.entry PERSONALITY_PLACE) r (left_of _ _ (keeps.unwind s d.entry U7 it.there it.within)) c) in
+    (relocations_in_entry l s d.entry PERSONALITY_PLACE) r (and_left _ _ (keeps.unwind s d.entry U7 it.there it.within)) c) in
     pointer_leads l s r plain extern
 
 number_told : (l : Link) (d : EntryId) (rs : List ℕ) → relocations_in_entry l d.of_section d.entry PERSONALITY_PLACE ≡ rs
@@ -74,7 +74,7 @@ unfolding entry_row
 number_told l d [] is keeps it = rw is refl
 number_told l d (r ∷ rs) is keeps it =
     rw is (ap (λ (t : Target). Some (slot_number l t)) (sym (person_leads l d r keeps it (subst (λ (xs : List ℕ). Contains xs r)
-    (sym is) (here r rs)))))
+    (sym is) (contains_first r rs)))))
 
 longer : (r : ℕ) (rs : List ℕ) → (length (r ∷ rs) == 0) ≡ false
 longer r rs = not_true _ (λ e. let none : length (r ∷ rs) ≡ 0 = eqb-true _ _ e in omega arith)
@@ -89,7 +89,7 @@ words_told : (l : Link) (d : EntryId) → (entry_row l d).encoding ≡ (unwind_e
 unfolding entry_row
 words_told l d = refl
 
-file_told : (l : Link) (d : EntryId) → (entry_row l d).file ≡ d.of_section.file
+pub file_told : (l : Link) (d : EntryId) → (entry_row l d).file ≡ d.of_section.file
 unfolding entry_row
 file_told l d = refl
 
@@ -177,3 +177,10 @@ no_slot_told slots t e = by (nat_lt (position_or_len (same_target t) slots) (len
     by true is e = cc
     by false is e = let past : length slots ≤ position_or_len (same_target t) slots = grind (arith, nat_tests, is) in omega
         (arith, past, within_len (same_target t) slots)
+
+-- there is one at most
+pub one_personality : (l : Link) (d : EntryId) → EntriesKeepRules l → IsInSection l d
+    → length (relocations_in_entry l d.of_section d.entry PERSONALITY_PLACE) ≤ 1
+one_personality l d keeps it =
+    leb-true _ _ (and_left _ _ (and_right (nat_le (length (relocations_in_entry l d.of_section d.entry START_PLACE)) 1) _
+    (keeps.unwind d.of_section d.entry U3 it.there it.within)))

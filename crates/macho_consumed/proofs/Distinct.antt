@@ -2,8 +2,7 @@
 --
 -- The keys that are held are the starts of the rows behind a place. Where the start of the row before is among them, a later row has
 -- it too; where it isn't, it differs from all of them, so the rows with it are apart as those behind were.
-use Rattle.std.proofs.Common.{◌≡◌, ◌≢◌, ℕ, ◌+◌, ◌-◌, ◌<◌, ◌≤◌, Bool, true, false, cond, not, ◌==◌, ◌||◌, List, [], ◌∷◌, ◌++◌, length}
-use Rattle.std.proofs.Common.{get_or, inl, inr, Option, Some, None, refl, sym, ap, ◌∙◌, subst, arith}
+use Rattle.std.proofs.Common.{◌≡◌, ◌≢◌, ℕ, ◌+◌, ◌-◌, ◌<◌, ◌≤◌, Bool, true, false, cond, not, ◌==◌, ◌||◌, List, [], ◌∷◌, ◌++◌, length, get_or, inl, inr, Option, Some, None, refl, sym, ap, ◌∙◌, subst, arith}
 use Rattle.std.proofs.lemmas.Bool.Decides.{Decides-eqb}
 use Rattle.std.proofs.lemmas.Bool.{cases_lt}
 use Rattle.std.proofs.lemmas.List.{get_or_default}
@@ -16,7 +15,7 @@ use Rattle.macho_consumed.specs.declared.fault.ConsumedFault.{ConsumedFault}
 use Rattle.macho_consumed.specs.declared.fault.ConsumedFault.TheVariants.{BadUnwind}
 use Rattle.macho_consumed.specs.contracts.starts.StartKeyPartialEq.TheImpl as start_keys
 use Rattle.macho_consumed.specs.steps.Checked.{start_key, IsAgain}
-use Rattle.macho_consumed.proofs.Tests.{left_of, right_of, both}
+use Rattle.macho_bytes.proofs.Bools.{and_left, and_right, and_both}
 
 -- the test of keys
 abbrev pub key_eq : StartKey → StartKey → Bool
@@ -24,14 +23,14 @@ key_eq a b = start_keys.eq-value.it a b
 
 key_same : (a b : StartKey) → key_eq a b ≡ true → a ≡ b
 key_same a b e =
-    let file : a.file ≡ b.file = (Decides-eqb a.file b.file).0 (left_of _ _ e) in
-    let rest = right_of (a.file == b.file) _ e in
-    let section : a.section ≡ b.section = (Decides-eqb a.section b.section).0 (left_of _ _ rest) in
-    let offset : a.offset ≡ b.offset = (Decides-eqb a.offset b.offset).0 (right_of (a.section == b.section) _ rest) in
+    let file : a.file ≡ b.file = (Decides-eqb a.file b.file).0 (and_left _ _ e) in
+    let rest = and_right (a.file == b.file) _ e in
+    let section : a.section ≡ b.section = (Decides-eqb a.section b.section).0 (and_left _ _ rest) in
+    let offset : a.offset ≡ b.offset = (Decides-eqb a.offset b.offset).0 (and_right (a.section == b.section) _ rest) in
     λ i. record { file = file i; section = section i; offset = offset i }
 
 key_self : (a : StartKey) → key_eq a a ≡ true
-key_self a = both _ _ ((Decides-eqb a.file a.file).1 refl) (both _ _ ((Decides-eqb a.section a.section).1 refl)
+key_self a = and_both _ _ ((Decides-eqb a.file a.file).1 refl) (and_both _ _ ((Decides-eqb a.section a.section).1 refl)
     ((Decides-eqb a.offset a.offset).1 refl))
 
 -- what is held, and what is put
@@ -82,9 +81,6 @@ pub record AreHeld (rows : List UnwindEntry) (from : ℕ) (keys : List StartKey)
   pub come : (k : StartKey) → is_held keys k ≡ true
       → (j : ℕ) × (from ≤ j) × (j < length rows) × ((d : UnwindEntry) → start_key (get_or rows j d) ≡ k)
 
-pub held_none : (rows : List UnwindEntry) (from : ℕ) → length rows ≤ from → AreHeld rows from []
-held_none rows from past = record { each = λ j d le lt. absurd (omega (arith, past, le, lt)); come = λ k held. cc }
-
 -- the row at a place, whatever stands for a missing one
 at_place : (rows : List UnwindEntry) (p : ℕ) (row d : UnwindEntry) → row ≡ get_or rows p row → p < length rows → get_or rows p d ≡ row
 at_place rows p row d is lt = get_or_default rows p d row lt ∙ sym is
@@ -111,9 +107,6 @@ abbrev pub AreApart : List UnwindEntry → ℕ → Option UnwindEntry → Type 0
 AreApart rows from (Some row) = Unit {0}
 AreApart rows from None = (i j : ℕ) (d : UnwindEntry) → from ≤ i → i < j → j < length rows
     → start_key (get_or rows i d) ≢ start_key (get_or rows j d)
-
-pub apart_none : (rows : List UnwindEntry) (from : ℕ) → length rows ≤ from → AreApart rows from None
-apart_none rows from past = λ i j d le lt below. absurd (omega (arith, past, le, lt, below))
 
 pub apart_more : (rows : List UnwindEntry) (p : ℕ) (row : UnwindEntry) (k : StartKey) (keys : List StartKey) (added : Bool)
     (again : Option UnwindEntry) → AreHeld rows (p + 1) keys → AreApart rows (p + 1) again → p < length rows → row ≡ get_or rows p row
@@ -208,26 +201,3 @@ no_row = record {
 pub row_here : (rows : List UnwindEntry) (i : ℕ) → i < length rows
     → get_or rows (length rows - 1 - i) no_row ≡ get_or rows (length rows - 1 - i) (get_or rows (length rows - 1 - i) no_row)
 row_here rows i lt = get_or_default rows (length rows - 1 - i) no_row (get_or rows (length rows - 1 - i) no_row) (omega (arith, lt))
-
--- at the first row
-pub all_apart : (rows : List UnwindEntry) (from : ℕ) (again : Option UnwindEntry) → AreApart rows from again → from ≡ 0 → again ≡ None
-    → AllPairs (λ d e. start_key d ≢ start_key e) rows
-all_apart rows from (Some row) apart zero none = cc
-all_apart rows from None apart zero none = λ i j d less below. apart i j d (omega (arith, zero)) less below
-
-pub one_again : (rows : List UnwindEntry) (again : Option UnwindEntry) (row : UnwindEntry) (fault : ConsumedFault) → AreShared rows again
-    → again ≡ Some row → fault ≡ BadUnwind row.file row.section row.entry U6 → IsAgain rows fault
-one_again rows None row fault shared is told = cc
-one_again rows (Some r) row fault shared is told =
-    let same : r ≡ row = cc in
-    let s = subst (IsShared rows) same shared in
-    record {
-      place = s.place;
-      later = s.later;
-      before = s.before;
-      there = s.there;
-      row = row;
-      is = s.is;
-      same = s.same;
-      told = told;
-    }

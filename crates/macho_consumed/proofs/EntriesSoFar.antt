@@ -1,16 +1,13 @@
 -- The entries that were read so far: each one more fits, leads somewhere, and adds its row.
 --
 -- What holds of the first n entries holds of the first n + 1 where it holds of the entry n.
-use Rattle.std.proofs.Common.{◌≡◌, ℕ, ◌+◌, true}
-use Rattle.std.proofs.Common.{List, [], ◌∷◌, ◌++◌, map}
-use Rattle.std.proofs.Common.{sym, ap, ◌∙◌, subst, arith, below_more, append_assoc}
+use Rattle.std.proofs.Common.{◌≡◌, ℕ, ◌+◌, true, List, [], ◌∷◌, ◌++◌, map, sym, ap, ◌∙◌, subst, arith, below_more, append_assoc}
 use Rattle.std.specs.List.{range_with_len}
 use Rattle.std.proofs.lemmas.List.{append-nil}
 use Rattle.std.proofs.lemmas.List.FromFn.{map-range_with_len_more}
 use Rattle.macho_consumed.specs.declared.rows.UnwindEntry.{UnwindEntry}
 use Rattle.macho_symbols.specs.Kept.{ResolvedRows}
-use Rattle.macho_consumed.specs.steps.Entries.{EntryFits}
-use Rattle.macho_consumed.specs.steps.Entries.{EntriesFit, EntriesLead, row_in, rows_in}
+use Rattle.macho_consumed.specs.steps.Entries.{EntryFits, EntriesFit, EntriesLead, row_in, rows_in}
 use Rattle.macho_consumed.specs.steps.Checked.{LeadsSomewhere}
 
 pub entries_none : (b : List ℕ) (k : ℕ) → EntriesFit b k 0

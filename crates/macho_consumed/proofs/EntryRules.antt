@@ -2,8 +2,7 @@
 --
 -- The rows are those of the link's entries, place by place. Where two rows have one start, their entries are two, since rows are
 -- distinct: so the later breaks the rule. Where no two have one, an entry with the start of another is that other.
-use Rattle.std.proofs.Common.{◌≡◌, ◌≢◌, ℕ, ◌/◌, ◌<◌, ◌≤◌, inl, inr, eq-eqb, Bool, true, false, ◌&&◌, ◌||◌, not, ◌==◌, nat_le, List, length}
-use Rattle.std.proofs.Common.{map, get_or, Option, refl, sym, ap, ◌∙◌, subst, arith}
+use Rattle.std.proofs.Common.{◌≡◌, ◌≢◌, ℕ, ◌/◌, ◌<◌, ◌≤◌, inl, inr, eq-eqb, Bool, true, false, ◌&&◌, ◌||◌, not, ◌==◌, nat_le, List, length, map, get_or, Option, refl, sym, ap, ◌∙◌, subst, arith}
 use Rattle.std.proofs.lemmas.Bool.Decides.{nat_tests}
 use Rattle.std.proofs.lemmas.Bool.{eqb-true, cases_lt}
 use Rattle.std.proofs.lemmas.List.{get_or-map, length-map, get_or_default}
@@ -16,23 +15,22 @@ use Rattle.macho_model.specs.Objects.{section_at, relocation_at}
 use Rattle.macho_model.specs.Links.{Link, SectionId, object_of}
 use Rattle.macho_model.specs.Needs.{relocation_in, unwind_sections, PERSONALITY_PLACE}
 use Rattle.macho_model.specs.Targets.{target_of_relocation}
-use Rattle.macho_model.specs.Consumed.{EntryId, entry_count, same_section, same_start, entries_of_link, keeps, whole_entries}
-use Rattle.macho_model.specs.Consumed.{relocations_in_entry, START_PLACE, LSDA_PLACE}
+use Rattle.macho_model.specs.Consumed.{EntryId, entry_count, same_section, same_start, entries_of_link, keeps, whole_entries, relocations_in_entry, START_PLACE, LSDA_PLACE}
 use Rattle.macho_symbols.specs.Kept.{ResolvedRows, IsResolved}
 use Rattle.macho_consumed.specs.declared.listing.Kind.TheVariants.{Entries}
 use Rattle.macho_consumed.specs.declared.listing.SectionRef.{SectionRef}
 use Rattle.macho_consumed.specs.declared.rows.UnwindEntry.{UnwindEntry}
 use Rattle.macho_consumed.specs.declared.fault.ConsumedFault.{ConsumedFault}
 use Rattle.macho_consumed.specs.declared.fault.ConsumedFault.TheVariants.{BadInitializer, BadUnwind, OutOfMemory}
-use Rattle.macho_parts.specs.Views.{views_of}
+use Rattle.macho_promise.specs.Views.{views_of}
 use Rattle.macho_consumed.specs.Rows.{entry_row, entry_rows}
 use Rattle.macho_consumed.specs.Told.{IsStanding, EntriesKeepRules}
 use Rattle.macho_consumed.specs.steps.Entries.{at_place, read_entry, data_fits, EntryFits, row_in}
 use Rattle.macho_consumed.specs.steps.Listed.{id_of_ref, bytes_in}
 use Rattle.macho_consumed.specs.steps.Gathered.{all_of, entries_at, KeepsAt}
 use Rattle.macho_consumed.specs.steps.Checked.{start_key, IsAgain, IsAgainOrMemory, leads_somewhere}
-use Rattle.macho_consumed.proofs.Tests.{left_of, right_of, both, all_pass, one_fails, not_true}
-use Rattle.macho_consumed.proofs.Members.{in_map, all_there, to_map, to_joined, to_range}
+use Rattle.macho_consumed.proofs.Tests.{one_fails, not_true}
+use Rattle.macho_consumed.proofs.Members.{in_map}
 use Rattle.macho_consumed.proofs.InAll.{IsOne, all_listed}
 use Rattle.macho_consumed.proofs.Transfer.{object_is, entry_test}
 use Rattle.macho_consumed.proofs.Sectioned.{unwind_are}
@@ -40,6 +38,9 @@ use Rattle.macho_consumed.proofs.Pairs.{Pairs, at_pairs}
 use Rattle.macho_consumed.proofs.EntryStarts.{AreOthers, rows_differ}
 use Rattle.macho_consumed.proofs.SameStarts.{known, known_starts, keys_meet, meet_keys}
 use Rattle.macho_consumed.proofs.ReadEntries.{rows_read, HasPerson, nobody, someone, person, is_person, person_told, is_somewhere}
+use Rattle.macho_bytes.proofs.Bools.{and_left, and_right, and_both}
+use Rattle.macho_bytes.proofs.Members.{contains_all, contains_map, contains_flat_map, contains_range, passes_each as all_pass}
+use Rattle.macho_consumed.proofs.BoundInputs.{file_told}
 
 abbrev pub no_entry : EntryId
 no_entry = record { of_section = record { file = 0; section = 0 }; entry = 0 }
@@ -56,11 +57,6 @@ entry_there : (l : Link) (rows : List UnwindEntry) (i : ℕ) → rows ≡ map (e
 entry_there l rows i are lt =
     let within : i < length (entries_of_link l) = omega (arith, lt, ap length are, length-map (entries_of_link l) (entry_row l)) in
     (i, within, get_or_default (entries_of_link l) i (get_or (entries_of_link l) i no_entry) no_entry within)
-
--- what a row says of its entry
-row_file : (l : Link) (d : EntryId) → (entry_row l d).file ≡ d.of_section.file
-unfolding entry_row
-row_file l d = refl
 
 row_section : (l : Link) (d : EntryId) → (entry_row l d).section ≡ d.of_section.section
 unfolding entry_row
@@ -101,14 +97,15 @@ again_of l files r rows fault views keep are again =
     (xs : List UnwindEntry). Pairs AreOthers xs) (sym are) (rows_differ files)) again.before again.there in
     let differ : (same_section d.of_section e.of_section && (d.entry == e.entry)) ≡ false =
     not_true _ (λ alike.
-    let section = left_of _ _ alike in
+    let section = and_left _ _ alike in
     others.apart
-    (sym (ap (λ (x : UnwindEntry). x.file) other ∙ row_file l d ∙ eqb-true _ _ (left_of _ _ section) ∙ sym (row_file l e)
+    (sym (ap (λ (x : UnwindEntry). x.file) other ∙ file_told l d ∙ eqb-true _ _ (and_left _ _ section) ∙ sym (file_told l e)
     ∙ sym (ap (λ (x : UnwindEntry). x.file) (again.is ∙ this))))
     (sym (ap (λ (x : UnwindEntry). x.section) other ∙ row_section l d
-    ∙ eqb-true _ _ (right_of (d.of_section.file == e.of_section.file) _ section) ∙ sym (row_section l e)
+    ∙ eqb-true _ _ (and_right (d.of_section.file == e.of_section.file) _ section) ∙ sym (row_section l e)
     ∙ sym (ap (λ (x : UnwindEntry). x.section) (again.is ∙ this))))
-    (sym (ap (λ (x : UnwindEntry). x.entry) other ∙ row_entry l d ∙ eqb-true _ _ (right_of (same_section d.of_section e.of_section) _ alike)
+    (sym (ap (λ (x : UnwindEntry). x.entry) other ∙ row_entry l d ∙ eqb-true _ _
+    (and_right (same_section d.of_section e.of_section) _ alike)
     ∙ sym (row_entry l e) ∙ sym (ap (λ (x : UnwindEntry). x.entry) (again.is ∙ this))))) in
     let fails : keeps l e.of_section e.entry U6 ≡ false =
     one_fails (λ x. not (same_start l x e) || (same_section x.of_section e.of_section && (x.entry == e.entry))) (entries_of_link l) d
@@ -116,13 +113,13 @@ again_of l files r rows fault views keep are again =
     (alone_test l d e same differ) in
     let there : Contains (unwind_sections l) e.of_section =
     subst (λ (s : SectionId). Contains (unwind_sections l) s) (sym known_e.section)
-    (subst (λ (xs : List SectionId). Contains xs (id_of_ref known_e.at)) (unwind_are l files views) (to_map id_of_ref
+    (subst (λ (xs : List SectionId). Contains xs (id_of_ref known_e.at)) (unwind_are l files views) (contains_map id_of_ref
     (all_of Entries files) known_e.at known_e.there)) in
     let within : e.entry < entry_count l e.of_section = subst (λ (s : SectionId). e.entry < entry_count l s)
     (sym known_e.section) known_e.within in
     let stands : IsStanding l (BadUnwind e.of_section.file e.of_section.section e.entry U6) = (there, (within, fails)) in
     subst (IsStanding l) (sym (again.told ∙ ap (λ (x : UnwindEntry). BadUnwind x.file x.section x.entry U6) this
-    ∙ ap (λ (f : ℕ). BadUnwind f (entry_row l e).section (entry_row l e).entry U6) (row_file l e)
+    ∙ ap (λ (f : ℕ). BadUnwind f (entry_row l e).section (entry_row l e).entry U6) (file_told l e)
     ∙ ap (λ (s : ℕ). BadUnwind e.of_section.file s (entry_row l e).entry U6) (row_section l e)
     ∙ ap (λ (n : ℕ). BadUnwind e.of_section.file e.of_section.section n U6) (row_entry l e))) stands
 
@@ -177,7 +174,7 @@ alone_kept l files r rows e views keep are apart there =
         let se = known_starts l files r e views keep (known l files e views there) in
         let same : d ≡ e = one d c.0 there.0 c.1 there.1 c.2 there.2 (meet_keys l d e sd.0 se.0 sd.1 se.1 is) in
         let equal : (same_section d.of_section e.of_section && (d.entry == e.entry)) ≡ true =
-        both _ _ (both _ _ (eq-eqb _ _ (ap (λ (x : EntryId). x.of_section.file) same)) (eq-eqb _ _ (ap (λ
+        and_both _ _ (and_both _ _ (eq-eqb _ _ (ap (λ (x : EntryId). x.of_section.file) same)) (eq-eqb _ _ (ap (λ
         (x : EntryId). x.of_section.section) same))) (eq-eqb _ _ (ap (λ (x : EntryId). x.entry) same)) in
         rw (is, equal) refl
 
@@ -188,7 +185,7 @@ one_of_few xs a b few (i, lt, is) (j, below, at) =
     sym is ∙ get_or_default xs i a b lt ∙ ap (λ (n : ℕ). get_or xs n b) same ∙ at
 
 few_people : (b : List ℕ) (k e : ℕ) → EntryFits b k e → length (at_place b k e PERSONALITY_PLACE) ≤ 1
-few_people b k e fits = at_most _ (left_of _ _ (right_of (nat_le (length (at_place b k e START_PLACE)) 1) _ fits.single))
+few_people b k e fits = at_most _ (and_left _ _ (and_right (nat_le (length (at_place b k e START_PLACE)) 1) _ fits.single))
   where
     at_most : (n : ℕ) → nat_le n 1 ≡ true → n ≤ 1
     at_most n few = grind (arith, nat_tests, few)
@@ -213,11 +210,11 @@ links_kept l noted file b k e is fits leads =
     all_pass (λ q. (relocation_in l s q).r_extern && is_somewhere (target_of_relocation l s q))
     (relocations_in_entry l s e PERSONALITY_PLACE) (λ q c.
     let d : Contains (at_place b k e PERSONALITY_PLACE) q = subst (λ (x : List ℕ). Contains (at_place x k e PERSONALITY_PLACE) q) is c in
-    both _ _ (subst (λ (x : List ℕ). (relocation_at x k q).r_extern ≡ true) (sym is) (is_person b k e q fits d).extern)
+    and_both _ _ (subst (λ (x : List ℕ). (relocation_at x k q).r_extern ≡ true) (sym is) (is_person b k e q fits d).extern)
     (person_leads l noted file b k e q is fits (person b file k e) leads d)) in
-    both _ _ people
+    and_both _ _ people
     (subst (λ (x : List ℕ). list_all (λ r. data_fits x (read_entry x k e).lsda (relocation_at x k r))
-    (at_place x k e LSDA_PLACE) ≡ true) (sym is) (right_of _ _ fits.links))
+    (at_place x k e LSDA_PLACE) ≡ true) (sym is) (and_right _ _ fits.links))
 
 -- all rules
 pub rules_kept : (l : Link) (noted : List (List ℕ)) (files : List (Option FileBytes)) (r : ResolvedRows) (rows : List UnwindEntry)
@@ -228,7 +225,7 @@ unfolding entry_row entries_of_link
 rules_kept l noted files r rows views resolved keep are apart = record {
   whole = subst (λ (xs : List SectionId). All (λ s. whole_entries l s ≡ true) xs) (unwind_are l files views)
       (All-map (λ s. whole_entries l s ≡ true) id_of_ref (all_of Entries files)
-      (all_there (λ s. whole_entries l (id_of_ref s) ≡ true) (all_of Entries files) (λ s c.
+      (contains_all (λ s. whole_entries l (id_of_ref s) ≡ true) (all_of Entries files) (λ s c.
       (entry_test l s.file (bytes_in files s.file) s.section 0 (object_is l files s.file views (listed s c))).5
       ∙ (All-contains (KeepsAt r files) (all_of Entries files) s keep c).whole)));
   unwind = λ s e rule c lt.
@@ -236,10 +233,11 @@ rules_kept l noted files r rows views resolved keep are apart = record {
       (unwind_are l files views)) c) in
       subst (λ (x : SectionId). keeps l x e rule ≡ true) (sym m.is)
       (kept m.at m.there e (subst (λ (x : SectionId). e < entry_count l x) m.is lt) rule
-      (subst (λ (x : SectionId). Contains (entries_of_link l) (record { of_section = x; entry = e })) m.is (to_joined (λ t. map
+      (subst (λ (x : SectionId). Contains (entries_of_link l) (record { of_section = x; entry = e })) m.is (contains_flat_map (λ t. map
       (λ n. record { of_section = t; entry = n }) (range_with_len 0 (entry_count l t))) (unwind_sections l) s
       (record { of_section = s; entry = e }) c
-      (to_map (λ n. record { of_section = s; entry = n }) (range_with_len 0 (entry_count l s)) e (to_range (entry_count l s) e lt)))));
+      (contains_map (λ n. record { of_section = s; entry = n }) (range_with_len 0 (entry_count l s)) e
+      (contains_range (entry_count l s) e lt)))));
 }
   where
     listed : (s : SectionRef) → Contains (all_of Entries files) s → s.file < length files

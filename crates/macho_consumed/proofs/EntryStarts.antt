@@ -3,8 +3,7 @@
 -- An entry that keeps its rules by the bytes has one relocation of its start, by the number of a section that the start lies in: so
 -- two entries have one start exactly where their rows tell one place. Rows of one section differ by the entry, those of two
 -- sections by the section or the file.
-use Rattle.std.proofs.Common.{◌≡◌, ℕ, ◌-◌, ◌/◌, ◌<◌, ◌≤◌, Bool, true, false, ◌&&◌, not, nat_le, nat_lt, List, [], ◌∷◌, length, filter}
-use Rattle.std.proofs.Common.{get_or, Option, Some, None, refl, sym, ap, ◌∙◌, subst, arith}
+use Rattle.std.proofs.Common.{◌≡◌, ℕ, ◌-◌, ◌/◌, ◌<◌, ◌≤◌, Bool, true, false, ◌&&◌, not, nat_le, nat_lt, List, [], ◌∷◌, length, filter, get_or, Option, Some, None, refl, sym, ap, ◌∙◌, subst, arith}
 use Rattle.std.proofs.lemmas.Bool.Decides.{nat_tests}
 use Rattle.std.specs.List.{range_with_len, flat_map, list_all, Contains}
 use Rattle.macho_object.specs.Views.{FileBytes}
@@ -20,9 +19,9 @@ use Rattle.macho_consumed.specs.steps.Entries.{named, at_place, read_entry, Entr
 use Rattle.macho_consumed.specs.steps.Listed.{ref, refs_in, refs_of_file, refs_of, bytes_in}
 use Rattle.macho_consumed.specs.Kinds.{is_of_kind}
 use Rattle.macho_consumed.specs.steps.Gathered.{all_of, entries_at}
-use Rattle.macho_consumed.proofs.Tests.{left_of, right_of}
 use Rattle.macho_consumed.proofs.Members.{in_map}
 use Rattle.macho_consumed.proofs.Pairs.{Pairs, pairs_joined, pairs_range, pairs_filter, pairs_map}
+use Rattle.macho_bytes.proofs.Bools.{and_left, and_right}
 
 -- THE start of an entry.
 pub record HasStart (b : List ℕ) (k e r : ℕ) : Type 0 where
@@ -37,15 +36,15 @@ one_start : (b : List ℕ) (k e : ℕ) (xs : List ℕ) → at_place b k e START_
 one_start b k e [] is fits = let clash : false ≡ true = sym (rw is refl) ∙ fits.start in cc
 one_start b k e (r ∷ q ∷ rs) is fits =
     let few : nat_le (length (at_place b k e START_PLACE)) 1 ≡ true =
-    left_of (nat_le (length (at_place b k e START_PLACE)) 1) _ fits.single in
+    and_left (nat_le (length (at_place b k e START_PLACE)) 1) _ fits.single in
     let lt : length (at_place b k e START_PLACE) ≤ 1 = grind (arith, nat_tests, few) in
     absurd (omega (arith, lt, ap length is))
 one_start b k e (r ∷ []) is fits =
     let all : list_all (λ q. not (relocation_at b k q).r_extern && holds_functions (alone b) (own (named (relocation_at b k q))))
     (r ∷ []) ≡ true =
     subst (λ (xs : List ℕ). list_all (λ q. not (relocation_at b k q).r_extern && holds_functions (alone b) (own (named
-    (relocation_at b k q)))) xs ≡ true) is (right_of _ _ fits.start) in
-    let number : (relocation_at b k r).r_extern ≡ false = not_it _ (left_of _ _ (left_of _ _ all)) in
+    (relocation_at b k q)))) xs ≡ true) is (and_right _ _ fits.start) in
+    let number : (relocation_at b k r).r_extern ≡ false = not_it _ (and_left _ _ (and_left _ _ all)) in
     let inside : lies_from (section_at b (named (relocation_at b k r))) (read_entry b k e).start (read_entry b k e).length ≡ true =
     lies b k e r number (subst (λ (xs : List ℕ). list_all (λ q. lies_from (section_at b (named (relocation_at b k q)))
     (read_entry b k e).start (read_entry b k e).length) (filter (λ q. not (relocation_at b k q).r_extern) xs) ≡ true) is fits.inside) in
@@ -59,7 +58,7 @@ one_start b k e (r ∷ []) is fits =
         → list_all (λ q. lies_from (section_at b (named (relocation_at b k q))) (read_entry b k e).start (read_entry b k e).length)
         (filter (λ q. not (relocation_at b k q).r_extern) (r ∷ [])) ≡ true
         → lies_from (section_at b (named (relocation_at b k r))) (read_entry b k e).start (read_entry b k e).length ≡ true
-    lies b k e r number all = left_of _ _ (rw number at all)
+    lies b k e r number all = and_left _ _ (rw number at all)
 
 pub has_start : (b : List ℕ) (k e : ℕ) → EntryFits b k e → (r : ℕ) × HasStart b k e r
 has_start b k e fits = one_start b k e (at_place b k e START_PLACE) refl fits

@@ -2,8 +2,7 @@
 --
 -- A section that is listed is one of a file that is viewed, and of its kind: it comes from the file's own list, which is a filter
 -- of its sections' numbers. What is added for one section more stands behind what was added before.
-use Rattle.std.proofs.Common.{◌≡◌, ℕ, ◌+◌, ◌<◌, Bool, true, List, [], ◌∷◌, ◌++◌, length, filter, get_or, take, Option, Some, None}
-use Rattle.std.proofs.Common.{refl, sym, ap, ◌∙◌, subst}
+use Rattle.std.proofs.Common.{◌≡◌, ℕ, ◌+◌, ◌<◌, Bool, true, List, [], ◌∷◌, ◌++◌, length, filter, get_or, take, Option, Some, None, refl, sym, ap, ◌∙◌, subst}
 use Rattle.std.proofs.lemmas.List.{append-nil, take_more, get_or_default}
 use Rattle.std.proofs.lemmas.List.Elements.{All-more, All-contains, All-nil, All-map, All-from_get_or}
 use Rattle.std.proofs.lemmas.Grind.{flat_map-append}
@@ -21,7 +20,8 @@ use Rattle.macho_consumed.specs.declared.fault.ConsumedFault.TheVariants.{BadIni
 use Rattle.macho_consumed.specs.steps.Slots.{IsBadSection}
 use Rattle.macho_consumed.specs.steps.Entries.{IsBadUnwind}
 use Rattle.macho_consumed.specs.steps.Gathered.{all_of, IsListed, IsBadAt, IsBadRuleAt}
-use Rattle.macho_consumed.proofs.Members.{all_joined, in_filter, in_range}
+use Rattle.macho_consumed.proofs.Members.{all_joined, in_filter}
+use Rattle.macho_bytes.proofs.Members.{range_contains}
 
 -- A section of a kind is listed.
 pub record IsOne (kind : Kind) (files : List (Option FileBytes)) (s : SectionRef) : Type 0 where
@@ -42,7 +42,7 @@ one_of_file kind files i (Some f) lt is =
     let k : ℕ = get_or numbers j 0 in
     let both = in_filter test (range_with_len 0 (num_sections f.bytes)) k (j, below, get_or_default numbers j k 0 below) in
     record {
-      listed = record { file = lt; view = f; is = is; section = in_range (num_sections f.bytes) k both.1 };
+      listed = record { file = lt; view = f; is = is; section = range_contains (num_sections f.bytes) k both.1 };
       of_kind = ap (λ (b : List ℕ). is_of_kind kind (section_at b k)) here ∙ both.0;
     }))
 
@@ -50,7 +50,7 @@ pub all_listed : (kind : Kind) (files : List (Option FileBytes)) → All (IsOne 
 unfolding refs_of
 all_listed kind files =
     all_joined (IsOne kind files) (λ i. refs_of_file kind i (get_or files i None)) (range_with_len 0 (length files))
-    (λ i c. one_of_file kind files i (get_or files i None) (in_range (length files) i c) refl)
+    (λ i c. one_of_file kind files i (get_or files i None) (range_contains (length files) i c) refl)
 
 -- the next one
 pub next_listed : (kind : Kind) (files : List (Option FileBytes)) (refs : List SectionRef) (i : ℕ) (s : SectionRef)

@@ -3,15 +3,13 @@
 -- The table tells the relocations of each of an entry's four places. At each of the three addresses stands a plain pointer or none,
 -- else a rule is broken. What the code found of the one, the tests of the rules say of the list of one: so each rule holds, or is the
 -- one that is told. No relocation stands at 8 nor between places, so each stands at one of the three addresses.
-use Rattle.std.proofs.Common.{◌≡◌, ◌≢◌, ℕ, ◌+◌, ◌*◌, ◌/◌, ◌%◌, ◌<◌, ◌≤◌, inl, inr, eqb, eq-eqb, Bool, true, false, not, nat_lt, ◌==◌}
-use Rattle.std.proofs.Common.{if◌then◌else◌, ◌&&◌, ◌||◌, List, [], length, filter, get_or, Option, Some, None, option_map}
-use Rattle.std.proofs.Common.{option_to_list, is_some, nat_le, refl, sym, ap, ◌∙◌, subst, arith}
+use Rattle.std.proofs.Common.{◌≡◌, ◌≢◌, ℕ, ◌+◌, ◌*◌, ◌/◌, ◌%◌, ◌<◌, ◌≤◌, inl, inr, eqb, eq-eqb, Bool, true, false, not, nat_lt, ◌==◌, if◌then◌else◌, ◌&&◌, ◌||◌, List, [], length, filter, get_or, Option, Some, None, option_map, option_to_list, is_some, nat_le, refl, sym, ap, ◌∙◌, subst, arith}
 use Rattle.std.proofs.lemmas.Bool.Decides.{nat_tests}
 use Rattle.std.proofs.lemmas.Bool.{eqb-true}
 use Rattle.std.specs.List.{range_with_len, list_all, list_any, Contains}
 use Rattle.macho_bytes.specs.Numbers.{bits}
-use Rattle.macho_structs.specs.declared.relocations.RelocationInfo.{RelocationInfo}
-use Rattle.macho_structs.specs.declared.unwind.UnwindInfoEntry.{UnwindInfoEntry}
+use Rattle.macho_wire.specs.declared.relocations.RelocationInfo.{RelocationInfo}
+use Rattle.macho_wire.specs.declared.unwind.UnwindInfoEntry.{UnwindInfoEntry}
 use Rattle.macho_model.specs.declared.rules.UnwindRule.{UnwindRule}
 use Rattle.macho_model.specs.declared.rules.UnwindRule.TheVariants.{U2, U3, U4, U5, U8}
 use Rattle.macho_model.specs.ObjectLaws.{KeepsObjectRules}
@@ -27,27 +25,13 @@ use Rattle.macho_symbols.specs.Kept.{ResolvedRows}
 use Rattle.macho_consumed.specs.declared.places.Cell.{Cell}
 use Rattle.macho_consumed.specs.declared.places.Cell.TheVariants.{Empty, One}
 use Rattle.macho_consumed.specs.steps.Places.{found, CellTells, IsTable, NoneBelow}
-use Rattle.macho_consumed.specs.steps.Entries.{unwind_relocation_fits, NamesSection, StartFound, StartBreaks, DataFound, DataBreaks, PersonalityFound}
-use Rattle.macho_consumed.specs.steps.Entries.{PersonalityBreaks, PointersBreak, EntryBreaks, is_clear, at_place, read_entry, data_fits}
-use Rattle.macho_consumed.specs.steps.Entries.{EntryFits}
-use Rattle.macho_consumed.specs.steps.Entries.{HasPointers, IsPointer, IsAddress, row_in}
-use Rattle.macho_consumed.proofs.Members.{here, in_filter, to_filter, in_range}
-use Rattle.macho_consumed.proofs.Tests.{both, all_pass, one_fails}
+use Rattle.macho_consumed.specs.steps.Entries.{unwind_relocation_fits, NamesSection, StartFound, StartBreaks, DataFound, DataBreaks, PersonalityFound, PersonalityBreaks, PointersBreak, EntryBreaks, is_clear, at_place, read_entry, data_fits, EntryFits, HasPointers, IsPointer, IsAddress, row_in}
+use Rattle.macho_consumed.proofs.Members.{in_filter}
+use Rattle.macho_consumed.proofs.Tests.{one_fails}
 use Rattle.macho_consumed.proofs.InSlots.{in_cell}
-
--- a plain pointer that isn't extern names a section that is there
-plain_names : (r : RelocationInfo) (n m : ℕ) → (if r.r_extern then nat_lt r.r_symbolnum n else ((r.r_type == 10) ||
-    (nat_le 1 r.r_symbolnum && nat_le r.r_symbolnum m))) ≡ true
-    → is_plain_pointer r ≡ true → r.r_extern ≡ false → (1 ≤ r.r_symbolnum) × (r.r_symbolnum ≤ m)
-plain_names r n m exists plain by_number = (
-  grind (arith, nat_tests, exists, plain, by_number),
-  grind
-      (arith, nat_tests, exists, plain, by_number),
-)
-
-pub names_section : (b : List ℕ) (k r : ℕ) → KeepsObjectRules b → k < num_sections b → r < (section_at b k).nreloc
-    → is_plain_pointer (relocation_at b k r) ≡ true → NamesSection b (relocation_at b k r)
-names_section b k r object among lt plain = plain_names (relocation_at b k r) _ (num_sections b) (object.o5.1 k r among lt) plain
+use Rattle.macho_bytes.proofs.Bools.{and_both}
+use Rattle.macho_bytes.proofs.Members.{contains_filter, range_contains, passes_each}
+use Rattle.macho_model.proofs.FixedPointers.{none_and}
 
 -- the cells of an entry
 cell_at : (b : List ℕ) (k e place at : ℕ) (cells : List Cell) → IsTable b k (section_at b k).nreloc cells → at < length cells
@@ -72,10 +56,6 @@ pub cell_inside : (b : List ℕ) (k e at r : ℕ) (cells : List Cell) → IsTabl
 cell_inside b k e at r cells table lt small is = in_cell b k (section_at b k).nreloc (8 * (4 * e + at)) r (get_or cells (4 * e + at) Empty)
     (table.cell (4 * e + at) (omega arith)) is
 
-pub and_false : (t u : Bool) → u ≡ false → (t && u) ≡ false
-and_false true u e = e
-and_false false u e = refl
-
 -- a relocation at 8 of an entry
 pub between_of : (b : List ℕ) (k e r : ℕ) → Contains (at_place b k e 8) r → keeps (alone b) (own k) e U2 ≡ false
 between_of b k e r at =
@@ -85,8 +65,8 @@ between_of b k e r at =
     let place : (relocation_at b k r).r_address % 32 ≡ 8 = omega (arith, address) in
     one_fails (unwind_relocation_fits (alone b) (own k)) (filter (λ q. eqb ((relocation_at b k q).r_address / 32) e) (range_with_len 0
     (section_at b k).nreloc)) r
-    (to_filter (λ q. eqb ((relocation_at b k q).r_address / 32) e) (range_with_len 0 (section_at b k).nreloc) r hit.1 mine)
-    (and_false (is_plain_pointer (relocation_at b k r)) _ (ap (λ (n : ℕ). list_any (λ p. n == p) ADDRESS_PLACES) place))
+    (contains_filter (λ q. eqb ((relocation_at b k q).r_address / 32) e) (range_with_len 0 (section_at b k).nreloc) r hit.1 mine)
+    (none_and (is_plain_pointer (relocation_at b k r)) _ (ap (λ (n : ℕ). list_any (λ p. n == p) ADDRESS_PLACES) place))
 
 -- a pointer of an address is plain
 plain_at : (b : List ℕ) (k r : ℕ) (xs : List ℕ) (c : Option ℕ) → xs ≡ option_to_list c → IsPointer b k c → Contains xs r
@@ -105,12 +85,12 @@ no_relocation xs r is (i, lt, at) = absurd (omega (arith, lt, ap length is))
 pub all_placed : (b : List ℕ) (k e : ℕ) (c0 c2 c3 : Option ℕ) → HasPointers b k e c0 c2 c3
     → NoneBelow b k (section_at b k).nreloc (32 * e + 32) → keeps (alone b) (own k) e U2 ≡ true
 all_placed b k e c0 c2 c3 has aligned =
-    all_pass (unwind_relocation_fits (alone b) (own k)) (filter (λ q. eqb ((relocation_at b k q).r_address / 32) e) (range_with_len 0
+    passes_each (unwind_relocation_fits (alone b) (own k)) (filter (λ q. eqb ((relocation_at b k q).r_address / 32) e) (range_with_len 0
     (section_at b k).nreloc))
     (λ r c.
     let hit = in_filter (λ q. eqb ((relocation_at b k q).r_address / 32) e) (range_with_len 0 (section_at b k).nreloc) r c in
     let entry : (relocation_at b k r).r_address / 32 ≡ e = grind (arith, nat_tests, hit.0) in
-    let below = in_range (section_at b k).nreloc r hit.1 in
+    let below = range_contains (section_at b k).nreloc r hit.1 in
     let zero = aligned r below (omega (arith, entry)) in
     let eight : (relocation_at b k r).r_address % 8 ≡ 0 = grind (arith, nat_tests, zero) in
     by r hit.1 entry eight (eqb ((relocation_at b k r).r_address % 32) 0) refl (eqb ((relocation_at b k r).r_address % 32) 16) refl (eqb
@@ -119,7 +99,7 @@ all_placed b k e c0 c2 c3 has aligned =
     at_place_of : (r place : ℕ) → Contains (range_with_len 0 (section_at b k).nreloc) r → (relocation_at b k r).r_address ≡ 32 * e + place
         → Contains (at_place b k e place) r
     at_place_of r place there is =
-        to_filter (λ q. eqb (relocation_at b k q).r_address (32 * e + place)) (range_with_len 0 (section_at b k).nreloc) r there
+        contains_filter (λ q. eqb (relocation_at b k q).r_address (32 * e + place)) (range_with_len 0 (section_at b k).nreloc) r there
         (eq-eqb _ _ is)
 
     by : (r : ℕ) → Contains (range_with_len 0 (section_at b k).nreloc) r → (relocation_at b k r).r_address / 32 ≡ e
@@ -128,14 +108,16 @@ all_placed b k e c0 c2 c3 has aligned =
         → unwind_relocation_fits (alone b) (own k) r ≡ true
     by r there entry eight true p u q v s =
         let z : (relocation_at b k r).r_address % 32 ≡ 0 = eqb-true _ _ p in
-        both _ _ (plain_at b k r _ c0 has.start_at.list has.start_at.pointer (at_place_of r 0 there (omega (arith, z, entry)))) (rw p refl)
+        and_both _ _ (plain_at b k r _ c0 has.start_at.list has.start_at.pointer (at_place_of r 0 there (omega (arith, z, entry))))
+        (rw p refl)
     by r there entry eight false p true q v s =
         let z : (relocation_at b k r).r_address % 32 ≡ 16 = eqb-true _ _ q in
-        both _ _ (plain_at b k r _ c2 has.personality_at.list has.personality_at.pointer (at_place_of r 16 there (omega (arith, z, entry))))
+        and_both _ _ (plain_at b k r _ c2 has.personality_at.list has.personality_at.pointer
+        (at_place_of r 16 there (omega (arith, z, entry))))
         (rw (p, q) refl)
     by r there entry eight false p false q true s =
         let z : (relocation_at b k r).r_address % 32 ≡ 24 = eqb-true _ _ s in
-        both _ _ (plain_at b k r _ c3 has.lsda_at.list has.lsda_at.pointer (at_place_of r 24 there (omega (arith, z, entry))))
+        and_both _ _ (plain_at b k r _ c3 has.lsda_at.list has.lsda_at.pointer (at_place_of r 24 there (omega (arith, z, entry))))
         (rw (p, q, s) refl)
     by r there entry eight false p false q false s =
         let x : (relocation_at b k r).r_address % 32 ≢ 0 = grind (arith, nat_tests, p) in
@@ -149,7 +131,8 @@ few (Some r) = refl
 
 pub all_single : (b : List ℕ) (k e : ℕ) (c0 c2 c3 : Option ℕ) → HasPointers b k e c0 c2 c3 → keeps (alone b) (own k) e U3 ≡ true
 all_single b k e c0 c2 c3 has =
-    rw (has.start_at.list, has.personality_at.list, has.lsda_at.list) (both _ _ (few c0) (both _ _ (few c2) (both _ _ (few c3) refl)))
+    rw (has.start_at.list, has.personality_at.list, has.lsda_at.list)
+    (and_both _ _ (few c0) (and_both _ _ (few c2) (and_both _ _ (few c3) refl)))
 
 -- an address without a relocation is 0
 abbrev pub absent_is_zero : List ℕ → ℕ → Bool
@@ -230,7 +213,7 @@ entry_fits b k e c0 c2 c3 place p d has aligned start personality lsda clear = r
   single = all_single b k e c0 c2 c3 has;
   start = start.fits;
   inside = start.inside;
-  links = both _ _ personality.fits lsda.fits;
+  links = and_both _ _ personality.fits lsda.fits;
   clear = clear_is b k e place p d start personality lsda ∙ clear;
 }
 
@@ -249,46 +232,6 @@ pub row_is : (b : List ℕ) (file k e : ℕ) (place : SectionPlace) (p : Option 
     } ≡ row_in b file k e
 unfolding entry_row
 row_is b file k e place p d words start personality lsda is = rw (start.is, personality.is, lsda.is, is) refl
-
--- where an entry breaks a rule
-pub pointers_break : (r : ResolvedRows) (b : List ℕ) (file k e : ℕ) (rule : UnwindRule) → PointersBreak b k e rule
-    → EntryBreaks r b file k e rule
-pointers_break r b file k e rule (inl (second, bad)) = subst (EntryBreaks r b file k e) (sym second) bad
-pointers_break r b file k e rule (inr (third, bad)) = subst (EntryBreaks r b file k e) (sym third) bad
-
-pub start_breaks : (r : ResolvedRows) (b : List ℕ) (file k e : ℕ) (c : Option ℕ) (rule : UnwindRule)
-    → at_place b k e START_PLACE ≡ option_to_list c
-    → StartBreaks b (read_entry b k e) (option_map (relocation_at b k) c) rule → EntryBreaks r b file k e rule
-start_breaks r b file k e None rule is breaks = subst (EntryBreaks r b file k e) (sym breaks) (rw is refl)
-start_breaks r b file k e (Some q) rule is (inl breaks) = subst (EntryBreaks r b file k e) (sym breaks.0) (rw is (rw breaks.1 refl))
-start_breaks r b file k e (Some q) rule is (inr breaks) = subst (EntryBreaks r b file k e) (sym breaks.0) (rw is (rw breaks.1
-    (rw breaks.2 refl)))
-
-pub and_left_false : (t u : Bool) → t ≡ false → (t && u) ≡ false
-and_left_false t u e = rw e refl
-
-pub personality_breaks : (r : ResolvedRows) (b : List ℕ) (file k e : ℕ) (c : Option ℕ) (rule : UnwindRule)
-    → at_place b k e PERSONALITY_PLACE ≡ option_to_list c → IsPointer b k c
-    → PersonalityBreaks r b file k c rule → EntryBreaks r b file k e rule
-personality_breaks r b file k e None rule is pointer breaks = absurd breaks
-personality_breaks r b file k e (Some q) rule is pointer (seventh, inl by_number) =
-    subst (EntryBreaks r b file k e) (sym seventh) (inl (rw is (rw by_number refl)))
-personality_breaks r b file k e (Some q) rule is pointer (seventh, inr lost) =
-    subst (EntryBreaks r b file k e) (sym seventh) (inr (record {
-      number = q;
-      there = subst (λ (xs : List ℕ). Contains xs q) (sym is) (here q []);
-      plain = pointer.1;
-      extern = lost.0;
-      leads = lost.1;
-    }))
-
-pub data_breaks : (r : ResolvedRows) (b : List ℕ) (file k e : ℕ) (c : Option ℕ) (rule : UnwindRule)
-    → at_place b k e LSDA_PLACE ≡ option_to_list c
-    → DataBreaks b (read_entry b k e).lsda (option_map (relocation_at b k) c) rule → EntryBreaks r b file k e rule
-data_breaks r b file k e None rule is breaks = absurd breaks
-data_breaks r b file k e (Some q) rule is breaks = subst (EntryBreaks r b file k e) (sym breaks.0) (inl (and_false (list_all (λ m.
-    (relocation_at b k m).r_extern) (at_place b k e PERSONALITY_PLACE))
-    (list_all (λ m. data_fits b (read_entry b k e).lsda (relocation_at b k m)) (at_place b k e LSDA_PLACE)) (rw is (rw breaks.1 refl))))
 
 -- What was found of an entry: its words, its three relocations, and where they lead.
 pub record IsGathered (b : List ℕ) (k e : ℕ) (words : UnwindInfoEntry) (place : SectionPlace) (p : Option PersonalityUse)

@@ -3,10 +3,7 @@
 -- A cell of the table tells the relocations of its slot: none, one, or several. Where there isn't one, or it is no pointer to a
 -- symbol, or the slot isn't empty, the slot breaks the rules; else it fits. Slot by slot the rows are those of the relocations
 -- found, their pointers lead into carried sections, and none stands between two slots so far: at the end none does at all.
-use Rattle.std.proofs.Common.{◌≡◌, ℕ, ◌+◌, ◌*◌, ◌%◌, ◌<◌, ◌≤◌, ◌⊎◌, inl, inr, eqb, Bool, true, false, List, [], ◌∷◌, ◌++◌, length, map}
-use Rattle.std.proofs.Common.{get_or, None, refl, sym, ap, ◌∙◌, subst, arith, below_more, append_assoc, slice_range, length-take}
-use Rattle.std.proofs.Common.{length-drop}
-use Rattle.std.proofs.Common.{nat_le, nat_lt, ◌≢◌, ◌^◌, ◌==◌, ◌&&◌, ◌||◌, if◌then◌else◌}
+use Rattle.std.proofs.Common.{◌≡◌, ℕ, ◌+◌, ◌*◌, ◌%◌, ◌<◌, ◌≤◌, ◌⊎◌, inl, inr, eqb, Bool, true, false, List, [], ◌∷◌, ◌++◌, length, map, get_or, None, refl, sym, ap, ◌∙◌, subst, arith, below_more, append_assoc, slice_range, length-take, length-drop, nat_le, nat_lt, ◌≢◌, ◌^◌, ◌==◌, ◌&&◌, ◌||◌, if◌then◌else◌}
 use Rattle.std.proofs.lemmas.Bool.{leb-true}
 use Rattle.std.proofs.lemmas.Nat.{pow_pos}
 use Rattle.std.proofs.lemmas.Bool.Decides.{nat_tests}
@@ -14,15 +11,15 @@ use Rattle.std.proofs.lemmas.List.{append-nil, get_or_default}
 use Rattle.std.specs.List.{range_with_len, flat_map, Contains}
 use Rattle.macho_bytes.specs.Numbers.{le_at}
 use Rattle.macho_bytes.specs.Layouts.{read_of}
-use Rattle.macho_structs.specs.Layouts.{unwind_info_entry}
+use Rattle.macho_wire.specs.Layouts.{unwind_info_entry}
 use Rattle.macho_records.specs.Sections.{is_zerofill}
-use Rattle.macho_structs.specs.declared.relocations.RelocationInfo.{RelocationInfo}
+use Rattle.macho_wire.specs.declared.relocations.RelocationInfo.{RelocationInfo}
 use Rattle.macho_records.specs.declared.header.SectionHeader.{SectionHeader}
 use Rattle.macho_object.specs.Views.{FileBytes, RelocationBytes}
 use Rattle.macho_model.specs.Links.{Link}
 use Rattle.macho_model.specs.Grammar.{IsFile}
 use Rattle.macho_model.specs.ObjectLaws.{KeepsObjectRules}
-use Rattle.macho_model.proofs.ObjectLaws.{object_keeps}
+use Rattle.macho_model.proofs.ObjectLaws.{keeps_of, section_long}
 use Rattle.macho_model.specs.Objects.{num_sections, num_symbols, section_at, section_bytes, relocation_at}
 use Rattle.macho_model.specs.Consumed.{is_plain_pointer, initializer_section_fits}
 use Rattle.macho_consumed.specs.steps.Sections.{IsRead}
@@ -35,33 +32,17 @@ use Rattle.macho_consumed.specs.declared.places.Cell.TheVariants.{Empty, One, Se
 use Rattle.macho_consumed.specs.steps.Alone.{alone, own}
 use Rattle.macho_consumed.specs.steps.Places.{found, CellTells, IsTable, IsBetween, NoneBelow}
 use Rattle.macho_consumed.specs.steps.Checked.{AreNamed, leads_into, LeadsInto}
-use Rattle.macho_consumed.specs.steps.Slots.{in_slot, is_symbol_pointer, SlotIs, SlotFits, SlotBreaks, SlotsFit, SlotsLead, SlotStrays}
-use Rattle.macho_consumed.specs.steps.Slots.{ExternsExist, AreInside, SectionFits, IsBadSection, slot_rows, row_at}
-use Rattle.macho_consumed.proofs.Members.{here, in_filter, in_range}
-use Rattle.macho_consumed.proofs.Tests.{right_of}
+use Rattle.macho_consumed.specs.steps.Slots.{in_slot, is_symbol_pointer, SlotIs, SlotFits, SlotBreaks, SlotsFit, SlotsLead, SlotStrays, ExternsExist, AreInside, SectionFits, IsBadSection, slot_rows, row_at}
+use Rattle.macho_consumed.proofs.Members.{in_filter}
 use Rattle.macho_consumed.proofs.Ranges.{flat_map_range_more}
-
-cut : (at n : ℕ) (b : List ℕ) → at + n ≤ length b → length (slice_range b at (at + n)) ≡ n
-cut at n b le = simp (length-take, length-drop) (omega arith)
-
--- the bytes of a section that has bytes are as many as its size
-pub length_bytes : (b : List ℕ) (k : ℕ) → KeepsObjectRules b → k < num_sections b → is_zerofill (section_at b k) ≡ false
-    → length (section_bytes b k) ≡ (section_at b k).size
-unfolding section_bytes
-length_bytes b k object lt plain =
-    let inside = object.o6 k lt in
-    let le : (section_at b k).offset + (section_at b k).size ≤ length b = grind (arith, nat_tests, plain, inside) in
-    rw plain (cut ((section_at b k).offset) ((section_at b k).size) b le)
+use Rattle.macho_bytes.proofs.Bools.{and_right}
+use Rattle.macho_bytes.proofs.Members.{contains_first, range_contains}
 
 -- the symbols that a section's relocations name are there, and each relocation begins in the section
 symbol_there : (r : RelocationInfo) (n m : ℕ) → (if r.r_extern then nat_lt r.r_symbolnum n else ((r.r_type == 10) ||
     (nat_le 1 r.r_symbolnum && nat_le r.r_symbolnum m))) ≡ true
     → r.r_extern ≡ true → r.r_symbolnum < n
 symbol_there r n m exists extern = grind (arith, nat_tests, exists, extern)
-
-pub keeps_of : (dyn : Bool) (b : List ℕ) → dyn ≡ false → IsFile dyn b → KeepsObjectRules b
-keeps_of dyn b static kept =
-    let whole : IsFile false b = subst (λ (d : Bool). IsFile d b) static kept in object_keeps whole
 
 pub externs_exist : (f : FileBytes) (k : ℕ) → f.is_dynamic ≡ false → IsFile f.is_dynamic f.bytes → k < num_sections f.bytes
     → ExternsExist f.bytes k
@@ -93,12 +74,12 @@ is_read f k h bytes s static whole among head content is =
 -- the number of a relocation that is found
 pub found_below : (b : List ℕ) (k n place r : ℕ) → Contains (found b k n place) r → r < n
 unfolding found
-found_below b k n place r c = in_range n r (in_filter (λ q. eqb (relocation_at b k q).r_address place) (range_with_len 0 n) r c).1
+found_below b k n place r c = range_contains n r (in_filter (λ q. eqb (relocation_at b k q).r_address place) (range_with_len 0 n) r c).1
 
 pub in_cell : (b : List ℕ) (k n place r : ℕ) (cell : Cell) → CellTells (found b k n place) cell → cell ≡ One r → r < n
 in_cell b k n place r cell tells one =
     let is : found b k n place ≡ r ∷ [] = subst (CellTells (found b k n place)) one tells in
-    found_below b k n place r (subst (λ (xs : List ℕ). Contains xs r) (sym is) (here r []))
+    found_below b k n place r (subst (λ (xs : List ℕ). Contains xs r) (sym is) (contains_first r []))
 
 -- a section of whole slots has a type with bytes
 pub slots_have_bytes : (b : List ℕ) (k : ℕ) → initializer_section_fits (alone b) (own k) ≡ true
@@ -171,24 +152,10 @@ pub pointer_named : (r : ResolvedRows) (b : List ℕ) (file k n : ℕ) (told : �
     → AreNamed r file b → HasSymbol r file told.1.r_symbolnum
 pointer_named r b file k n told is externs named =
     let below = found_below b k (section_at b k).nreloc (8 * n) told.0 (subst (λ (xs : List ℕ). Contains xs told.0) (sym is.0.one)
-    (here told.0 [])) in
-    let extern = right_of (is_plain_pointer (relocation_at b k told.0)) _ is.0.pointer in
+    (contains_first told.0 [])) in
+    let extern = and_right (is_plain_pointer (relocation_at b k told.0)) _ is.0.pointer in
     subst (λ (x : RelocationInfo). HasSymbol r file x.r_symbolnum) (sym is.1)
     (named (relocation_at b k told.0).r_symbolnum (externs told.0 below extern))
-
--- what breaks a slot
-pub no_one : (b : List ℕ) (k slot : ℕ) (cell : Cell) → CellTells (in_slot b k slot) cell → ((r : ℕ) → cell ≡ One r → ⊥)
-    → SlotBreaks b k slot
-no_one b k slot Empty none other = inl (rw none refl)
-no_one b k slot (One r) one other = absurd (other r refl)
-no_one b k slot Several many other = inl (grind (arith, nat_tests, many))
-
-pub bad_pointer : (b : List ℕ) (k slot r : ℕ) → in_slot b k slot ≡ r ∷ [] → false ≡ is_symbol_pointer (relocation_at b k r)
-    → SlotBreaks b k slot
-bad_pointer b k slot r one unfit = inr (inl (r, subst (λ (xs : List ℕ). Contains xs r) (sym one) (here r []), sym unfit))
-
-pub with_content : (b : List ℕ) (k slot n : ℕ) → n ≡ le_at 8 (section_bytes b k) (8 * slot) → n ≢ 0 → SlotBreaks b k slot
-with_content b k slot n is some = inr (inr (grind (arith, nat_tests, is, some)))
 
 -- what is told of it
 pub bad_slot : (r : ResolvedRows) (b : List ℕ) (file k slot : ℕ) (said : ConsumedFault) → 8 * slot + 8 ≤ (section_at b k).size
@@ -227,7 +194,7 @@ slot_bytes s t slot bytes same object among content plain within =
     subst (λ (u : RelocationBytes). (is_zerofill (section_at u.bytes u.section) ≡ false) × (8 * slot + 8 ≤
     (section_at u.bytes u.section).size)) (sym same)
     (plain, within) in
-    omega (arith, back.1, length_bytes s.bytes s.section object among back.0, ap length content)
+    omega (arith, back.1, section_long s.bytes s.section object among back.0, ap length content)
 
 -- and so does an entry
 pub entry_bytes : (s t : RelocationBytes) (entry : ℕ) (bytes : List ℕ) → s ≡ t → KeepsObjectRules s.bytes → s.section < num_sections s.bytes
@@ -239,7 +206,7 @@ entry_bytes s t entry bytes same object among content plain within =
     subst (λ (u : RelocationBytes). (is_zerofill (section_at u.bytes u.section) ≡ false) × (32 * entry + 32 ≤
     (section_at u.bytes u.section).size)) (sym same)
     (plain, within) in
-    omega (arith, back.1, length_bytes s.bytes s.section object among back.0, ap length content)
+    omega (arith, back.1, section_long s.bytes s.section object among back.0, ap length content)
 
 pub entry_is_read : (bytes : List ℕ) (at : ℕ) → at + 32 ≤ length bytes → None ≡ read_of unwind_info_entry bytes at → ⊥
 entry_is_read bytes at within none = let there : nat_le (at + 32) (length bytes) ≡ true = grind (arith, nat_tests, within) in cc

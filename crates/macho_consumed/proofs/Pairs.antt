@@ -1,8 +1,9 @@
--- Pairs of a list, by its head and its tail: what holds of each element and each later one goes through joins, filters and maps.
+-- Pairs of a list, by its head and its tail: what holds of each element and each contains_behind one goes through joins, filters and maps.
 use Rattle.std.proofs.Common.{ℕ, zero, suc, ◌+◌, ◌<◌, Bool, true, false, cond, List, [], ◌∷◌, ◌++◌, length, map, filter, get_or, arith}
 use Rattle.std.specs.List.{range_with_len, flat_map, All, Contains}
 use Rattle.std.proofs.lemmas.List.Elements.{All-nil, All-cons, All-append, All-contains, All-map, All-filter, All-get_or}
-use Rattle.macho_consumed.proofs.Members.{here, later, all_joined, all_there}
+use Rattle.macho_consumed.proofs.Members.{all_joined}
+use Rattle.macho_bytes.proofs.Members.{contains_first, contains_all, contains_behind}
 
 abbrev pub Pairs : {X : Type 0} → (X → X → Type 0) → List X → Type 0
 Pairs R [] = Unit {0}
@@ -12,15 +13,16 @@ pub pairs_append : {X : Type 0} (R : X → X → Type 0) (xs ys : List X) → Pa
     → All (R x) ys) → Pairs R (xs ++ ys)
 pairs_append R [] ys p q cross = q
 pairs_append R (x ∷ xs) ys p q cross =
-    (All-append (R x) xs ys p.0 (cross x (here x xs)), pairs_append R xs ys p.1 q (λ y c. cross y (later x y xs c)))
+    (All-append (R x) xs ys p.0 (cross x (contains_first x xs)), pairs_append R xs ys p.1 q (λ y c. cross y (contains_behind x y xs c)))
 
 pub pairs_joined : {X Y : Type 0} (S : X → X → Type 0) (R : Y → Y → Type 0) (f : X → List Y) (xs : List X) → Pairs S xs → ((x : X)
     → Contains xs x → Pairs R (f x))
     → ((x y : X) (a b : Y) → S x y → Contains (f x) a → Contains (f y) b → R a b) → Pairs R (flat_map f xs)
 pairs_joined S R f [] p each cross = tt
 pairs_joined S R f (x ∷ xs) p each cross =
-    pairs_append R (f x) (flat_map f xs) (each x (here x xs)) (pairs_joined S R f xs p.1 (λ y c. each y (later x y xs c)) cross)
-    (λ a c. all_joined (R a) f xs (λ y d. all_there (R a) (f y) (λ b e. cross x y a b (All-contains (S x) xs y p.0 d) c e)))
+    pairs_append R (f x) (flat_map f xs) (each x (contains_first x xs))
+    (pairs_joined S R f xs p.1 (λ y c. each y (contains_behind x y xs c)) cross)
+    (λ a c. all_joined (R a) f xs (λ y d. contains_all (R a) (f y) (λ b e. cross x y a b (All-contains (S x) xs y p.0 d) c e)))
 
 above : (a m n : ℕ) → a < m → All (λ y. a < y) (range_with_len m n)
 above a m zero lt = All-nil (λ y. a < y)
@@ -42,7 +44,7 @@ pub pairs_map : {X Y : Type 0} (S : X → X → Type 0) (R : Y → Y → Type 0)
     → R (f x) (f y)) → Pairs S xs → Pairs R (map f xs)
 pairs_map S R f [] same p = tt
 pairs_map S R f (x ∷ xs) same p = (
-  All-map (R (f x)) f xs (all_there (λ y. R (f x) (f y)) xs (λ y c. same x y (All-contains
+  All-map (R (f x)) f xs (contains_all (λ y. R (f x) (f y)) xs (λ y c. same x y (All-contains
       (S x) xs y p.0 c))),
   pairs_map S R f xs same p.1,
 )

@@ -3,13 +3,10 @@
 -- So far each cell of the table tells the relocations at its place. Where the next relocation stands at a multiple of 8 within the
 -- table, it is the last one at that place, and its cell has one more; at another place nothing changes, since its address is another.
 -- Beside it the least address that is no multiple of 8 is the lesser of the one so far and the next.
-use Rattle.std.proofs.Common.{◌≡◌, ◌≢◌, ℕ, ◌+◌, ◌*◌, ◌/◌, ◌%◌, ◌<◌, ◌≤◌, ◌==◌, eqb, Bool, true, false, cond, List, [], ◌∷◌, ◌++◌, length}
-use Rattle.std.proofs.Common.{get_or}
-use Rattle.std.proofs.Common.{set, nat_lt, if◌then◌else◌, Option, Some, None, replicate, refl, sym, ap, ◌∙◌, subst, arith, below_more}
-use Rattle.std.proofs.Common.{length-set, get_or-set_other, get_or-set_same}
+use Rattle.std.proofs.Common.{◌≡◌, ◌≢◌, ℕ, ◌+◌, ◌*◌, ◌/◌, ◌%◌, ◌<◌, ◌≤◌, ◌==◌, eqb, Bool, true, false, cond, List, [], ◌∷◌, ◌++◌, length, get_or, set, nat_lt, if◌then◌else◌, Option, Some, None, replicate, refl, sym, ap, ◌∙◌, subst, arith, below_more, length-set, get_or-set_other, get_or-set_same}
 use Rattle.std.proofs.lemmas.Bool.Decides.{nat_tests}
 use Rattle.std.proofs.lemmas.List.{append-nil, get_or_default, length-replicate, get_or-replicate}
-use Rattle.macho_structs.specs.declared.relocations.RelocationInfo.{RelocationInfo}
+use Rattle.macho_wire.specs.declared.relocations.RelocationInfo.{RelocationInfo}
 use Rattle.macho_model.specs.Objects.{section_at, relocation_at}
 use Rattle.macho_consumed.specs.declared.places.Cell.{Cell}
 use Rattle.macho_consumed.specs.declared.places.Cell.TheVariants.{Empty}
@@ -82,61 +79,6 @@ table_same b k n cells table apart = record {
   cell = λ i within. subst (λ (xs : List ℕ). CellTells xs (get_or cells i Empty)) (sym (found_elsewhere b k n (8 * i) (apart i within)))
       (table.cell i within);
 }
-
--- the least address between places
-pub none_more : (b : List ℕ) (k n bound : ℕ) → NoneBelow b k n bound
-    → ((relocation_at b k n).r_address < bound → ((relocation_at b k n).r_address % 8 == 0) ≡ true) → NoneBelow b k (n + 1) bound
-none_more b k n bound none last =
-    below_more (λ r. (relocation_at b k r).r_address < bound → ((relocation_at b k r).r_address % 8 == 0) ≡ true) n none last
-
-between_later : (b : List ℕ) (k n address : ℕ) → IsBetween b k n address → IsBetween b k (n + 1) address
-between_later b k n address (r, lt, at, off) = (r, omega arith, at, off)
-
-pub least_same : (b : List ℕ) (k n : ℕ) (between : Option ℕ) → IsLeast b k n between
-    → ((relocation_at b k n).r_address % 8 == 0) ≡ true → IsLeast b k (n + 1) between
-least_same b k n None least zero = λ bound. none_more b k n bound (least bound) (λ lt. zero)
-least_same b k n (Some address) least zero = (
-  between_later b k n address least.0,
-  none_more b k n address least.1 (λ lt. zero),
-)
-
-pub least_kept : (b : List ℕ) (k n before : ℕ) → IsLeast b k n (Some before) → before ≤ (relocation_at b k n).r_address
-    → IsLeast b k (n + 1) (Some before)
-least_kept b k n before least le = (
-  between_later b k n before least.0,
-  none_more b k n before least.1 (λ lt. absurd (omega (arith, le, lt))),
-)
-
-none_lower : (b : List ℕ) (k n high low : ℕ) → low ≤ high → NoneBelow b k n high → NoneBelow b k n low
-none_lower b k n high low le none = λ r lt below. none r lt (omega (arith, le, below))
-
-pub least_new : (b : List ℕ) (k n address : ℕ) (between : Option ℕ) → IsLeast b k n between → address ≡ (relocation_at b k n).r_address
-    → ((address % 8 == 0) ≡ false) → ((before : ℕ) → between ≡ Some before → address ≤ before) → IsLeast b k (n + 1) (Some address)
-least_new b k n address None least is off lesser = (
-  (n, omega arith, is, off),
-  none_more b k n address (least address) (λ lt. absurd (omega (arith, is, lt))),
-)
-least_new b k n address (Some before) least is off lesser = (
-  (n, omega arith, is, off),
-  none_more b k n address (none_lower b k n before address (lesser before refl) least.1) (λ lt. absurd (omega (arith, is, lt))),
-)
-
--- below a bound
-pub none_at_all : (b : List ℕ) (k n bound : ℕ) (between : Option ℕ) → IsLeast b k n between → between ≡ None → NoneBelow b k n bound
-none_at_all b k n bound None least is = least bound
-none_at_all b k n bound (Some address) least is = cc
-
-pub none_so_low : (b : List ℕ) (k n bound address : ℕ) (between : Option ℕ) → IsLeast b k n between → between ≡ Some address
-    → bound ≤ address → NoneBelow b k n bound
-none_so_low b k n bound address None least is le = cc
-none_so_low b k n bound address (Some a) least is le =
-    let same : a ≡ address = cc in
-    none_lower b k n a bound (omega (arith, le, same)) least.1
-
-pub one_so_low : (b : List ℕ) (k n address : ℕ) (between : Option ℕ) → IsLeast b k n between → between ≡ Some address
-    → IsBetween b k n address
-one_so_low b k n address None least is = cc
-one_so_low b k n address (Some a) least is = let same : a ≡ address = cc in subst (IsBetween b k n) same least.0
 
 -- what is got of a relocation
 pub told : (b : List ℕ) (k r n : ℕ) (x : RelocationInfo) → Some x ≡ (if nat_lt r n then Some (relocation_at b k r) else None)

@@ -4,20 +4,10 @@
 -- number where it passes.
 use Rattle.std.proofs.Common.{◌≡◌, ℕ, ◌+◌, Bool, true, false, cond, List, [], ◌∷◌, ◌++◌, filter, map, refl, sym, ap, ◌∙◌, arith}
 use Rattle.std.specs.List.{range_with_len, flat_map}
-use Rattle.std.proofs.lemmas.List.FromFn.{map-range_with_len_more}
 use Rattle.std.proofs.lemmas.List.Elements.{filter-append}
 use Rattle.std.proofs.lemmas.Grind.{flat_map-append}
 use Rattle.std.proofs.lemmas.List.{append-nil}
-
-map_itself : (xs : List ℕ) → map (λ x. x) xs ≡ xs
-map_itself [] = refl
-map_itself (x ∷ xs) = ap (λ ys. x ∷ ys) (map_itself xs)
-
--- one number more
-pub range_more : (n : ℕ) → range_with_len 0 (n + 1) ≡ range_with_len 0 n ++ n ∷ []
-range_more n =
-    sym (map_itself (range_with_len 0 (n + 1))) ∙ map-range_with_len_more (λ x. x) 0 n n (omega arith)
-    ∙ ap (λ xs. xs ++ n ∷ []) (map_itself (range_with_len 0 n))
+use Rattle.macho_bytes.proofs.Maps.{range_push}
 
 -- what a filter keeps of one number
 abbrev pub kept_one : (ℕ → Bool) → ℕ → List ℕ
@@ -29,12 +19,12 @@ filter_one p n false e = rw e refl
 
 pub filter_range_more : (p : ℕ → Bool) (n : ℕ) → filter p (range_with_len 0 (n + 1)) ≡ filter p (range_with_len 0 n) ++ kept_one p n
 filter_range_more p n =
-    ap (filter p) (range_more n) ∙ filter-append p (range_with_len 0 n) (n ∷ [])
+    ap (filter p) (range_push n) ∙ filter-append p (range_with_len 0 n) (n ∷ [])
     ∙ ap (λ xs. filter p (range_with_len 0 n) ++ xs) (filter_one p n (p n) refl)
 
 -- texts of a range, one more
 pub flat_map_range_more : {X : Type 0} (f : ℕ → List X) (n : ℕ)
     → flat_map f (range_with_len 0 (n + 1)) ≡ flat_map f (range_with_len 0 n) ++ f n
 flat_map_range_more {X = X} f n =
-    ap (flat_map f) (range_more n) ∙ flat_map-append f (range_with_len 0 n) (n ∷ [])
+    ap (flat_map f) (range_push n) ∙ flat_map-append f (range_with_len 0 n) (n ∷ [])
     ∙ ap (λ (xs : List X). flat_map f (range_with_len 0 n) ++ xs) (append-nil (f n))

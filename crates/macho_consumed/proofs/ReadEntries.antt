@@ -2,8 +2,7 @@
 --
 -- A row is that of an entry of a listed section. All rules but one are kept by the section's bytes and by where its personalities
 -- lead; that starts are distinct is what the rows are checked for. Where a section breaks a rule so, it breaks it in the link.
-use Rattle.std.proofs.Common.{◌≡◌, ℕ, ◌+◌, ◌*◌, ◌/◌, ◌<◌, inl, inr, eqb, eq-eqb, Bool, true, false, ◌&&◌, ◌||◌, List, [], ◌∷◌, map}
-use Rattle.std.proofs.Common.{filter, Option, Some, None, refl, sym, ap, ◌∙◌, subst, arith}
+use Rattle.std.proofs.Common.{◌≡◌, ℕ, ◌+◌, ◌*◌, ◌/◌, ◌<◌, inl, inr, eqb, eq-eqb, Bool, true, false, ◌&&◌, ◌||◌, List, [], ◌∷◌, map, filter, Option, Some, None, refl, sym, ap, ◌∙◌, subst, arith}
 use Rattle.std.proofs.lemmas.Bool.{eqb-true}
 use Rattle.std.proofs.lemmas.List.Elements.{All-contains}
 use Rattle.std.specs.List.{range_with_len, flat_map, list_all, Contains}
@@ -16,8 +15,7 @@ use Rattle.macho_model.specs.Needs.{relocation_in, unwind_sections, PERSONALITY_
 use Rattle.macho_model.specs.declared.targets.Target.{Target}
 use Rattle.macho_model.specs.Targets.{target_of_relocation, is_defined, is_import}
 use Rattle.macho_model.specs.Uses.{target_with}
-use Rattle.macho_model.specs.Consumed.{EntryId, is_plain_pointer, entry_count, relocations_in_entry, entries_of_link, keeps}
-use Rattle.macho_model.specs.Consumed.{LSDA_PLACE}
+use Rattle.macho_model.specs.Consumed.{EntryId, is_plain_pointer, entry_count, relocations_in_entry, entries_of_link, keeps, LSDA_PLACE}
 use Rattle.macho_model.specs.Faults.{IsBadEntry}
 use Rattle.macho_symbols.specs.Kept.{ResolvedRows, IsResolved, symbol_id}
 use Rattle.macho_consumed.specs.declared.listing.Kind.TheVariants.{Entries}
@@ -25,22 +23,26 @@ use Rattle.macho_consumed.specs.declared.listing.SectionRef.{SectionRef}
 use Rattle.macho_consumed.specs.declared.rows.UnwindEntry.{UnwindEntry}
 use Rattle.macho_consumed.specs.declared.fault.ConsumedFault.{ConsumedFault}
 use Rattle.macho_consumed.specs.declared.fault.ConsumedFault.TheVariants.{BadInitializer, BadUnwind, OutOfMemory}
-use Rattle.macho_parts.specs.Views.{views_of}
+use Rattle.macho_promise.specs.Views.{views_of}
 use Rattle.macho_consumed.specs.Rows.{entry_row, entry_rows}
 use Rattle.macho_consumed.specs.Told.{IsStanding}
 use Rattle.macho_consumed.specs.steps.Alone.{alone, own}
-use Rattle.macho_consumed.specs.steps.Entries.{unwind_relocation_fits, at_place, links_fit, data_fits, read_entry, EntryFits, SectionBreaksRule, EntryIsLost}
-use Rattle.macho_consumed.specs.steps.Entries.{rows_in, row_in}
+use Rattle.macho_consumed.specs.steps.Entries.{unwind_relocation_fits, at_place, links_fit, data_fits, read_entry, EntryFits, SectionBreaksRule, EntryIsLost, rows_in, row_in}
 use Rattle.macho_consumed.specs.steps.Listed.{id_of_ref, bytes_in}
 use Rattle.macho_consumed.specs.steps.Gathered.{all_of, entries_at, IsBadRuleAt}
 use Rattle.macho_consumed.specs.steps.Checked.{leads_somewhere}
-use Rattle.macho_consumed.proofs.Tests.{both, left_of, right_of, one_fails, not_true, and_fails, and_fails_left, passes, all_pass}
-use Rattle.macho_consumed.proofs.Members.{here, to_filter, to_map, in_range, in_filter}
-use Rattle.macho_consumed.proofs.Joined.{joined_map, joined_agree, map_joined, mapped_agree}
+use Rattle.macho_consumed.proofs.Tests.{one_fails, not_true}
+use Rattle.macho_consumed.proofs.Members.{in_filter}
+use Rattle.macho_consumed.proofs.Joined.{joined_agree, mapped_agree}
 use Rattle.macho_consumed.proofs.InAll.{IsOne, all_listed}
 use Rattle.macho_consumed.proofs.Sectioned.{unwind_are}
 use Rattle.macho_consumed.proofs.Transfer.{object_is, entry_row_is, entry_test}
 use Rattle.macho_consumed.proofs.Leading.{IsBlind, pointer_tells}
+use Rattle.macho_bytes.proofs.Maps.{flat_map-map}
+use Rattle.macho_bytes.proofs.Bools.{and_left, and_right, and_both, and_left_false}
+use Rattle.macho_bytes.proofs.Members.{contains_first, contains_map, contains_filter, range_contains, passes_each, one_passes}
+use Rattle.macho_model.proofs.FixedPointers.{none_and}
+use Rattle.macho_model.proofs.Uses.{map_flat}
 
 one_listed : (files : List (Option FileBytes)) (s : SectionRef) → Contains (all_of Entries files) s → IsOne Entries files s
 one_listed files s c = All-contains (IsOne Entries files) (all_of Entries files) s (all_listed Entries files) c
@@ -73,9 +75,9 @@ rows_read l files views =
     joined_agree (entries_at files) (λ s. map (entry_row l) (entries_in l (id_of_ref s))) (all_of Entries files)
     (λ s c. sym (section_rows l s.file (bytes_in files s.file) s.section (object_is l files s.file views
     (one_listed files s c).listed.file)))
-    ∙ sym (joined_map (λ s. map (entry_row l) (entries_in l s)) id_of_ref (all_of Entries files))
+    ∙ sym (flat_map-map (λ s. map (entry_row l) (entries_in l s)) id_of_ref (all_of Entries files))
     ∙ ap (flat_map (λ s. map (entry_row l) (entries_in l s))) (unwind_are l files views)
-    ∙ sym (map_joined (entry_row l) (entries_in l) (unwind_sections l))
+    ∙ sym (map_flat (entry_row l) (entries_in l) (unwind_sections l))
 
 -- a rule that an entry breaks by its bytes it breaks in the link
 links_break : (l : Link) (file : ℕ) (b : List ℕ) (k e : ℕ) → object_of l file ≡ b → links_fit b k e ≡ false
@@ -83,15 +85,16 @@ links_break : (l : Link) (file : ℕ) (b : List ℕ) (k e : ℕ) → object_of l
 links_break l file b k e is bad =
     let s : SectionId = record { file = file; section = k } in
     not_true (keeps l s e U7) (λ good.
-    let people = left_of _ _ good in
+    let people = and_left _ _ good in
     let extern : list_all (λ r. (relocation_in l s r).r_extern) (relocations_in_entry l s e PERSONALITY_PLACE) ≡ true =
-    all_pass (λ r. (relocation_in l s r).r_extern) (relocations_in_entry l s e PERSONALITY_PLACE) (λ r c.
-    left_of _ _ (passes (λ q. (relocation_in l s q).r_extern && (is_defined (target_of_relocation l s q) || is_import
+    passes_each (λ r. (relocation_in l s r).r_extern) (relocations_in_entry l s e PERSONALITY_PLACE) (λ r c.
+    and_left _ _ (one_passes (λ q. (relocation_in l s q).r_extern && (is_defined (target_of_relocation l s q) || is_import
     (target_of_relocation l s q))) (relocations_in_entry l s e PERSONALITY_PLACE) r people c)) in
     let whole : links_fit b k e ≡ true =
-    both _ _ (subst (λ (x : List ℕ). list_all (λ r. (relocation_at x k r).r_extern) (at_place x k e PERSONALITY_PLACE) ≡ true) is extern)
+    and_both _ _ (subst (λ (x : List ℕ). list_all (λ r. (relocation_at x k r).r_extern)
+    (at_place x k e PERSONALITY_PLACE) ≡ true) is extern)
     (subst (λ (x : List ℕ). list_all (λ r. data_fits x (read_entry x k e).lsda (relocation_at x k r))
-    (at_place x k e LSDA_PLACE) ≡ true) is (right_of _ _ good)) in
+    (at_place x k e LSDA_PLACE) ≡ true) is (and_right _ _ good)) in
     let clash : true ≡ false = sym whole ∙ bad in
     cc)
 
@@ -104,7 +107,7 @@ pub data HasPerson (b : List ℕ) (file k e : ℕ) : Type 0 where
 person_of : (b : List ℕ) (file k e : ℕ) (xs : List ℕ) → at_place b k e PERSONALITY_PLACE ≡ xs → HasPerson b file k e
 unfolding entry_row
 person_of b file k e [] is = nobody (rw is refl) is
-person_of b file k e (r ∷ rs) is = someone r (rw is refl) (subst (λ (xs : List ℕ). Contains xs r) (sym is) (here r rs))
+person_of b file k e (r ∷ rs) is = someone r (rw is refl) (subst (λ (xs : List ℕ). Contains xs r) (sym is) (contains_first r rs))
 
 pub person : (b : List ℕ) (file k e : ℕ) → HasPerson b file k e
 person b file k e = person_of b file k e (at_place b k e PERSONALITY_PLACE) refl
@@ -121,11 +124,12 @@ is_person b k e r fits c =
     let address : (relocation_at b k r).r_address ≡ 32 * e + 16 = eqb-true _ _ hit.0 in
     let mine : eqb ((relocation_at b k r).r_address / 32) e ≡ true = eq-eqb _ _ (omega (arith, address)) in
     record {
-      below = in_range (section_at b k).nreloc r hit.1;
-      plain = left_of _ _ (passes (unwind_relocation_fits (alone b) (own k)) (filter (λ q. eqb ((relocation_at b k q).r_address / 32) e)
+      below = range_contains (section_at b k).nreloc r hit.1;
+      plain = and_left _ _ (one_passes (unwind_relocation_fits (alone b) (own k))
+          (filter (λ q. eqb ((relocation_at b k q).r_address / 32) e)
           (range_with_len 0 (section_at b k).nreloc)) r fits.placed
-          (to_filter (λ q. eqb ((relocation_at b k q).r_address / 32) e) (range_with_len 0 (section_at b k).nreloc) r hit.1 mine));
-      extern = passes (λ q. (relocation_at b k q).r_extern) (at_place b k e PERSONALITY_PLACE) r (left_of _ _ fits.links) c;
+          (contains_filter (λ q. eqb ((relocation_at b k q).r_address / 32) e) (range_with_len 0 (section_at b k).nreloc) r hit.1 mine));
+      extern = one_passes (λ q. (relocation_at b k q).r_extern) (at_place b k e PERSONALITY_PLACE) r (and_left _ _ fits.links) c;
     }
 
 -- where a personality leads
@@ -157,10 +161,10 @@ lost_breaks l noted r file b k e is resolved it =
     let s : SectionId = record { file = file; section = k } in
     let wrong : is_somewhere (target_of_relocation l s it.number) ≡ false =
     pointer_told l noted file b k it.number is it.plain it.extern ∙ it.leads l noted resolved in
-    and_fails_left _ _
+    and_left_false _ _
     (one_fails (λ q. (relocation_in l s q).r_extern && is_somewhere (target_of_relocation l s q))
     (relocations_in_entry l s e PERSONALITY_PLACE) it.number
-    (subst (λ (x : List ℕ). Contains (at_place x k e PERSONALITY_PLACE) it.number) (sym is) it.there) (and_fails (relocation_in l s
+    (subst (λ (x : List ℕ). Contains (at_place x k e PERSONALITY_PLACE) it.number) (sym is) it.there) (none_and (relocation_in l s
     it.number).r_extern _ wrong))
 
 entry_breaks : (l : Link) (noted : List (List ℕ)) (r : ResolvedRows) (file : ℕ) (b : List ℕ) (k e : ℕ) (rule : UnwindRule)
@@ -203,7 +207,8 @@ entry_breaks l noted r file b k e U8 is resolved (lt, bad) = (
 listed_there : (l : Link) (files : List (Option FileBytes)) (s : SectionRef) → files ≡ views_of l → Contains (all_of Entries files) s
     → Contains (unwind_sections l) (id_of_ref s)
 listed_there l files s views c =
-    subst (λ (xs : List SectionId). Contains xs (id_of_ref s)) (unwind_are l files views) (to_map id_of_ref (all_of Entries files) s c)
+    subst (λ (xs : List SectionId). Contains xs (id_of_ref s)) (unwind_are l files views)
+    (contains_map id_of_ref (all_of Entries files) s c)
 
 told_at : (l : Link) (f s file k e : ℕ) (rule : UnwindRule) → f ≡ file → s ≡ k
     → Contains (unwind_sections l) (record { file = file; section = k })

@@ -3,8 +3,7 @@
 -- A row is that of a relocation of a slot of a listed section. By the section's bytes the slot has this one plain pointer, and is
 -- empty; by the symbols that are resolved it leads into a carried section. Where a section is broken by either, it is broken in the
 -- link.
-use Rattle.std.proofs.Common.{◌≡◌, ℕ, ◌+◌, ◌*◌, ◌/◌, ◌%◌, ◌<◌, ◌≤◌, inl, inr, true, false, ◌&&◌, ◌==◌, List, [], length, get_or}
-use Rattle.std.proofs.Common.{Option, Some, None, is_none, refl, sym, ap, ◌∙◌, subst, arith}
+use Rattle.std.proofs.Common.{◌≡◌, ℕ, ◌+◌, ◌*◌, ◌/◌, ◌%◌, ◌<◌, ◌≤◌, inl, inr, true, false, ◌&&◌, ◌==◌, List, [], length, get_or, Option, Some, None, is_none, refl, sym, ap, ◌∙◌, subst, arith}
 use Rattle.std.proofs.lemmas.List.FromFn.{length-map-range_with_len}
 use Rattle.std.proofs.lemmas.List.Elements.{All-contains, All-map}
 use Rattle.std.specs.List.{flat_map, list_all, Contains, All}
@@ -15,17 +14,16 @@ use Rattle.macho_model.specs.Links.{Link, SectionId, object_of, header_at}
 use Rattle.macho_model.specs.Needs.{relocations_at, relocation_in, initializer_sections}
 use Rattle.macho_model.specs.Targets.{target_of_relocation}
 use Rattle.macho_model.specs.Uses.{target_with}
-use Rattle.macho_model.specs.Consumed.{is_plain_pointer, bytes_of_section, is_section_target, initializer_section_fits}
-use Rattle.macho_model.specs.Consumed.{initializer_slot_fits}
+use Rattle.macho_model.specs.Consumed.{is_plain_pointer, bytes_of_section, is_section_target, initializer_section_fits, initializer_slot_fits}
 use Rattle.macho_model.specs.Faults.{IsBadInitializer}
 use Rattle.macho_model.proofs.Words.{initializer_relocation_fits}
-use Rattle.macho_names.specs.Kept.{FileRows, rows_of_object, row_of_symbol}
+use Rattle.macho_symbol_names.specs.Kept.{FileRows, rows_of_object, row_of_symbol}
 use Rattle.macho_symbols.specs.Kept.{ResolvedRows, IsResolved, HasSymbol, symbol_id}
 use Rattle.macho_consumed.specs.declared.listing.Kind.TheVariants.{Initializers}
 use Rattle.macho_consumed.specs.declared.listing.SectionRef.{SectionRef}
 use Rattle.macho_consumed.specs.declared.fault.ConsumedFault.{ConsumedFault}
 use Rattle.macho_consumed.specs.declared.fault.ConsumedFault.TheVariants.{BadInitializer, BadUnwind, OutOfMemory}
-use Rattle.macho_parts.specs.Views.{views_of}
+use Rattle.macho_promise.specs.Views.{views_of}
 use Rattle.macho_consumed.specs.Views.{AreKept}
 use Rattle.macho_consumed.specs.Rows.{initializer_rows_in, initializer_rows}
 use Rattle.macho_consumed.specs.Told.{IsStanding, InitializersKeepRules}
@@ -33,13 +31,17 @@ use Rattle.macho_consumed.specs.steps.Slots.{is_symbol_pointer, is_empty_slot, S
 use Rattle.macho_consumed.specs.steps.Listed.{id_of_ref, bytes_in}
 use Rattle.macho_consumed.specs.steps.Gathered.{all_of, initializers_at, FitsAt, IsBadAt}
 use Rattle.macho_consumed.specs.steps.Checked.{AreNamed, leads_into}
-use Rattle.macho_consumed.proofs.Tests.{both, left_of, right_of, one_fails, and_fails, and_fails_left}
-use Rattle.macho_consumed.proofs.Members.{here, to_map, in_map, IsFrom, all_there}
-use Rattle.macho_consumed.proofs.Joined.{joined_map, joined_agree}
+use Rattle.macho_consumed.proofs.Tests.{one_fails}
+use Rattle.macho_consumed.proofs.Members.{in_map, IsFrom}
+use Rattle.macho_consumed.proofs.Joined.{joined_agree}
 use Rattle.macho_consumed.proofs.InAll.{IsOne, all_listed}
 use Rattle.macho_consumed.proofs.Sectioned.{initializers_are}
 use Rattle.macho_consumed.proofs.Transfer.{object_is, slot_is, section_is, initializer_rows_are}
 use Rattle.macho_consumed.proofs.Leading.{IsBlind, pointer_tells}
+use Rattle.macho_bytes.proofs.Maps.{flat_map-map}
+use Rattle.macho_bytes.proofs.Bools.{and_left, and_right, and_both as both, and_left_false as and_fails_left}
+use Rattle.macho_bytes.proofs.Members.{contains_first, contains_all, contains_map}
+use Rattle.macho_model.proofs.FixedPointers.{none_and as and_fails}
 
 one_listed : (files : List (Option FileBytes)) (s : SectionRef) → Contains (all_of Initializers files) s → IsOne Initializers files s
 one_listed files s c = All-contains (IsOne Initializers files) (all_of Initializers files) s (all_listed Initializers files) c
@@ -52,7 +54,7 @@ rows_read l files views =
     joined_agree (initializers_at files) (λ s. initializer_rows_in l (id_of_ref s)) (all_of Initializers files)
     (λ s c. sym (initializer_rows_are l s.file (bytes_in files s.file) s.section (object_is l files s.file views
     (one_listed files s c).listed.file)))
-    ∙ sym (joined_map (initializer_rows_in l) id_of_ref (all_of Initializers files))
+    ∙ sym (flat_map-map (initializer_rows_in l) id_of_ref (all_of Initializers files))
     ∙ ap (flat_map (initializer_rows_in l)) (initializers_are l files views)
 
 -- its symbol is there
@@ -109,7 +111,7 @@ row_pointer : (l : Link) (file : ℕ) (b : List ℕ) (k r : ℕ) → object_of l
 row_pointer l file b k r e pointer =
     let there : is_symbol_pointer (relocation_in l (record { file = file; section = k }) r) ≡ true =
     subst (λ (x : List ℕ). is_symbol_pointer (relocation_at x k r) ≡ true) (sym e) pointer in
-    (left_of _ _ there, right_of (is_plain_pointer (relocation_in l (record { file = file; section = k }) r)) _ there)
+    (and_left _ _ there, and_right (is_plain_pointer (relocation_in l (record { file = file; section = k }) r)) _ there)
 
 target_told : (l : Link) (noted : List (List ℕ)) (file : ℕ) (b : List ℕ) (k r : ℕ) → object_of l file ≡ b
     → is_symbol_pointer (relocation_at b k r) ≡ true
@@ -129,7 +131,7 @@ slot_strays l noted r file b k slot e resolved it =
     let fails : initializer_relocation_fits l s it.number ≡ false =
     and_fails (is_plain_pointer (relocation_in l s it.number) && (relocation_in l s it.number).r_extern) _ wrong in
     let there : Contains (relocations_at l s (8 * slot)) it.number =
-    subst (λ (xs : List ℕ). Contains xs it.number) (sym (slot_is l file b k (8 * slot) e ∙ it.fits.one)) (here it.number []) in
+    subst (λ (xs : List ℕ). Contains xs it.number) (sym (slot_is l file b k (8 * slot) e ∙ it.fits.one)) (contains_first it.number []) in
     and_fails_left _ (le_at 8 (bytes_of_section l s) (8 * slot) == 0)
     (and_fails (length (relocations_at l s (8 * slot)) == 1) _ (one_fails (initializer_relocation_fits l s)
     (relocations_at l s (8 * slot)) it.number there fails))
@@ -157,7 +159,7 @@ section_breaks l noted r file b k offset e resolved (inr (inr (q, lt, at, off)))
 listed_there : (l : Link) (files : List (Option FileBytes)) (s : SectionRef) → files ≡ views_of l
     → Contains (all_of Initializers files) s → Contains (initializer_sections l) (id_of_ref s)
 listed_there l files s views c =
-    subst (λ (xs : List SectionId). Contains xs (id_of_ref s)) (initializers_are l files views) (to_map id_of_ref
+    subst (λ (xs : List SectionId). Contains xs (id_of_ref s)) (initializers_are l files views) (contains_map id_of_ref
     (all_of Initializers files) s c)
 
 told_at : (l : Link) (f s file k offset : ℕ) → f ≡ file → s ≡ k → Contains (initializer_sections l) (record { file = file; section = k })
@@ -197,7 +199,7 @@ pub rules_kept : (l : Link) (noted : List (List ℕ)) (files : List (Option File
 rules_kept l noted files r views resolved fit = record {
   initializers = subst (λ (xs : List SectionId). All (λ s. initializer_section_fits l s ≡ true) xs) (initializers_are l files views)
       (All-map (λ s. initializer_section_fits l s ≡ true) id_of_ref (all_of Initializers files)
-      (all_there (λ s. initializer_section_fits l (id_of_ref s) ≡ true) (all_of Initializers files) (λ s c.
+      (contains_all (λ s. initializer_section_fits l (id_of_ref s) ≡ true) (all_of Initializers files) (λ s c.
       section_is l s.file (bytes_in files s.file) s.section (object_is l files s.file views (one_listed files s c).listed.file)
       ∙ (All-contains (FitsAt r files) (all_of Initializers files) s fit c).section)));
   slots = λ s slot c within.

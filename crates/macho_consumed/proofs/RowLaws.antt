@@ -5,27 +5,24 @@
 use Rattle.std.proofs.Common.{◌≡◌, ℕ, ◌+◌, ◌*◌, ◌/◌, ◌<◌, ◌≤◌, true, nat_le, List, [], ◌∷◌, ◌++◌, length, map, refl, sym, ap, ◌∙◌, arith}
 use Rattle.std.proofs.lemmas.Bool.Decides.{nat_tests}
 use Rattle.std.proofs.lemmas.List.{length-map}
-use Rattle.std.proofs.lemmas.Grind.{flat_map-append}
 use Rattle.std.specs.List.{range_with_len, flat_map, Contains}
 use Rattle.macho_model.specs.declared.rules.UnwindRule.TheVariants.{U3}
 use Rattle.macho_model.specs.Links.{Link, SectionId, header_at}
-use Rattle.macho_model.specs.Needs.{relocations_at, initializer_sections, unwind_sections}
-use Rattle.macho_model.specs.Uses.{Use, ByInitializer, ByPersonality}
-use Rattle.macho_model.specs.Needs.{PERSONALITY_PLACE}
-use Rattle.macho_model.specs.Uses.{personality_uses}
+use Rattle.macho_model.specs.Needs.{relocations_at, initializer_sections, unwind_sections, PERSONALITY_PLACE}
+use Rattle.macho_model.specs.Uses.{Use, ByInitializer, ByPersonality, personality_uses}
 use Rattle.macho_model.specs.Targets.{target_of_relocation}
 use Rattle.macho_model.specs.Consumed.{EntryId, entry_count, entries_of_link, relocations_in_entry, START_PLACE}
 use Rattle.macho_model.specs.Made.{initializers_of}
-use Rattle.macho_parts.specs.Noted.{uses_of_initializers, uses_of_personalities}
+use Rattle.macho_promise.specs.Noted.{uses_of_initializers, uses_of_personalities}
 use Rattle.macho_consumed.specs.declared.rows.Initializer.{Initializer}
 use Rattle.macho_consumed.specs.Rows.{initializer_row, initializer_rows_in, initializer_rows, entry_row, entry_rows}
 use Rattle.macho_consumed.specs.Told.{EntriesKeepRules}
-use Rattle.macho_consumed.specs.Laws.{target_of_initializer, use_of_initializer, uses_of_entry, InitializersAreRows}
-use Rattle.macho_consumed.specs.Laws.{InitializersAreUsed, PersonalitiesAreUsed}
-use Rattle.macho_consumed.proofs.Tests.{left_of, right_of}
-use Rattle.macho_consumed.proofs.Members.{in_range}
-use Rattle.macho_consumed.proofs.Joined.{map_joined, joined_map, joined_agree}
-use Rattle.macho_model.proofs.Uses.{initializers_are}
+use Rattle.macho_consumed.specs.Laws.{target_of_initializer, use_of_initializer, uses_of_entry, InitializersAreRows, InitializersAreUsed, PersonalitiesAreUsed}
+use Rattle.macho_consumed.proofs.Joined.{joined_agree}
+use Rattle.macho_model.proofs.Uses.{initializers_are, map_flat, flat_flat}
+use Rattle.macho_bytes.proofs.Maps.{flat_map-map}
+use Rattle.macho_bytes.proofs.Bools.{and_left, and_right}
+use Rattle.macho_bytes.proofs.Members.{range_contains}
 
 -- what is made of each row of initializers
 made : {Z : Type 0} (l : Link) (g : Initializer → Z) (f : SectionId → ℕ → Z) → ((s : SectionId) (r : ℕ)
@@ -41,11 +38,11 @@ made_of_rows : {Z : Type 0} (l : Link) (g : Initializer → Z) (f : SectionId �
     (initializer_sections l) ≡ map g (initializer_rows l)
 unfolding initializer_rows initializer_rows_in
 made_of_rows l g f same =
-    sym (map_joined g (initializer_rows_in l) (initializer_sections l)
+    sym (map_flat g (initializer_rows_in l) (initializer_sections l)
     ∙ joined_agree (λ s. map g (initializer_rows_in l s)) (λ s. flat_map (λ slot. map (f s) (relocations_at l s (8 * slot)))
     (range_with_len 0 ((header_at l s).size / 8))) (initializer_sections l)
     (λ s c.
-    map_joined g (λ slot. map (initializer_row l s) (relocations_at l s (8 * slot))) (range_with_len 0 ((header_at l s).size / 8))
+    map_flat g (λ slot. map (initializer_row l s) (relocations_at l s (8 * slot))) (range_with_len 0 ((header_at l s).size / 8))
     ∙ joined_agree (λ slot. map g (map (initializer_row l s) (relocations_at l s (8 * slot)))) (λ slot. map (f s) (relocations_at l s
     (8 * slot))) (range_with_len 0 ((header_at l s).size / 8))
     (λ slot d. made l g f same s (relocations_at l s (8 * slot)))))
@@ -61,13 +58,6 @@ pub are_used : InitializersAreUsed
 unfolding uses_of_initializers
 are_used l = made_of_rows l use_of_initializer ByInitializer (λ s r. refl)
 
--- parts of parts
-joined_joined : {X Y Z : Type 0} (g : Y → List Z) (f : X → List Y) (xs : List X)
-    → flat_map g (flat_map f xs) ≡ flat_map (λ x. flat_map g (f x)) xs
-joined_joined g f [] = refl
-joined_joined {Z = Z} g f (x ∷ xs) = flat_map-append g (f x) (flat_map f xs)
-    ∙ ap (λ (zs : List Z). flat_map g (f x) ++ zs) (joined_joined g f xs)
-
 -- the personality of an entry
 one_use : (l : Link) (s : SectionId) (e : ℕ) (rs : List ℕ) → relocations_in_entry l s e PERSONALITY_PLACE ≡ rs → length rs ≤ 1
     → map (ByPersonality s) rs ≡ uses_of_entry (entry_row l (record { of_section = s; entry = e }))
@@ -79,7 +69,7 @@ one_use l s e (r ∷ q ∷ rs) is few = absurd (omega arith)
 few_there : (l : Link) (s : SectionId) (e : ℕ) → EntriesKeepRules l → Contains (unwind_sections l) s → e < entry_count l s
     → length (relocations_in_entry l s e PERSONALITY_PLACE) ≤ 1
 few_there l s e keeps there lt =
-    at_most _ (left_of _ _ (right_of (nat_le (length (relocations_in_entry l s e START_PLACE)) 1) _ (keeps.unwind s e U3 there lt)))
+    at_most _ (and_left _ _ (and_right (nat_le (length (relocations_in_entry l s e START_PLACE)) 1) _ (keeps.unwind s e U3 there lt)))
   where
     at_most : (n : ℕ) → nat_le n 1 ≡ true → n ≤ 1
     at_most n few = grind (arith, nat_tests, few)
@@ -92,6 +82,7 @@ are_used_by_entries l keeps =
     joined_agree (personality_uses l) (λ s. flat_map f (ids s)) (unwind_sections l) (λ s c.
     joined_agree (λ e. map (ByPersonality s) (relocations_at l s (32 * e + PERSONALITY_PLACE))) (λ e. f
     (record { of_section = s; entry = e })) (range_with_len 0 (entry_count l s))
-    (λ e d. one_use l s e (relocations_in_entry l s e PERSONALITY_PLACE) refl (few_there l s e keeps c (in_range (entry_count l s) e d)))
-    ∙ sym (joined_map f (λ e. record { of_section = s; entry = e }) (range_with_len 0 (entry_count l s))))
-    ∙ sym (joined_joined f ids (unwind_sections l)) ∙ sym (joined_map uses_of_entry (entry_row l) (flat_map ids (unwind_sections l)))
+    (λ e d. one_use l s e (relocations_in_entry l s e PERSONALITY_PLACE) refl
+    (few_there l s e keeps c (range_contains (entry_count l s) e d)))
+    ∙ sym (flat_map-map f (λ e. record { of_section = s; entry = e }) (range_with_len 0 (entry_count l s))))
+    ∙ sym (flat_flat f ids (unwind_sections l)) ∙ sym (flat_map-map uses_of_entry (entry_row l) (flat_map ids (unwind_sections l)))

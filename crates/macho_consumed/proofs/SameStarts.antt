@@ -3,8 +3,7 @@
 -- Of an entry that keeps its rules by the bytes the link knows one relocation of its start, and its row tells where that leads: the
 -- file, the section and the offset in it. Two entries have one start exactly where these are the same, as each start is not below its
 -- section's.
-use Rattle.std.proofs.Common.{◌≡◌, ℕ, ◌-◌, ◌/◌, ◌<◌, ◌≤◌, eq-eqb, Bool, true, false, ◌&&◌, ◌||◌, not, ◌==◌, List, [], ◌∷◌, map, filter}
-use Rattle.std.proofs.Common.{Option, refl, sym, ap, ◌∙◌, subst, arith}
+use Rattle.std.proofs.Common.{◌≡◌, ℕ, ◌-◌, ◌/◌, ◌<◌, ◌≤◌, eq-eqb, Bool, true, false, ◌&&◌, ◌||◌, not, ◌==◌, List, [], ◌∷◌, map, filter, Option, refl, sym, ap, ◌∙◌, subst, arith}
 use Rattle.std.proofs.lemmas.Bool.{eqb-true}
 use Rattle.std.proofs.lemmas.List.Elements.{All-contains, All-map}
 use Rattle.std.specs.List.{range_with_len, Contains, All}
@@ -12,24 +11,24 @@ use Rattle.macho_object.specs.Views.{FileBytes}
 use Rattle.macho_model.specs.Objects.{section_at, relocation_at}
 use Rattle.macho_model.specs.Links.{Link, SectionId, object_of, header_at}
 use Rattle.macho_model.specs.Needs.{section_named, unwind_sections}
-use Rattle.macho_model.specs.Consumed.{EntryId, entry_count, starts_in, same_section, same_start, entries_of_link, unwind_entry}
-use Rattle.macho_model.specs.Consumed.{START_PLACE}
+use Rattle.macho_model.specs.Consumed.{EntryId, entry_count, starts_in, same_section, same_start, entries_of_link, unwind_entry, START_PLACE}
 use Rattle.macho_consumed.specs.declared.listing.Kind.TheVariants.{Entries}
 use Rattle.macho_consumed.specs.declared.listing.SectionRef.{SectionRef}
 use Rattle.macho_consumed.specs.declared.starts.StartKey.{StartKey}
-use Rattle.macho_parts.specs.Views.{views_of}
+use Rattle.macho_promise.specs.Views.{views_of}
 use Rattle.macho_consumed.specs.Rows.{entry_row}
 use Rattle.macho_consumed.specs.steps.Entries.{named, at_place, read_entry, EntryFits}
 use Rattle.macho_consumed.specs.steps.Listed.{id_of_ref, bytes_in}
 use Rattle.macho_symbols.specs.Kept.{ResolvedRows}
 use Rattle.macho_consumed.specs.steps.Gathered.{all_of, KeepsAt}
 use Rattle.macho_consumed.specs.steps.Checked.{start_key}
-use Rattle.macho_consumed.proofs.Tests.{left_of, right_of, both}
-use Rattle.macho_consumed.proofs.Members.{in_map, in_range, IsFrom, all_joined, all_there}
+use Rattle.macho_consumed.proofs.Members.{in_map, IsFrom, all_joined}
 use Rattle.macho_consumed.proofs.InAll.{IsOne, all_listed}
 use Rattle.macho_consumed.proofs.Transfer.{object_is, entry_row_is}
 use Rattle.macho_consumed.proofs.Sectioned.{unwind_are}
 use Rattle.macho_consumed.proofs.EntryStarts.{has_start, row_start}
+use Rattle.macho_bytes.proofs.Bools.{and_left, and_right, and_both}
+use Rattle.macho_bytes.proofs.Members.{contains_all, range_contains}
 
 -- THE start of an entry of a link.
 pub record StartsAt (l : Link) (d : EntryId) (q : ℕ) : Type 0 where
@@ -94,19 +93,19 @@ keys_meet l d e q r s t same =
       t.above,
     ) in
     meets l d e q r s t
-    ∙ both _ _ (or_false (same_section (section_named l d.of_section q) (section_named l e.of_section r))
-    ∙ both _ _ (eq-eqb _ _ file) (eq-eqb _ _ section)) (eq-eqb _ _ start)
+    ∙ and_both _ _ (or_false (same_section (section_named l d.of_section q) (section_named l e.of_section r))
+    ∙ and_both _ _ (eq-eqb _ _ file) (eq-eqb _ _ section)) (eq-eqb _ _ start)
 
 pub meet_keys : (l : Link) (d e : EntryId) (q r : ℕ) → StartsAt l d q → StartsAt l e r → same_start l d e ≡ true
     → start_key (entry_row l d) ≡ start_key (entry_row l e)
 meet_keys l d e q r s t same =
     let all = sym (meets l d e q r s t) ∙ same in
     let sections : same_section (section_named l d.of_section q) (section_named l e.of_section r) ≡ true = sym (or_false (same_section
-    (section_named l d.of_section q) (section_named l e.of_section r))) ∙ left_of _ _ all in
+    (section_named l d.of_section q) (section_named l e.of_section r))) ∙ and_left _ _ all in
     let start : (unwind_entry l d.of_section d.entry).start ≡ (unwind_entry l e.of_section e.entry).start =
-    eqb-true _ _ (right_of ((same_section (section_named l d.of_section q) (section_named l e.of_section r) || false) || false) _ all) in
-    let file : d.of_section.file ≡ e.of_section.file = eqb-true _ _ (left_of _ _ sections) in
-    let section : (section_named l d.of_section q).section ≡ (section_named l e.of_section r).section = eqb-true _ _ (right_of
+    eqb-true _ _ (and_right ((same_section (section_named l d.of_section q) (section_named l e.of_section r) || false) || false) _ all) in
+    let file : d.of_section.file ≡ e.of_section.file = eqb-true _ _ (and_left _ _ sections) in
+    let section : (section_named l d.of_section q).section ≡ (section_named l e.of_section r).section = eqb-true _ _ (and_right
     (d.of_section.file == e.of_section.file) _ sections) in
     let addr = alike l (section_named l d.of_section q) (section_named l e.of_section r) file section in
     let offset : (unwind_entry l d.of_section d.entry).start - (header_at l (section_named l d.of_section q)).addr
@@ -135,11 +134,11 @@ known l files d views c =
         → All (IsKnown l files) (map (λ e. record { of_section = s; entry = e }) (range_with_len 0 (entry_count l s)))
     all_here s m =
         All-map (IsKnown l files) (λ e. record { of_section = s; entry = e }) (range_with_len 0 (entry_count l s))
-        (all_there (λ e. IsKnown l files (record { of_section = s; entry = e })) (range_with_len 0 (entry_count l s)) (λ e d. record {
+        (contains_all (λ e. IsKnown l files (record { of_section = s; entry = e })) (range_with_len 0 (entry_count l s)) (λ e d. record {
           at = m.at;
           there = m.there;
           section = m.is;
-          within = subst (λ (x : SectionId). e < entry_count l x) m.is (in_range (entry_count l s) e d);
+          within = subst (λ (x : SectionId). e < entry_count l x) m.is (range_contains (entry_count l s) e d);
         }))
 
 pub known_starts : (l : Link) (files : List (Option FileBytes)) (r : ResolvedRows) (d : EntryId) → files ≡ views_of l

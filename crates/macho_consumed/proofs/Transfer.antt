@@ -10,7 +10,7 @@ use Rattle.macho_model.specs.declared.rules.UnwindRule.TheVariants.{U2, U3, U4, 
 use Rattle.macho_model.specs.Links.{Input, Object, Dylib, Stub, Link, object_bytes, object_of, no_input}
 use Rattle.macho_model.specs.Needs.{relocations_at}
 use Rattle.macho_model.specs.Consumed.{initializer_section_fits, whole_entries, keeps}
-use Rattle.macho_parts.specs.Views.{object_view, views_of}
+use Rattle.macho_promise.specs.Views.{object_view, views_of}
 use Rattle.macho_consumed.specs.Rows.{initializer_rows_in, entry_row}
 use Rattle.macho_consumed.specs.steps.Alone.{alone, own}
 use Rattle.macho_consumed.specs.steps.Places.{found}

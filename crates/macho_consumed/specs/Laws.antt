@@ -6,7 +6,7 @@ use Rattle.macho_model.specs.Links.{Link, SectionId}
 use Rattle.macho_model.specs.Uses.{Use, ByInitializer, ByPersonality}
 use Rattle.macho_model.specs.Targets.{target_of_relocation}
 use Rattle.macho_model.specs.Made.{initializers_of}
-use Rattle.macho_parts.specs.Noted.{uses_of_initializers, uses_of_personalities}
+use Rattle.macho_promise.specs.Noted.{uses_of_initializers, uses_of_personalities}
 use Rattle.macho_consumed.specs.declared.rows.Initializer.{Initializer}
 use Rattle.macho_consumed.specs.declared.rows.PersonalityUse.{PersonalityUse}
 use Rattle.macho_consumed.specs.declared.rows.UnwindEntry.{UnwindEntry}

@@ -1,7 +1,7 @@
 -- What a caller shows of symbols, beside a view of each object by the number of its file.
 use Rattle.std.specs.Prelude.{◌≡◌, ℕ, ◌^◌, ◌<◌, false, List, length, Option, Some, None, get_or}
 use Rattle.macho_object.specs.Views.{FileBytes}
-use Rattle.macho_names.specs.Kept.{FileRows, no_file, kept_object}
+use Rattle.macho_symbol_names.specs.Kept.{FileRows, no_file, kept_object}
 
 -- What is kept of symbols is kept of these files, of which there are as many as numbers of 32 bits tell.
 pub record AreKept (files : List (Option FileBytes)) (rows : List FileRows) : Type 0 where

@@ -2,7 +2,7 @@
 ghost use Rattle.std.specs.Prelude.{◌≡◌, ℕ, List, IfOk, IfErr, OnOk};
 ghost use Rattle.macho_model.specs.Links.{Link};
 ghost use Rattle.macho_symbols.specs.Kept.{IsResolved};
-ghost use Rattle.macho_parts.specs.Views.{views_of};
+ghost use Rattle.macho_promise.specs.Views.{views_of};
 ghost use Rattle.macho_consumed.specs.Views.{AreKept};
 ghost use Rattle.macho_consumed.specs.Rows.{initializer_rows, entry_rows};
 ghost use Rattle.macho_consumed.specs.Told.{IsStanding, InitializersKeepRules, EntriesKeepRules};

@@ -13,10 +13,10 @@ use crate::places::{Cell, is_plain_pointer};
 use crate::rows::Initializer;
 use crate::section::{Section, section_of};
 use crate::targets::leads_into;
-use macho_numbers::little_at;
 use macho_object::File;
 use macho_records::{RelocationInfo, S_MOD_INIT_FUNC_POINTERS, SectionFlags};
 use macho_symbols::Resolved;
+use macho_wire::little_at;
 use std::alloc::Global;
 
 /// The bytes of a slot.

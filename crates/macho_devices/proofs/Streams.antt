@@ -7,20 +7,7 @@
 use Rattle.std.proofs.Common.{◌≡◌, ℕ, List, [], ◌++◌, take, drop, Option, Some, None, refl, ap, sym, subst, ◌∙◌, append_assoc}
 use Rattle.std.specs.Prelude.{IfSome}
 use Rattle.std.specs.Io.KnownBytes.{Consumes, Appends, IsAtEnd}
-use Rattle.std.proofs.lemmas.List.{append-nil, take-append-drop}
-
-pub consumes_more : (a b c : Option (List ℕ)) (xs ys : List ℕ) → Consumes a b xs → Consumes b c ys → Consumes a c (xs ++ ys)
-consumes_more None b c xs ys p q = tt
-consumes_more (Some all) None c xs ys p q = absurd p
-consumes_more (Some all) (Some rest) None xs ys p q = absurd q
-consumes_more (Some all) (Some rest) (Some left) xs ys p q = p ∙ ap (λ r. xs ++ r) q ∙ sym (append_assoc xs ys left)
-
-pub consumed_all : (a b c : Option (List ℕ)) (xs : List ℕ)
-    → Consumes a b xs → Consumes b c [] → IsAtEnd c → IfSome a (λ all. xs ≡ all)
-consumed_all None b c xs p q end = tt
-consumed_all (Some all) None c xs p q end = absurd p
-consumed_all (Some all) (Some rest) None xs p q end = absurd q
-consumed_all (Some all) (Some rest) (Some left) xs p q end = sym (p ∙ ap (λ r. xs ++ r) (q ∙ end) ∙ append-nil xs)
+use Rattle.std.proofs.lemmas.List.{take-append-drop}
 
 pub appends_more : (a b c : Option (List ℕ)) (xs ys : List ℕ) → Appends a b xs → Appends b c ys → Appends a c (xs ++ ys)
 appends_more None b c xs ys p q = tt
@@ -28,22 +15,11 @@ appends_more (Some x) None c xs ys p q = absurd p
 appends_more (Some x) (Some y) None xs ys p q = absurd q
 appends_more (Some x) (Some y) (Some z) xs ys p q = q ∙ ap (λ w. w ++ ys) p ∙ append_assoc x xs ys
 
-appends_none : (a : Option (List ℕ)) → Appends a a []
-appends_none None = tt
-appends_none (Some x) = sym (append-nil x)
-
-consumes_none : (a : Option (List ℕ)) → Consumes a a []
-consumes_none None = tt
-consumes_none (Some x) = refl
-
 -- so far the front of the bytes is written, and the rest is left
 pub record Written (old now : Option (List ℕ)) (bytes rest : List ℕ) : Type 0 where
   pub front : List ℕ
   pub split : bytes ≡ front ++ rest
   pub appended : Appends old now front
-
-pub written_none : (old : Option (List ℕ)) (bytes : List ℕ) → Written old old bytes bytes
-written_none old bytes = record { front = []; split = refl; appended = appends_none old }
 
 pub written_more : (old now next : Option (List ℕ)) (bytes rest : List ℕ) (n : ℕ)
     → Written old now bytes rest → Appends now next (take n rest) → Written old next bytes (drop n rest)
@@ -56,8 +32,3 @@ written_more old now next bytes rest n so_far more =
           ∙ sym (append_assoc so_far.front (take n rest) (drop n rest));
       appended = appends_more old now next so_far.front (take n rest) so_far.appended more;
     }
-
-pub written_all : (old now : Option (List ℕ)) (bytes rest : List ℕ) → rest ≡ [] → Written old now bytes rest → Appends old now bytes
-written_all old now bytes rest none so_far =
-    let all : bytes ≡ so_far.front = so_far.split ∙ ap (λ r. so_far.front ++ r) none ∙ append-nil so_far.front in
-    subst (λ (xs : List ℕ). Appends old now xs) (sym all) so_far.appended

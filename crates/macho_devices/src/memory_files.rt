@@ -8,9 +8,7 @@ ghost use Rattle.std.specs.FinSet as sets;
 ghost use Rattle.macho_devices.specs.declared.file_system.FileFault.TheVariants.{OutOfMemory};
 ghost use Rattle.macho_devices.specs.Faults.{CountsOn, HasCause};
 ghost use Rattle.macho_devices.specs.Devices.{content_of, LeavesFiles};
-ghost use Rattle.macho_devices.specs.Memory.{memory_of, steady_of, fresh_files, nothing_held, failing_entry};
-ghost use Rattle.macho_devices.specs.Memory.{with_dir, with_canonical, with_file, files_in};
-ghost use Rattle.macho_devices.specs.Memory.{ChangesHeld, FailsRead, FailsWrite, ReadsAsTold, WritesAsTold};
+ghost use Rattle.macho_devices.specs.Memory.{memory_of, steady_of, fresh_files, nothing_held, failing_entry, with_dir, with_canonical, with_file, files_in, ChangesHeld, FailsRead, FailsWrite, ReadsAsTold, WritesAsTold};
 
 use crate::file_system::{FileFault, Files};
 use crate::held_files::HeldFiles;

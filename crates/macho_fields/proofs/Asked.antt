@@ -22,13 +22,13 @@ use Rattle.macho_model.specs.Addresses.{address_of}
 use Rattle.macho_model.specs.Stands.{Kind, Pointer, Difference, Branch, Page, Offset, SlotPage, SlotOffset, SlotDistance, NoKind, is_template_offset, is_in_template}
 use Rattle.macho_model.specs.Values.{is_pointer, is_absolute_target, needs_fixup, IsNotEncodable}
 use Rattle.macho_model.specs.Fixups.{has_room}
-use Rattle.macho_model.proofs.EachBelow.{true_or_false, and_left, and_right}
 use Rattle.macho_fixups.specs.declared.words.FixupKind.TheVariants.{Rebase, Bind}
-use Rattle.macho_parts.specs.FixupsSay.{kind_for}
+use Rattle.macho_promise.specs.FixupsSay.{kind_for}
 use Rattle.macho_fields.specs.Looks.{Look, TellsAddresses, Tells, IsThere, IsFound}
 use Rattle.macho_fields.specs.steps.Fields.{kind_in, in_template, is_pointer_kind, asks, fixup_value, is_encodable, kind_asked, may_stand, start_of}
 use Rattle.macho_fields.proofs.Placing.{address_told}
 use Rattle.macho_fields.proofs.Saying.{IsStart}
+use Rattle.macho_bytes.proofs.Bools.{true_or_false, and_left, and_right}
 
 -- a field is asked for where it needs a fixup
 pointer_same : (f : Field) (k : Kind) → kind_in f ≡ k → is_pointer f ≡ ((f.width == 8) && is_pointer_kind k)

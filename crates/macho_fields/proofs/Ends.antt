@@ -12,8 +12,8 @@ use Rattle.macho_model.specs.Placement.{Placed, id_of}
 use Rattle.macho_model.specs.Stands.{kind_of}
 use Rattle.macho_model.specs.Values.{FieldOf, DoesNotFit}
 use Rattle.macho_fixups.specs.declared.run.Fixup.{Fixup}
-use Rattle.macho_parts.specs.Filled.{FieldIsSet, IsFilled}
-use Rattle.macho_parts.specs.Asked.{fixups_in}
+use Rattle.macho_promise.specs.Filled.{FieldIsSet, IsFilled}
+use Rattle.macho_promise.specs.Asked.{fixups_in}
 use Rattle.macho_fields.specs.Looks.{IsPlacedOnce}
 use Rattle.macho_fields.specs.Faults.{NoneStandsIn}
 use Rattle.macho_fields.specs.steps.Sections.{is_field, fields_to, FieldIsFine, IsFilledTo}

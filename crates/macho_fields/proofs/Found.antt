@@ -6,10 +6,9 @@
 use Rattle.std.proofs.Common.{◌≡◌, ℕ, zero, suc, ◌+◌, ◌%◌, ◌<◌, ◌≤◌, not, true, false, Bool, cond, List, [], ◌∷◌, length, map, filter, Contains, Option, Some, None, refl, sym, ap, subst, ◌∙◌, arith, inl, inr, ◌⊎◌}
 use Rattle.std.specs.Prelude.{IfSome, is_some}
 use Rattle.std.specs.List.{flat_map, filter_map, range_with_len, cons_option}
-use Rattle.std.proofs.lemmas.Bool.{cases_Bool, cases_eq}
+use Rattle.std.proofs.lemmas.Bool.{cases_Bool}
 use Rattle.std.proofs.lemmas.List.Sorted.{Contains-permutation, IsPermutation-sym}
-use Rattle.std.proofs.lemmas.List.FromFn.{length-range_with_len, get_or-range_with_len}
-use Rattle.std.proofs.lemmas.List.Elements.{Contains-append_left, Contains-append_right, All-contains}
+use Rattle.std.proofs.lemmas.List.Elements.{All-contains}
 use Rattle.macho_model.specs.declared.placed.Counts.{Counts}
 use Rattle.macho_model.specs.declared.placed.PlacedSection.{PlacedSection}
 use Rattle.macho_model.specs.declared.placed.PlacedCommon.{PlacedCommon}
@@ -21,54 +20,18 @@ use Rattle.macho_model.specs.declared.targets.Target.TheVariants as target
 use Rattle.macho_model.specs.Links.{Link, SectionId, section_id, header_at, carried_of, is_template}
 use Rattle.macho_model.specs.Resolution.{chosen_commons}
 use Rattle.macho_model.specs.Needs.{distinct, relocation_in}
-use Rattle.macho_model.specs.Uses.{ByRelocation, uses_of, carried_uses}
+use Rattle.macho_model.specs.Uses.{ByRelocation, uses_of, carried_uses, slot_of_use, stub_of_use, slot_of_relocation, stub_of_relocation}
 use Rattle.macho_model.specs.Targets.{same_target, slots_of, stubs_of, target_of_relocation}
-use Rattle.macho_model.specs.Uses.{slot_of_use, stub_of_use, slot_of_relocation, stub_of_relocation}
 use Rattle.macho_model.specs.Placement.{Placed, IsPlaced, template_sections, id_of}
 use Rattle.macho_model.specs.steps.Parts.{TemplateHolds}
-use Rattle.macho_model.proofs.EachBelow.{true_or_false}
 use Rattle.macho_fields.specs.Looks.{IsThere, HasSlot, HasStub, IsFound}
 use Rattle.macho_fields.specs.Laws.{LeadsInside, TargetsAreKept}
-use Rattle.macho_fields.proofs.Once.{placed_once, same_target_is}
+use Rattle.macho_fields.proofs.Once.{placed_once}
 use Rattle.macho_model.proofs.Uses.{slots_are, stubs_are}
 use Rattle.macho_model.proofs.Parts.{aligned_of, template_of, same_order}
-
--- behind another element
-pub behind : {X : Type 0} (y : X) (xs : List X) (x : X) → Contains xs x → Contains (y ∷ xs) x
-behind y xs x h = Contains-append_right (y ∷ []) xs x h
-
-front : {X : Type 0} (y : X) (xs : List X) → Contains (y ∷ xs) y
-front y xs = (0, omega arith, refl)
-
-nowhere : {X : Type 0} (x : X) → Contains [] x → ⊥
-nowhere x h = absurd (omega (arith, h.1))
-
--- in the front, or behind it
-pub split : {X : Type 0} (y : X) (xs : List X) (x : X) → Contains (y ∷ xs) x → (y ≡ x) ⊎ Contains xs x
-split y xs x (zero, lt, is) = inl is
-split y xs x (suc k, lt, is) = inr (k, omega arith, is)
-
--- among chosen ones
-kept_by : {X : Type 0} (y : X) (ys : List X) (x : X) (b : Bool) → (y ≡ x → b ≡ true) → (y ≡ x) ⊎ Contains ys x
-    → Contains (cond b (y ∷ ys) ys) x
-kept_by y ys x true passes (inl is) = subst (Contains (y ∷ ys)) is (front y ys)
-kept_by y ys x true passes (inr rest) = behind y ys x rest
-kept_by y ys x false passes (inl is) = absurd (true_or_false false (passes is) refl)
-kept_by y ys x false passes (inr rest) = rest
-
-pub in_filter : {X : Type 0} (test : X → Bool) (xs : List X) (x : X) → Contains xs x → test x ≡ true → Contains (filter test xs) x
-in_filter test [] x h passes = absurd (nowhere x h)
-in_filter test (y ∷ xs) x h passes = elim (split y xs x h) [
-  | inl is ↦ kept_by y (filter test xs) x (test y) (λ same. ap test same ∙ passes) (inl is)
-  | inr rest ↦ kept_by y (filter test xs) x (test y) (λ same. ap test same ∙ passes) (inr (in_filter test xs x rest passes))
-]
-
-pub in_map : {X Y : Type 0} (f : X → Y) (xs : List X) (x : X) → Contains xs x → Contains (map f xs) (f x)
-in_map f [] x h = absurd (nowhere x h)
-in_map f (y ∷ xs) x h = elim (split y xs x h) [
-  | inl is ↦ subst (λ z. Contains (f y ∷ map f xs) (f z)) is (front (f y) (map f xs))
-  | inr rest ↦ behind (f y) (map f xs) (f x) (in_map f xs x rest)
-]
+use Rattle.macho_model.proofs.SameTargets.{same_target_is}
+use Rattle.macho_bytes.proofs.Members.{contains_first, contains_later, contains_cases, nil_contains, contains_filter, contains_range, contains_filter_map}
+use Rattle.macho_model.proofs.Sections.{carried_use}
 
 -- an element that a mapped one is of
 pub record IsMapped {X Y : Type 0} (f : X → Y) (xs : List X) (y : Y) : Type 0 where
@@ -77,80 +40,27 @@ pub record IsMapped {X Y : Type 0} (f : X → Y) (xs : List X) (y : Y) : Type 0 
   pub is : f of ≡ y
 
 pub of_map : {X Y : Type 0} (f : X → Y) (xs : List X) (y : Y) → Contains (map f xs) y → IsMapped f xs y
-of_map f [] y h = absurd (nowhere y h)
-of_map f (x ∷ xs) y h = elim (split (f x) (map f xs) y h) [
-  | inl is ↦ record { of = x; there = front x xs; is = is }
-  | inr rest ↦ let m = of_map f xs y rest in record { of = m.of; there = behind x xs m.of m.there; is = m.is }
-]
-
-pub in_flat_map : {X Y : Type 0} (f : X → List Y) (xs : List X) (x : X) (y : Y) → Contains xs x → Contains (f x) y
-    → Contains (flat_map f xs) y
-in_flat_map f [] x y h here = absurd (nowhere x h)
-in_flat_map f (z ∷ xs) x y h here = elim (split z xs x h) [
-  | inl is ↦ Contains-append_left (f z) (flat_map f xs) y (subst (λ w. Contains (f w) y) (sym is) here)
-  | inr rest ↦ Contains-append_right (f z) (flat_map f xs) y (in_flat_map f xs x y rest here)
-]
-
-given_by : {Y : Type 0} (o : Option Y) (ys : List Y) (y : Y) → (o ≡ Some y) ⊎ Contains ys y → Contains (cons_option o ys) y
-given_by None ys y (inl is) = absurd (cc)
-given_by None ys y (inr rest) = rest
-given_by (Some z) ys y (inl is) = let same : z ≡ y = cc in subst (Contains (z ∷ ys)) same (front z ys)
-given_by (Some z) ys y (inr rest) = behind z ys y rest
-
-in_filter_map : {X Y : Type 0} (f : X → Option Y) (xs : List X) (x : X) (y : Y) → Contains xs x → f x ≡ Some y
-    → Contains (filter_map f xs) y
-in_filter_map f [] x y h gives = absurd (nowhere x h)
-in_filter_map f (z ∷ xs) x y h gives = elim (split z xs x h) [
-  | inl is ↦ given_by (f z) (filter_map f xs) y (inl (ap f is ∙ gives))
-  | inr rest ↦ given_by (f z) (filter_map f xs) y (inr (in_filter_map f xs x y rest gives))
+of_map f [] y h = absurd (nil_contains y h)
+of_map f (x ∷ xs) y h = elim (contains_cases (f x) (map f xs) y h) [
+  | inl is ↦ record { of = x; there = contains_first x xs; is = is }
+  | inr rest ↦ let m = of_map f xs y rest in record { of = m.of; there = contains_later x xs m.of m.there; is = m.is }
 ]
 
 -- among targets without repeats
 in_distinct : (xs : List Target) (x : Target) → Contains xs x → Contains (distinct same_target xs) x
-in_distinct [] x h = absurd (nowhere x h)
-in_distinct (y ∷ xs) x h = elim (split y xs x h) [
+in_distinct [] x h = absurd (nil_contains x h)
+in_distinct (y ∷ xs) x h = elim (contains_cases y xs x h) [
   | inl is ↦ subst (Contains (y ∷ filter (λ z. not (same_target y z)) (distinct same_target xs))) is
-      (front y (filter (λ z. not (same_target y z)) (distinct same_target xs)))
+      (contains_first y (filter (λ z. not (same_target y z)) (distinct same_target xs)))
   | inr rest ↦ elim (cases_Bool (same_target y x)) [
     | inl same ↦
         subst (Contains (y ∷ filter (λ z. not (same_target y z)) (distinct same_target xs))) (same_target_is y x same)
-        (front y (filter (λ z. not (same_target y z)) (distinct same_target xs)))
+        (contains_first y (filter (λ z. not (same_target y z)) (distinct same_target xs)))
     | inr other ↦
-        behind y (filter (λ z. not (same_target y z)) (distinct same_target xs)) x
-        (in_filter (λ z. not (same_target y z)) (distinct same_target xs) x (in_distinct xs x rest) (ap not other))
+        contains_later y (filter (λ z. not (same_target y z)) (distinct same_target xs)) x
+        (contains_filter (λ z. not (same_target y z)) (distinct same_target xs) x (in_distinct xs x rest) (ap not other))
   ]
 ]
-
--- a number below another is in its row
-in_row : (a n k : ℕ) → a ≤ k → k < a + n → Contains (range_with_len a n) k
-in_row a zero k from to = absurd (omega arith)
-in_row a (suc n) k from to = elim (cases_eq a k) [
-  | inl same ↦ subst (Contains (a ∷ range_with_len (a + 1) n)) same (front a (range_with_len (a + 1) n))
-  | inr other ↦ behind a (range_with_len (a + 1) n) k (in_row (a + 1) n k (omega arith) (omega arith))
-]
-
-pub in_range : (n k : ℕ) → k < n → Contains (range_with_len 0 n) k
-in_range n k lt = in_row 0 n k (omega arith) (omega arith)
-
--- and a number of it is below
-pub below_range : (n k : ℕ) → Contains (range_with_len 0 n) k → k < n
-below_range n k h = omega (
-  arith,
-  h.1,
-  length-range_with_len 0 n,
-  h.2,
-  get_or-range_with_len 0 n h.0 k
-      (subst (λ (m : ℕ). h.0 < m) (length-range_with_len 0 n) h.1),
-)
-
--- a relocation of a carried section is a use
-used : (l : Link) (s : SectionId) (r : ℕ) → Contains (carried_of l) s → r < (header_at l s).nreloc → Contains (uses_of l) (ByRelocation s r)
-unfolding uses_of
-used l s r carried among =
-    let of_section : Contains (carried_uses l s) (ByRelocation s r) = in_map (ByRelocation s) (range_with_len 0 (header_at l s).nreloc) r
-    (in_range (header_at l s).nreloc r among) in
-    let first = in_flat_map (carried_uses l) (carried_of l) s (ByRelocation s r) carried of_section in
-    Contains-append_left _ _ _ (Contains-append_left _ _ _ (Contains-append_left _ _ _ first))
 
 -- the target of a slot, and the import of a stub, are in the placement's lists
 slot_there : (l : Link) (counts : Counts) (p : Placed) (s : SectionId) (r : ℕ) (t : Target) → IsPlaced l counts p
@@ -159,7 +69,7 @@ slot_there : (l : Link) (counts : Counts) (p : Placed) (s : SectionId) (r : ℕ)
 slot_there l counts p s r t placed carried among asks =
     let listed : Contains (slots_of l) t =
     subst (λ (xs : List Target). Contains xs t) (sym (slots_are l)) (in_distinct (filter_map (slot_of_use l) (uses_of l)) t
-    (in_filter_map (slot_of_use l) (uses_of l) (ByRelocation s r) t (used l s r carried among) asks)) in
+    (contains_filter_map (slot_of_use l) (uses_of l) (ByRelocation s r) t (carried_use l s r carried among) asks)) in
     let m = of_map (λ (x : Slot). x.target) p.slots t (subst (λ (xs : List Target). Contains xs t) (sym placed.whole_list.slots) listed) in
     (m.of, m.there, m.is)
 
@@ -169,7 +79,7 @@ stub_there : (l : Link) (counts : Counts) (p : Placed) (s : SectionId) (r : ℕ)
 stub_there l counts p s r t placed carried among asks =
     let listed : Contains (stubs_of l) t =
     subst (λ (xs : List Target). Contains xs t) (sym (stubs_are l)) (in_distinct (filter_map (stub_of_use l) (uses_of l)) t
-    (in_filter_map (stub_of_use l) (uses_of l) (ByRelocation s r) t (used l s r carried among) asks)) in
+    (contains_filter_map (stub_of_use l) (uses_of l) (ByRelocation s r) t (carried_use l s r carried among) asks)) in
     let m = of_map (λ (x : Stub). target.Import x.import) p.stubs t
     (subst (λ (xs : List Target). Contains xs t) (sym placed.whole_list.stubs) listed) in
     (m.of, m.there, m.is)
@@ -191,7 +101,7 @@ is_there l counts p (target.Common id) placed kept =
     let all = range_with_len 0 (length (chosen_commons l)) in
     let m = of_map (λ (x : PlacedCommon). x.id) p.commons id
     (Contains-permutation all ids id (IsPermutation-sym ids all (same_order placed.whole_list.commons))
-    (in_range (length (chosen_commons l)) id kept)) in
+    (contains_range (length (chosen_commons l)) id kept)) in
     (m.of, m.there, m.is)
 is_there l counts p (target.Import id) placed kept = tt
 is_there l counts p target.Base placed kept = tt
@@ -201,7 +111,7 @@ is_there l counts p target.None placed kept = tt
 -- a section of the template has its range told
 told : (l : Link) (counts : Counts) (p : Placed) (q : PlacedSection) (o : Option Range64) → TemplateHolds l counts p o
     → Contains (template_sections l p) q → is_some o ≡ true
-told l counts p q None holds there = absurd (nowhere q (subst (λ (xs : List PlacedSection). Contains xs q) holds there))
+told l counts p q None holds there = absurd (nil_contains q (subst (λ (xs : List PlacedSection). Contains xs q) holds there))
 told l counts p q (Some r) holds there = refl
 
 -- THE law.
@@ -215,5 +125,5 @@ found l counts p placed kept = record {
       (λ t asks. stub_there l counts p s r t placed carried among asks);
   aligned = λ s there. All-contains (λ (x : Slot). x.address % 8 ≡ 0) p.slots s (aligned_of placed).slots there;
   template = λ q there is. told l counts p q p.template (template_of placed)
-      (in_filter (λ x. is_template (header_at l (id_of x))) p.sections q there is);
+      (contains_filter (λ x. is_template (header_at l (id_of x))) p.sections q there is);
 }

@@ -7,11 +7,8 @@ use Rattle.std.proofs.Common.{◌≡◌, ℕ, zero, suc, ◌+◌, ◌-◌, ◌<�
 use Rattle.std.specs.Prelude.{nat_le}
 use Rattle.std.specs.Str.{bytes_eq}
 use Rattle.std.specs.List.{flat_map, enumerate_from, range_with_len, position_or_len, list_all}
-use Rattle.std.proofs.lemmas.Bool.{cases_lt, leb-true}
-use Rattle.std.proofs.lemmas.Slice.Eq.{bytes_eq-Decides}
-use Rattle.std.proofs.lemmas.List.Sums.{fails_before_first}
-use Rattle.std.proofs.lemmas.List.Elements.{Contains-append_cases, All-contains, All-filter, All-contains_itself}
-use Rattle.std.proofs.lemmas.List.Elements.{filter_passes}
+use Rattle.std.proofs.lemmas.Bool.{leb-true}
+use Rattle.std.proofs.lemmas.List.Elements.{Contains-append_cases}
 use Rattle.macho_records.specs.Symbols.{is_common_of, is_stab_of, is_weak_of, has_type, is_global}
 use Rattle.macho_model.specs.steps.RecordTests.{symbol_section_exists, relocation_number_exists}
 use Rattle.macho_records.specs.declared.symbols.SymtabEntry.{SymtabEntry}
@@ -21,22 +18,22 @@ use Rattle.macho_model.specs.declared.targets.Target.TheVariants as target
 use Rattle.macho_model.specs.Lists.{IsNumber}
 use Rattle.macho_model.specs.Objects.{num_sections, num_symbols}
 use Rattle.macho_model.specs.Grammar.{IsObject}
-use Rattle.macho_model.proofs.ObjectLaws.{object_keeps}
+use Rattle.macho_model.proofs.ObjectLaws.{object_keeps, symbol_exists}
 use Rattle.macho_model.specs.Links.{Input, Object, Dylib, Stub, Link, no_input, object_bytes, object_of, SectionId, header_at, is_carried, sections_of_file, sections_of, carried_of}
 use Rattle.macho_model.specs.Resolution.{SymbolId, Definition, Symbol, Library, ImageBase, entry_at, name_at, symbols_of_file, symbols_of, section_of_symbol, stands_in_carried, is_definition, has_name, strong_of, commons_of, greatest_of, libraries_with, definition_of, is_symbol, same_symbol, chosen_commons}
-use Rattle.macho_model.specs.steps.Resolved.{is_strong, is_weak, weak_of, DSO_HANDLE, first_or}
+use Rattle.macho_model.specs.steps.Resolved.{is_strong, is_weak, weak_of, DSO_HANDLE, first_or, first_definition}
 use Rattle.macho_model.specs.LinkLaws.{is_chosen}
 use Rattle.macho_model.specs.Needs.{relocation_in, section_named, symbol_of_relocation, imports_of}
 use Rattle.macho_model.specs.Targets.{own_target, definition_target, target_of, target_of_relocation}
-use Rattle.macho_model.proofs.EachBelow.{true_or_false, and_left, and_right, or_right, equal_is}
 use Rattle.macho_model.proofs.Words.{target_of_symbol, target_of_section}
 use Rattle.macho_fields.specs.Looks.{Leads}
 use Rattle.macho_fields.specs.Laws.{ObjectsAreWhole, LeadsInside, TargetsAreKept}
-use Rattle.macho_fields.proofs.Through.{any_default}
-use Rattle.macho_fields.proofs.Found.{below_range, split, behind, in_filter, in_map, of_map, in_flat_map, in_range}
-use Rattle.macho_fields.proofs.Nexts.{section_exists, symbol_exists}
-use Rattle.macho_model.proofs.Resolved.{definition_is_first}
-use Rattle.macho_model.specs.steps.Resolved.{first_definition}
+use Rattle.macho_fields.proofs.Found.{of_map}
+use Rattle.macho_fields.proofs.Nexts.{section_exists}
+use Rattle.macho_bytes.proofs.Bools.{true_or_false, and_left, and_right, or_right, equal_is}
+use Rattle.macho_bytes.proofs.Members.{unfilter_contains, contains_later, contains_cases, contains_map as in_map, contains_filter, contains_flat_map as in_flat_map, contains_range, range_contains, position_below}
+use Rattle.macho_model.proofs.Sections.{object_at}
+use Rattle.macho_model.proofs.Definitions.{Defines, defined_by}
 
 -- an element of joined lists is one of some list
 record IsJoined {X Y : Type 0} (f : X → List Y) (xs : List X) (y : Y) : Type 0 where
@@ -48,7 +45,7 @@ of_flat_map : {X Y : Type 0} (f : X → List Y) (xs : List X) (y : Y) → Contai
 of_flat_map f [] y h = absurd (omega (arith, h.1))
 of_flat_map f (x ∷ xs) y h = elim (Contains-append_cases (f x) (flat_map f xs) y h) [
   | inl own ↦ record { of = x; there = (0, omega arith, refl); here = own }
-  | inr rest ↦ let j = of_flat_map f xs y rest in record { of = j.of; there = behind x xs j.of j.there; here = j.here }
+  | inr rest ↦ let j = of_flat_map f xs y rest in record { of = j.of; there = contains_later x xs j.of j.there; here = j.here }
 ]
 
 -- numbered elements
@@ -61,7 +58,7 @@ in_enumerate {X} a (y ∷ xs) zero x h =
 in_enumerate {X} a (y ∷ xs) (suc k) x h =
     let n : a + 1 + k ≡ a + suc k = omega arith in
     subst (λ (m : ℕ). Contains ((a, y) ∷ enumerate_from (a + 1) xs) (m, x)) n
-    (behind (a, y) (enumerate_from (a + 1) xs) (a + 1 + k, x) (in_enumerate (a + 1) xs k x (omega (arith, h.0), h.1)))
+    (contains_later (a, y) (enumerate_from (a + 1) xs) (a + 1 + k, x) (in_enumerate (a + 1) xs k x (omega (arith, h.0), h.1)))
 
 record IsEnumerated {X : Type 0} (a : ℕ) (xs : List X) (i : ℕ × X) : Type 0 where
   number : ℕ
@@ -70,7 +67,7 @@ record IsEnumerated {X : Type 0} (a : ℕ) (xs : List X) (i : ℕ × X) : Type 0
 
 of_enumerate : {X : Type 0} (a : ℕ) (xs : List X) (i : ℕ × X) → Contains (enumerate_from a xs) i → IsEnumerated a xs i
 of_enumerate a [] i h = absurd (omega (arith, h.1))
-of_enumerate {X} a (y ∷ xs) i h = elim (split (a, y) (enumerate_from (a + 1) xs) i h) [
+of_enumerate {X} a (y ∷ xs) i h = elim (contains_cases (a, y) (enumerate_from (a + 1) xs) i h) [
   | inl is ↦ record { number = 0; is = sym (ap (λ (j : ℕ × X). j.0) is) ∙ omega arith; there = (omega arith, ap (λ (j : ℕ × X). j.1) is) }
   | inr rest ↦
       let e = of_enumerate (a + 1) xs i rest in
@@ -82,9 +79,6 @@ record IsFileOf (l : Link) (file : ℕ) : Type 0 where
   bytes : List ℕ
   number : IsNumber l.inputs file (Object bytes)
 
-bytes_of_file : (l : Link) (file : ℕ) (bytes : List ℕ) → IsNumber l.inputs file (Object bytes) → object_of l file ≡ bytes
-bytes_of_file l file bytes n = ap object_bytes (any_default l.inputs file no_input (Object bytes) n.0 ∙ n.1)
-
 -- its sections are those of the link
 in_sections : (l : Link) (file : ℕ) (bytes : List ℕ) (k : ℕ) → IsNumber l.inputs file (Object bytes) → k < num_sections bytes
     → Contains (sections_of l) (record { file = file; section = k })
@@ -93,7 +87,8 @@ in_sections l file bytes k n lt =
     let i = in_enumerate 0 l.inputs file (Object bytes) n in
     let zero_file : 0 + file ≡ file = omega arith in
     let here : Contains (sections_of_file file (Object bytes)) (record { file = file; section = k }) =
-    in_map (λ m. record { file = file; section = m }) (range_with_len 0 (num_sections bytes)) k (in_range (num_sections bytes) k lt) in
+    in_map (λ m. record { file = file; section = m }) (range_with_len 0 (num_sections bytes)) k
+    (contains_range (num_sections bytes) k lt) in
     in_flat_map (λ j. sections_of_file j.0 j.1) (enumerate_from 0 l.inputs) (file, Object bytes) (record { file = file; section = k })
     (subst (λ (m : ℕ). Contains (enumerate_from 0 l.inputs) (m, Object bytes)) zero_file i) here
 
@@ -105,10 +100,10 @@ object_of_section l s file (Object bytes) n h =
     let m = of_map (λ k. record { file = file; section = k }) (range_with_len 0 (num_sections bytes)) s h in
     let same : file ≡ s.file = ap (λ (t : SectionId). t.file) m.is in
     let number = ap (λ (t : SectionId). t.section) m.is in
-    let lt = below_range (num_sections bytes) m.of m.there in (
+    let lt = range_contains (num_sections bytes) m.of m.there in (
       record { bytes = bytes; number = subst (λ (f : ℕ). IsNumber l.inputs f (Object bytes)) same n },
       subst (λ (f : ℕ). s.section < num_sections (object_of l f)) same
-          (subst (λ (b : List ℕ). s.section < num_sections b) (sym (bytes_of_file l file bytes n))
+          (subst (λ (b : List ℕ). s.section < num_sections b) (sym (object_at l file bytes n))
           (subst (λ (k : ℕ). k < num_sections bytes) number lt)),
     )
 
@@ -129,10 +124,10 @@ object_of_symbol l s file (Object bytes) n h =
     let m = of_map (λ k. record { file = file; symbol = k }) (range_with_len 0 (num_symbols bytes)) s h in
     let same : file ≡ s.file = ap (λ (t : SymbolId). t.file) m.is in
     let number = ap (λ (t : SymbolId). t.symbol) m.is in
-    let lt = below_range (num_symbols bytes) m.of m.there in (
+    let lt = range_contains (num_symbols bytes) m.of m.there in (
       record { bytes = bytes; number = subst (λ (f : ℕ). IsNumber l.inputs f (Object bytes)) same n },
       subst (λ (f : ℕ). s.symbol < num_symbols (object_of l f)) same
-          (subst (λ (b : List ℕ). s.symbol < num_symbols b) (sym (bytes_of_file l file bytes n))
+          (subst (λ (b : List ℕ). s.symbol < num_symbols b) (sym (object_at l file bytes n))
           (subst (λ (k : ℕ). k < num_symbols bytes) number lt)),
     )
 
@@ -148,19 +143,12 @@ in_carried : (l : Link) (s : SectionId) → IsFileOf l s.file → s.section < nu
     → is_carried (header_at l s) ≡ true → Contains (carried_of l) s
 unfolding carried_of
 in_carried l s f lt is =
-    in_filter (λ t. is_carried (header_at l t)) (sections_of l) s
+    contains_filter (λ t. is_carried (header_at l t)) (sections_of l) s
     (in_sections l s.file f.bytes s.section f.number (subst (λ (b : List ℕ). s.section < num_sections b)
-    (bytes_of_file l s.file f.bytes f.number) lt)) is
+    (object_at l s.file f.bytes f.number) lt)) is
 
 whole : (l : Link) (file : ℕ) → ObjectsAreWhole l → IsFileOf l file → IsObject (object_of l file)
-whole l file objects f = subst IsObject (sym (bytes_of_file l file f.bytes f.number)) (objects.each file f.bytes f.number)
-
--- what a symbol leads to by itself
-position_below : {X : Type 0} (test : X → Bool) (xs : List X) (x : X) → Contains xs x → test x ≡ true → position_or_len test xs < length xs
-position_below test xs x h passes = elim (cases_lt h.0 (position_or_len test xs)) [
-  | inl before ↦ absurd (true_or_false (test x) passes (sym (ap test h.2) ∙ fails_before_first test xs h.0 x before))
-  | inr behind_it ↦ omega (arith, behind_it, h.1)
-]
+whole l file objects f = subst IsObject (sym (object_at l file f.bytes f.number)) (objects.each file f.bytes f.number)
 
 own_inside : (l : Link) (s : SymbolId) → ObjectsAreWhole l → IsFileOf l s.file → s.symbol < num_symbols (object_of l s.file)
     → (is_common_of (entry_at l s) ≡ true → Contains (chosen_commons l) s) → LeadsInside l (own_target l s)
@@ -189,92 +177,6 @@ own_inside l s objects f among chosen = by (stands_in_carried l s) (has_type N_A
         (rw (equal_is s.file s.file refl, equal_is s.symbol s.symbol refl) refl)
     by false false false stands common = tt
 
--- the symbol that defines a name
-record Defines (l : Link) (name : List ℕ) (s : SymbolId) : Type 0 where
-  there : Contains (symbols_of l) s
-  global : is_global (entry_at l s) ≡ true
-  named : name_at l s ≡ name
-
--- the first of some definitions, or another one
-first_symbol : (xs : List SymbolId) (other : Option Definition) (s : SymbolId) → first_or (map Symbol xs) other ≡ Some (Symbol s)
-    → Contains xs s ⊎ (other ≡ Some (Symbol s))
-first_symbol [] other s h = inr h
-first_symbol (x ∷ xs) other s h = let same : x ≡ s = cc in inl (0, omega arith, same)
-
-no_library : (xs : List ℕ) (other : Option Definition) (s : SymbolId) → first_or (map Library xs) other ≡ Some (Symbol s)
-    → other ≡ Some (Symbol s)
-no_library [] other s h = h
-no_library (x ∷ xs) other s h = absurd (cc)
-
-no_base : (b : Bool) (s : SymbolId) → (if b then Some ImageBase else None) ≡ Some (Symbol s) → ⊥
-no_base true s h = cc
-no_base false s h = cc
-
-name_is : (l : Link) (name : List ℕ) (s : SymbolId) → has_name l name s ≡ true → name_at l s ≡ name
-name_is l name s h = (bytes_eq-Decides (name_at l s) name).0 h
-
--- an element that was kept passes
-passes_filter : {X : Type 0} (test : X → Bool) (xs : List X) (x : X) → Contains (filter test xs) x → test x ≡ true
-passes_filter test xs x h = All-contains (λ y. test y ≡ true) (filter test xs) x (filter_passes test xs) h
-
-in_unfiltered : {X : Type 0} (test : X → Bool) (xs : List X) (x : X) → Contains (filter test xs) x → Contains xs x
-in_unfiltered test xs x h = All-contains (Contains xs) (filter test xs) x (All-filter test (Contains xs) xs (All-contains_itself xs)) h
-
--- a common is global
-common_global : (stab external undefined some : Bool) → (not stab && undefined && external && some) ≡ true → (not stab && external) ≡ true
-common_global true external undefined some h = absurd (true_or_false false h refl)
-common_global false true undefined some h = refl
-common_global false false true some h = absurd (true_or_false false h refl)
-common_global false false false some h = absurd (true_or_false false h refl)
-
-of_strong : (l : Link) (name : List ℕ) (s : SymbolId) → Contains (strong_of l name) s → Defines l name s
-unfolding strong_of
-of_strong l name s h =
-    let test = passes_filter (λ t. is_strong l t && has_name l name t) (symbols_of l) s h in
-    record {
-      there = in_unfiltered (λ t. is_strong l t && has_name l name t) (symbols_of l) s h;
-      global = and_left (is_global (entry_at l s)) (stands_in_carried l s || has_type N_ABS (entry_at l s))
-          (and_left (is_definition l s) (not (is_weak_of (entry_at l s))) (and_left (is_strong l s) (has_name l name s) test));
-      named = name_is l name s (and_right (is_strong l s) (has_name l name s) test);
-    }
-
-of_weak : (l : Link) (name : List ℕ) (s : SymbolId) → Contains (weak_of l name) s → Defines l name s
-unfolding weak_of
-of_weak l name s h =
-    let test = passes_filter (λ t. is_weak l t && has_name l name t) (symbols_of l) s h in
-    record {
-      there = in_unfiltered (λ t. is_weak l t && has_name l name t) (symbols_of l) s h;
-      global = and_left (is_global (entry_at l s)) (stands_in_carried l s || has_type N_ABS (entry_at l s))
-          (and_left (is_definition l s) (is_weak_of (entry_at l s)) (and_left (is_weak l s) (has_name l name s) test));
-      named = name_is l name s (and_right (is_weak l s) (has_name l name s) test);
-    }
-
-of_common : (l : Link) (name : List ℕ) (s : SymbolId) → Contains (greatest_of l name) s → Defines l name s
-unfolding greatest_of commons_of
-of_common l name s h =
-    let common = in_unfiltered (λ t. list_all (λ u. nat_le (entry_at l u).n_value (entry_at l t).n_value) (commons_of l name))
-    (commons_of l name) s h in
-    let test = passes_filter (λ t. is_common_of (entry_at l t) && has_name l name t) (symbols_of l) s common in
-    record {
-      there = in_unfiltered (λ t. is_common_of (entry_at l t) && has_name l name t) (symbols_of l) s common;
-      global = common_global (is_stab_of (entry_at l s)) (has_any N_EXT (entry_at l s).n_type) _ _
-          (and_left (is_common_of (entry_at l s)) (has_name l name s) test);
-      named = name_is l name s (and_right (is_common_of (entry_at l s)) (has_name l name s) test);
-    }
-
-defines_name : (l : Link) (name : List ℕ) (s : SymbolId) → definition_of l name ≡ Some (Symbol s) → Defines l name s
-unfolding first_definition
-defines_name l name s h = elim (first_symbol (strong_of l name) _ s (sym (definition_is_first l name) ∙ h)) [
-  | inl strong ↦ of_strong l name s strong
-  | inr h1 ↦ elim (first_symbol (weak_of l name) _ s h1) [
-    | inl weak ↦ of_weak l name s weak
-    | inr h2 ↦ elim (first_symbol (greatest_of l name) _ s h2) [
-      | inl common ↦ of_common l name s common
-      | inr h3 ↦ absurd (no_base (bytes_eq name DSO_HANDLE) s (no_library (libraries_with l name) _ s h3))
-    ]
-  ]
-]
-
 -- a common that defines its name is chosen
 is_chosen_one : (l : Link) (name : List ℕ) (s : SymbolId) → definition_of l name ≡ Some (Symbol s) → Defines l name s
     → is_common_of (entry_at l s) ≡ true
@@ -284,7 +186,7 @@ is_chosen_one l name s is d common =
     let own : definition_of l (name_at l s) ≡ Some (Symbol s) = ap (definition_of l) d.named ∙ is in
     let same : same_symbol s s ≡ true = rw (equal_is s.file s.file refl, equal_is s.symbol s.symbol refl) refl in
     let names : is_symbol s (definition_of l (name_at l s)) ≡ true = ap (is_symbol s) own ∙ same in
-    in_filter (is_chosen l) (symbols_of l) s d.there (rw (common, d.global, names) refl)
+    contains_filter (is_chosen l) (symbols_of l) s d.there (rw (common, d.global, names) refl)
 
 name_inside : (l : Link) (name : List ℕ) (o : Option Definition) → ObjectsAreWhole l → definition_of l name ≡ o
     → LeadsInside l (definition_target l (imports_of l) name o)
@@ -292,7 +194,7 @@ name_inside l name None objects is = tt
 name_inside l name (Some (Library file)) objects is = tt
 name_inside l name (Some ImageBase) objects is = tt
 name_inside l name (Some (Symbol s)) objects is =
-    let d = defines_name l name s is in
+    let d = defined_by l name s is in
     let f = file_of_symbol l s d.there in
     own_inside l s objects f.0 f.1 (is_chosen_one l name s is d)
 
@@ -324,7 +226,7 @@ unfolding target_of_relocation carried_of
 relocation_inside l s r objects leads = by (relocation_in l s r).r_extern refl
   where
     f : IsFileOf l s.file × (s.section < num_sections (object_of l s.file))
-    f = file_of_section l s (in_unfiltered (λ t. is_carried (header_at l t)) (sections_of l) s leads.carried)
+    f = file_of_section l s (unfilter_contains (λ t. is_carried (header_at l t)) (sections_of l) s leads.carried)
 
     exists : relocation_number_exists (object_of l s.file) s.section r ≡ true
     exists = (object_keeps (whole l s.file objects f.0)).o5.1 s.section r f.1 leads.among

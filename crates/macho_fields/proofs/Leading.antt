@@ -21,11 +21,10 @@ use Rattle.macho_model.specs.Meaning.{address}
 use Rattle.macho_model.specs.Placement.{Placed}
 use Rattle.macho_model.specs.Addresses.{address_of, slot_address}
 use Rattle.macho_model.specs.Values.{BadRange, BadRebase, less, fits_signed, page_reaches, IsNotEncodable}
-use Rattle.macho_model.proofs.EachBelow.{true_or_false}
 use Rattle.macho_fixups.specs.declared.run.Fixup.{Fixup}
 use Rattle.macho_fixups.specs.declared.words.FixupKind.{FixupKind}
-use Rattle.macho_parts.specs.Filled.{StubIsSet}
-use Rattle.macho_parts.specs.Asked.{slot_fixup}
+use Rattle.macho_promise.specs.Filled.{StubIsSet}
+use Rattle.macho_promise.specs.Asked.{slot_fixup}
 use Rattle.macho_fields.specs.declared.fault.FillFault.{FillFault}
 use Rattle.macho_fields.specs.declared.fault.FillFault.TheVariants.{Range, Rebase, Place, Unsupported, OutOfMemory}
 use Rattle.macho_fields.specs.Looks.{Look, Tells, TellsAddresses}
@@ -36,7 +35,9 @@ use Rattle.macho_fields.specs.steps.Stubs.{slot_in, IsOutOfReach, IsNoStub, Stub
 use Rattle.macho_fields.proofs.Placing.{stands_at, stands_only, slot_looked, slot_looked_only}
 use Rattle.macho_fields.proofs.Reaching.{slot_aligned}
 use Rattle.macho_fields.proofs.Asked.{kind_same, encodable_is, not_encodable}
-use Rattle.macho_fields.proofs.Through.{any_default}
+use Rattle.macho_bytes.proofs.Bools.{true_or_false}
+use Rattle.macho_arm64.proofs.ReachLaws.{out_of_33}
+use Rattle.macho_bytes.proofs.Comparing.{read_alike}
 
 -- the stubs are set
 pub stubs_set : (p : Placed) (look : Look) (stubs : List Stub) (out : List ℕ) → TellsAddresses p look → StubsAreFound p → stubs ≡ p.stubs
@@ -65,12 +66,8 @@ near_reaches place slot behind near =
     let test : nat_lt (v % 2 ^ 64) (2 ^ 32) ≡ true = grind (arith, nat_tests) in
     rw test refl
 
--- a slot that is further behind a stub's page, and not nearly 2 ^ 64, is out of reach
-out_of_reach : (n : ℕ) → 2 ^ 32 ≤ n → n + 2 ^ 32 < 2 ^ 64 → fits_signed 33 n ≡ false
-out_of_reach n from to = grind (arith, nat_tests)
-
 too_far : (place slot : ℕ) → page place + 2 ^ 32 ≤ slot → slot + 2 ^ 32 < 2 ^ 64 + page place → page_reaches place slot ≡ false
-too_far place slot far low = out_of_reach (less (page (address slot)) (page place)) (omega arith) (omega arith)
+too_far place slot far low = out_of_33 (less (page (address slot)) (page place)) (omega arith) (omega arith)
 
 -- none is far
 pub none_far : (l : Link) (p : Placed) (look : Look) (stubs : List Stub) (out : List ℕ) → TellsAddresses p look → StubsAreFound p
@@ -113,7 +110,7 @@ stub_stands l p look stubs fault tells found same some = by fault (some.is no_st
 
     number : IsNumber p.stubs some.number s
     number =
-        subst (λ (xs : List Stub). IsNumber xs some.number s) same (some.among, any_default stubs some.number s no_stub some.among)
+        subst (λ (xs : List Stub). IsNumber xs some.number s) same (some.among, read_alike stubs some.number s no_stub some.among)
 
     slot : ℕ
     slot = slot_in look s

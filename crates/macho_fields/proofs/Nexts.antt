@@ -4,29 +4,26 @@
 -- or section exists, and that its bytes stand inside the section.
 use Rattle.std.proofs.Common.{◌≡◌, ℕ, zero, suc, ◌+◌, ◌-◌, ◌^◌, ◌<◌, ◌≤◌, ◌==◌, ◌&&◌, ◌||◌, not, true, false, Bool, List, refl, sym, ap, subst, ◌∙◌, arith, inl, inr, ◌⊎◌, length}
 use Rattle.std.specs.Prelude.{nat_lt, nat_le, slice_range}
-use Rattle.std.proofs.lemmas.Bool.{ltb-true, leb-true}
+use Rattle.std.proofs.lemmas.Bool.{leb-true}
 use Rattle.macho_model.specs.steps.RecordTests.{relocation_number_exists}
 use Rattle.macho_records.specs.Sections.{type_of, is_zerofill}
 use Rattle.macho_records.specs.declared.constants.TheConstants.{S_THREAD_LOCAL_VARIABLES}
-use Rattle.macho_structs.specs.declared.relocations.RelocationInfo.{RelocationInfo}
+use Rattle.macho_wire.specs.declared.relocations.RelocationInfo.{RelocationInfo}
 use Rattle.macho_model.specs.declared.placed.PlacedSection.{PlacedSection}
 use Rattle.macho_model.specs.declared.targets.Target.{Target}
 use Rattle.macho_model.specs.declared.targets.Target.TheVariants as target
 use Rattle.macho_model.specs.Objects.{num_sections, num_symbols, section_at, section_bytes, relocation_at}
 use Rattle.macho_model.specs.Grammar.{IsFile}
 use Rattle.macho_model.specs.ObjectLaws.{KeepsObjectRules}
-use Rattle.macho_model.proofs.ObjectLaws.{object_keeps}
+use Rattle.macho_model.proofs.ObjectLaws.{symbol_exists}
 use Rattle.macho_model.specs.Links.{Link, SectionId, object_of, header_at}
 use Rattle.macho_model.specs.Needs.{relocation_in}
 use Rattle.macho_model.specs.Targets.{target_of_relocation, is_defined, is_import}
 use Rattle.macho_model.specs.Fields.{Field, field_of, content_of, has_subtrahend, is_difference, is_prefix_type}
 use Rattle.macho_model.specs.Rows.{is_none, is_supported, difference_fits, has_form, begins_pair}
-use Rattle.macho_model.specs.Supported.{addend_fits}
+use Rattle.macho_model.specs.Supported.{addend_fits, RelocationsAreSupported}
 use Rattle.macho_model.specs.Stands.{Kind, Pointer, Difference, Branch, Page, Offset, SlotPage, SlotOffset, SlotDistance, NoKind}
 use Rattle.macho_model.specs.Placement.{Placed, id_of}
-use Rattle.macho_model.specs.Supported.{RelocationsAreSupported}
-use Rattle.macho_model.proofs.EachBelow.{true_or_false, and_left, and_right, or_right, is_equal}
-use Rattle.std.proofs.lemmas.List.Edits.{length-between}
 use Rattle.macho_fixups.specs.declared.run.Fixup.{Fixup}
 use Rattle.macho_fields.specs.declared.field.Field as read
 use Rattle.macho_fields.specs.declared.field.Near.{Near}
@@ -48,6 +45,7 @@ use Rattle.macho_fields.proofs.One.{one_stands}
 use Rattle.macho_fields.proofs.Steps.{filled_none, filled_prefix, filled_field}
 use Rattle.macho_fields.proofs.Still.{IsStill, still_behind, still_alone}
 use Rattle.macho_fields.proofs.Ends.{Behind}
+use Rattle.macho_bytes.proofs.Bools.{true_or_false, and_left, and_right, is_equal}
 
 -- a field that fits its kind leads somewhere
 import_some : (t : Target) → is_import t ≡ true → is_none t ≡ false
@@ -122,12 +120,6 @@ subtractor_type l s r h =
     let front = and_left ((q.r_type == 1) && (rel.r_type == 0) && (q.r_address == rel.r_address)) (q.r_length == rel.r_length) both in
     is_equal q.r_type 1 (and_left (q.r_type == 1) (rel.r_type == 0)
     (and_left ((q.r_type == 1) && (rel.r_type == 0)) (q.r_address == rel.r_address) front))
-
--- what a relocation names is there
-pub symbol_exists : (b : List ℕ) (k r : ℕ) → relocation_number_exists b k r ≡ true → (relocation_at b k r).r_extern ≡ true
-    → (relocation_at b k r).r_symbolnum < num_symbols b
-symbol_exists b k r h extern =
-    let test : nat_lt (relocation_at b k r).r_symbolnum (num_symbols b) ≡ true = rw extern at h in ltb-true _ _ test
 
 pub section_exists : (b : List ℕ) (k r : ℕ) → relocation_number_exists b k r ≡ true → ((relocation_at b k r).r_type == 10) ≡ false
     → (relocation_at b k r).r_extern ≡ false
@@ -244,10 +236,6 @@ inside_all l q b same =
 fillable : (l : Link) (p : Placed) (q : PlacedSection) (look : Look) (b : List ℕ) → IsToFill l p q look b → IsFillable l p q look
 fillable l p q look b fill = record { found = fill.found; tells = fill.tells; carried = fill.carried; here = fill.here }
 
-among_in : (l : Link) (q : PlacedSection) (b : List ℕ) (r : ℕ) → object_of l q.file ≡ b → r < (section_at b q.section).nreloc
-    → r < (header_at l (id_of q)).nreloc
-among_in l q b r same lt = subst (λ (m : List ℕ). r < (section_at m q.section).nreloc) (sym same) lt
-
 -- The next field by where the section comes from.
 pub next_of : (l : Link) (p : Placed) (look : Look) (s : Source) (r : ℕ) (old : List ℕ) (n : Near) (f : read.Field)
     → IsSource s → IsToFill l p s.place look s.file.now.bytes → r < (section_at s.file.now.bytes s.place.section).nreloc
@@ -333,19 +321,3 @@ pub behind_last : (l : Link) (p : Placed) (q : PlacedSection) (b : List ℕ) (as
     → IsFilledTo l p q (section_at b q.section).nreloc asked text run → Behind l p q asked text run
 behind_last l p q b asked text run same filled =
     subst (λ (m : List ℕ). IsFilledTo l p q (section_at m q.section).nreloc asked text run) (sym same) filled
-
--- the bytes of a section that has them in the file
-pub section_long : (b : List ℕ) (k : ℕ) → KeepsObjectRules b → k < num_sections b → is_zerofill (section_at b k) ≡ false
-    → length (section_bytes b k) ≡ (section_at b k).size
-unfolding section_bytes
-section_long b k object among filled =
-    let h = section_at b k in
-    let end = h.offset + h.size in
-    let inside = leb-true end (length b) (or_right (is_zerofill h) (nat_le end (length b))
-    (and_left (is_zerofill h || nat_le end (length b)) _ (object.o6 k among)) filled) in
-    let long : length (slice_range b h.offset end) ≡ h.size = omega (arith, inside, length-between b h.offset end) in
-    rw filled long
-
-pub object_kept : (dyn : Bool) (b : List ℕ) → dyn ≡ false → IsFile dyn b → KeepsObjectRules b
-object_kept dyn b static kept =
-    let whole : IsFile false b = subst (λ (d : Bool). IsFile d b) static kept in object_keeps whole

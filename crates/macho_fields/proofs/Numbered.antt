@@ -5,9 +5,10 @@
 use Rattle.std.proofs.Common.{◌≡◌, ℕ, zero, suc, ◌+◌, ◌<◌, true, false, Bool, List, [], ◌∷◌, ◌++◌, map, filter, All, Contains, refl, sym, ap, subst, ◌∙◌, arith, inl, inr, ◌⊎◌, cond}
 use Rattle.std.specs.List.{range_with_len}
 use Rattle.std.proofs.lemmas.Bool.{cases_lt}
-use Rattle.std.proofs.lemmas.List.FromFn.{map-range_with_len_more}
 use Rattle.std.proofs.lemmas.List.Elements.{filter-append, Contains-append_left, Contains-append_right, Contains-append_cases, Contains-push_cases, All-weaker, All-contains_itself}
-use Rattle.std.proofs.lemmas.List.{map-append, map-id}
+use Rattle.std.proofs.lemmas.List.{map-append}
+use Rattle.macho_bytes.proofs.Maps.{range_push}
+use Rattle.macho_bytes.proofs.Members.{nil_contains}
 
 -- one element where a test holds, else none
 abbrev pub one_if : {X : Type 0} → Bool → X → List X
@@ -17,17 +18,12 @@ one_if false x = []
 abbrev pub chosen : {X : Type 0} → (ℕ → X) → (ℕ → Bool) → ℕ → List X
 chosen f test n = map f (filter test (range_with_len 0 n))
 
-range_more : (n : ℕ) → range_with_len 0 (n + 1) ≡ range_with_len 0 n ++ n ∷ []
-range_more n =
-    sym (map-id (range_with_len 0 (n + 1))) ∙ map-range_with_len_more (λ (k : ℕ). k) 0 n n (omega arith)
-    ∙ ap (λ (t : List ℕ). t ++ n ∷ []) (map-id (range_with_len 0 n))
-
 filtered_one : {X : Type 0} (f : ℕ → X) (test : ℕ → Bool) (n : ℕ) → map f (filter test (n ∷ [])) ≡ one_if (test n) (f n)
 filtered_one f test n = elim (test n) as (λ (b : Bool). map f (cond b (n ∷ []) []) ≡ one_if b (f n)) [ true ↦ refl | false ↦ refl ]
 
 pub chosen_more : {X : Type 0} (f : ℕ → X) (test : ℕ → Bool) (n : ℕ) → chosen f test (n + 1) ≡ chosen f test n ++ one_if (test n) (f n)
 chosen_more f test n =
-    ap (λ (t : List ℕ). map f (filter test t)) (range_more n) ∙ ap (map f) (filter-append test (range_with_len 0 n) (n ∷ []))
+    ap (λ (t : List ℕ). map f (filter test t)) (range_push n) ∙ ap (map f) (filter-append test (range_with_len 0 n) (n ∷ []))
     ∙ map-append f (filter test (range_with_len 0 n)) (filter test (n ∷ []))
     ∙ ap (λ (t : List _). chosen f test n ++ t) (filtered_one f test n)
 
@@ -54,15 +50,12 @@ pub record IsChosen {X : Type 0} (f : ℕ → X) (test : ℕ → Bool) (n : ℕ)
   pub passes : test number ≡ true
   pub is : f number ≡ x
 
-none_of : {X : Type 0} (x : X) → Contains [] x → ⊥
-none_of x h = absurd (omega (arith, h.1))
-
 one_of : {X : Type 0} (b : Bool) (y x : X) → Contains (one_if b y) x → (b ≡ true) × (y ≡ x)
-one_of true y x h = (refl, elim (Contains-push_cases [] y x h) [ inl before ↦ absurd (none_of x before) | inr is ↦ is ])
-one_of false y x h = absurd (none_of x h)
+one_of true y x h = (refl, elim (Contains-push_cases [] y x h) [ inl before ↦ absurd (nil_contains x before) | inr is ↦ is ])
+one_of false y x h = absurd (nil_contains x h)
 
 pub chosen_of : {X : Type 0} (f : ℕ → X) (test : ℕ → Bool) (n : ℕ) (x : X) → Contains (chosen f test n) x → IsChosen f test n x
-chosen_of f test zero x h = absurd (none_of x h)
+chosen_of f test zero x h = absurd (nil_contains x h)
 chosen_of f test (suc n) x h =
     let next : suc n ≡ n + 1 = omega arith in
     let more : chosen f test (suc n) ≡ chosen f test n ++ one_if (test n) (f n) = ap (chosen f test) next ∙ chosen_more f test n in

@@ -20,16 +20,16 @@ use Rattle.macho_model.specs.Objects.{num_sections}
 use Rattle.macho_model.specs.Links.{Input, Object, Dylib, Stub as StubInput, Link, SectionId, header_at, is_carried, sections_of_file, sections_of, carried_of}
 use Rattle.macho_model.specs.Resolution.{chosen_commons}
 use Rattle.macho_model.specs.Needs.{distinct}
-use Rattle.macho_model.specs.Uses.{uses_of}
+use Rattle.macho_model.specs.Uses.{uses_of, slot_of_use, stub_of_use}
 use Rattle.macho_model.specs.Targets.{same_target}
-use Rattle.macho_model.specs.Uses.{slot_of_use, stub_of_use}
 use Rattle.macho_model.specs.Placement.{Placed, IsPlaced, id_of}
 use Rattle.macho_model.specs.Lists.{of_first}
 use Rattle.macho_model.specs.Addresses.{section_address, common_address, slot_address}
-use Rattle.macho_model.proofs.EachBelow.{true_or_false, and_left, and_right, is_equal, equal_is, unequal_is}
 use Rattle.macho_fields.specs.Looks.{stub_address, IsPlacedOnce}
 use Rattle.macho_model.proofs.Uses.{slots_are, stubs_are}
 use Rattle.macho_model.proofs.Parts.{same_order}
+use Rattle.macho_bytes.proofs.Bools.{true_or_false, equal_is, unequal_is}
+use Rattle.macho_model.proofs.SameTargets.{same_target_is, target_itself}
 
 -- how many elements pass a test
 abbrev pub one : Bool → ℕ
@@ -168,28 +168,6 @@ carried_once l s =
           (flat_map (λ i. sections_of_file i.0 i.1) (enumerate_from 0 l.inputs)),
       (count_files s 0 l.inputs).0,
     )
-
--- targets are the same where the test says so
-pub same_target_is : (a b : Target) → same_target a b ≡ true → a ≡ b
-same_target_is (target.Section f s o) (target.Section g t q) h =
-    let front = and_left ((f == g) && (s == t)) (o == q) h in
-    ap (λ (n : ℕ). target.Section n s o) (is_equal f g (and_left (f == g) (s == t) front))
-    ∙ ap (λ (n : ℕ). target.Section g n o) (is_equal s t (and_right (f == g) (s == t) front))
-    ∙ ap (λ (n : ℕ). target.Section g t n) (is_equal o q (and_right ((f == g) && (s == t)) (o == q) h))
-same_target_is (target.Common i) (target.Common j) h = ap (λ (n : ℕ). target.Common n) (is_equal i j h)
-same_target_is (target.Import i) (target.Import j) h = ap (λ (n : ℕ). target.Import n) (is_equal i j h)
-same_target_is target.Base target.Base h = refl
-same_target_is (target.Absolute v) (target.Absolute w) h = ap (λ (n : ℕ). target.Absolute n) (is_equal v w h)
-same_target_is target.None target.None h = refl
-same_target_is a b h = absurd (true_or_false false h refl)
-
-target_itself : (a : Target) → same_target a a ≡ true
-target_itself (target.Section f s o) = rw (equal_is f f refl, equal_is s s refl, equal_is o o refl) refl
-target_itself (target.Common i) = equal_is i i refl
-target_itself (target.Import i) = equal_is i i refl
-target_itself target.Base = refl
-target_itself (target.Absolute v) = equal_is v v refl
-target_itself target.None = refl
 
 -- a target stands once where repeats are taken out
 turned : (t x : Target) (c : Bool) → same_target x t ≡ c → same_target t x ≡ false → same_target x t ≡ false

@@ -12,13 +12,12 @@ use Rattle.macho_model.specs.Placement.{Placed, id_of}
 use Rattle.macho_model.specs.Addresses.{address_of, section_address}
 use Rattle.macho_model.specs.Stands.{Kind, Pointer, Difference, Branch, Page, Offset, SlotPage, SlotOffset, SlotDistance, NoKind, SectionAt}
 use Rattle.macho_model.specs.Values.{needs_fixup, IsNotEncodable, FieldOf, DoesNotFit, BadRange, BadRebase}
-use Rattle.macho_model.proofs.EachBelow.{true_or_false}
 use Rattle.macho_fixups.specs.declared.run.Fixup.{Fixup}
 use Rattle.macho_fixups.specs.declared.words.FixupKind.{FixupKind}
 use Rattle.macho_arm64.specs.Fields.{width_of}
 use Rattle.macho_arm64.specs.Laws.{size_for}
-use Rattle.macho_parts.specs.Filled.{FieldIsSet}
-use Rattle.macho_parts.specs.Asked.{field_fixup}
+use Rattle.macho_promise.specs.Filled.{FieldIsSet}
+use Rattle.macho_promise.specs.Asked.{field_fixup}
 use Rattle.macho_fields.specs.declared.fault.FillFault.{FillFault}
 use Rattle.macho_fields.specs.declared.fault.FillFault.TheVariants.{Range, Rebase, Place, Unsupported, OutOfMemory}
 use Rattle.macho_fields.specs.Looks.{Look, IsThere, IsPlacedOnce}
@@ -34,6 +33,7 @@ use Rattle.macho_fields.proofs.Placing.{stands_at, stands_only}
 use Rattle.macho_fields.proofs.Saying.{says_by_kind}
 use Rattle.macho_fields.proofs.Reaching.{fits_by_kind, unfit_by_kind, has_field_by_kind}
 use Rattle.macho_fields.proofs.Asked.{asks_same, asked_kind, unasked_target, start_is, kind_same, encodable_is, not_encodable, stands_well, stands_badly}
+use Rattle.macho_bytes.proofs.Bools.{true_or_false}
 
 -- a field needs a fixup where it is asked for
 needs_by : (l : Link) (p : Placed) (q : PlacedSection) (look : Look) (descriptors : Bool) (r : ℕ) (old : List ℕ) (b : Bool)

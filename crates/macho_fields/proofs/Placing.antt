@@ -12,11 +12,11 @@ use Rattle.macho_model.specs.Rows.{is_none}
 use Rattle.macho_model.specs.Placement.{Placed}
 use Rattle.macho_model.specs.Addresses.{section_address, common_address, slot_address, address_of}
 use Rattle.macho_model.specs.Stands.{IsAt, SlotAt, CallIsAt, LoadIsAt}
-use Rattle.macho_model.proofs.EachBelow.{true_or_false}
 use Rattle.macho_fields.specs.Looks.{Look, TellsAddresses, IsThere, HasSlot, HasStub, IsPlacedOnce, stub_address, address_in}
 use Rattle.macho_fields.specs.steps.Fields.{call_in, load_in}
 use Rattle.macho_fields.specs.steps.Kinds.{IsInImage, IsCallable, IsLoadable, direct, by_stub, by_slot}
 use Rattle.macho_model.specs.steps.Stands.{StubAt}
+use Rattle.macho_bytes.proofs.Bools.{true_or_false}
 
 -- the address that is looked up is the placement's
 pub address_told : (p : Placed) (look : Look) (t : Target) → TellsAddresses p look → address_in look t ≡ address_of p t

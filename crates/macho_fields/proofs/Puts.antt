@@ -13,8 +13,8 @@ use Rattle.macho_model.proofs.Memory.{le_at-between}
 use Rattle.macho_arm64.specs.declared.kinds.FieldSize.{FieldSize}
 use Rattle.macho_arm64.specs.declared.kinds.FieldSize.TheVariants.{Bytes, Adr, JumpCall, Low12}
 use Rattle.macho_arm64.specs.Fields.{width_of, is_field}
-use Rattle.macho_model.proofs.EachBelow.{either, is_equal}
 use Rattle.macho_fields.specs.steps.Writes.{ChangesOnly}
+use Rattle.macho_bytes.proofs.Bools.{either, is_equal}
 
 -- a field has at least 4 bytes
 pub field_is_wide : (size : FieldSize) → is_field size ≡ true → 4 ≤ width_of size

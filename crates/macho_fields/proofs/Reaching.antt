@@ -18,7 +18,6 @@ use Rattle.macho_model.specs.Placement.{Placed, id_of}
 use Rattle.macho_model.specs.Addresses.{slot_address}
 use Rattle.macho_model.specs.Stands.{Kind, Pointer, Difference, Branch, Page, Offset, SlotPage, SlotOffset, SlotDistance, NoKind, SubtrahendIsAt}
 use Rattle.macho_model.specs.Values.{less, DoesNotFit, branch_reaches, page_reaches, offset_fits, fits_signed}
-use Rattle.macho_model.proofs.EachBelow.{true_or_false}
 use Rattle.macho_arm64.specs.declared.kinds.FieldSize.TheVariants.{Bytes, Adr, JumpCall, Low12}
 use Rattle.macho_arm64.specs.Fields.{fits_word, can_hold}
 use Rattle.macho_arm64.specs.Laws.{size_for}
@@ -32,6 +31,7 @@ use Rattle.macho_fields.specs.steps.Writes.{IsReady, HasField}
 use Rattle.macho_fields.specs.steps.Kinds.{KindFits, IsSubtracted, IsLoadable, direct, by_slot}
 use Rattle.macho_fields.proofs.Placing.{defined_is, image_looked, image_only, slot_looked, slot_looked_only, call_looked, call_only, load_looked, load_only, load_in_slot}
 use Rattle.macho_fields.proofs.Saying.{subtracted_at, import_stays, other_goes}
+use Rattle.macho_bytes.proofs.Bools.{true_or_false}
 
 subtracted_only : (l : Link) (p : Placed) (look : Look) (t : Option Target) (y : ℕ) → TellsAddresses p look → IsPlacedOnce p
     → IsSubtracted p t

@@ -8,7 +8,7 @@ use Rattle.std.specs.Prelude.{nat_le}
 use Rattle.std.proofs.lemmas.Bool.{cases_Bool}
 use Rattle.macho_bytes.specs.Numbers.{le_at, signed}
 use Rattle.macho_records.specs.declared.constants.TheConstants.{ARM64_RELOC_UNSIGNED, ARM64_RELOC_ADDEND}
-use Rattle.macho_structs.specs.declared.relocations.RelocationInfo.{RelocationInfo}
+use Rattle.macho_wire.specs.declared.relocations.RelocationInfo.{RelocationInfo}
 use Rattle.macho_model.specs.declared.targets.Target.{Target}
 use Rattle.macho_model.specs.declared.targets.Target.TheVariants as target
 use Rattle.macho_model.specs.Objects.{num_sections, num_symbols, section_at, section_bytes}
@@ -20,12 +20,12 @@ use Rattle.macho_model.proofs.Words as words
 use Rattle.macho_model.specs.Fields.{has_subtrahend, has_addend, field_of, content_of, addend_of, is_difference, is_with_addend, pointer_addend}
 use Rattle.macho_model.specs.Rows.{is_none}
 use Rattle.macho_model.specs.Placement.{Placed}
-use Rattle.macho_model.proofs.EachBelow.{true_or_false}
 use Rattle.macho_model.proofs.Words.{target_of_symbol, target_of_section}
 use Rattle.macho_fields.specs.declared.field.Field.{Field}
 use Rattle.macho_fields.specs.declared.field.Near.{Near}
 use Rattle.macho_fields.specs.Looks.{Look, Tells}
 use Rattle.macho_fields.specs.steps.Fields.{seen, before, subtractor_in, addend_before, target_in, subtrahend_in, pointer_addend_in, small_addend_in, addend_in, IsNear, IsRead}
+use Rattle.macho_bytes.proofs.Bools.{true_or_false}
 
 -- what a relocation leads to
 pub target_read : (l : Link) (p : Placed) (look : Look) (s : SectionId) (r : ℕ) → Tells l p look

@@ -11,7 +11,7 @@ use Rattle.macho_model.specs.Fields.{content_of, is_prefix_type}
 use Rattle.macho_model.specs.Words.{is_adrp, is_branch}
 use Rattle.macho_model.specs.Rows.{has_form, begins_pair, difference_fits, pointer_fits, defined_or_import, is_supported}
 use Rattle.macho_model.specs.Supported.{addend_fits, may_be_called, takes_offset, load_fits}
-use Rattle.macho_model.proofs.EachBelow.{true_or_false}
+use Rattle.macho_bytes.proofs.Bools.{true_or_false}
 
 -- the row of a type, with its test
 pub data Row (type : ℕ) (pointer branch page offset slot_page slot_offset distance : Bool) : Type 0 where

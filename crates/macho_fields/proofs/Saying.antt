@@ -19,7 +19,6 @@ use Rattle.macho_model.specs.Placement.{Placed, id_of}
 use Rattle.macho_model.specs.Stands.{IsAt, Kind, Pointer, Difference, Branch, Page, Offset, SlotPage, SlotOffset, SlotDistance, NoKind, PointerSays, LoadSays, SubtrahendIsAt, is_template_offset}
 use Rattle.macho_model.specs.steps.Stands.{SaysOf}
 use Rattle.macho_model.specs.Values.{less}
-use Rattle.macho_model.proofs.EachBelow.{true_or_false}
 use Rattle.macho_arm64.specs.declared.kinds.FieldSize.{FieldSize}
 use Rattle.macho_arm64.specs.declared.kinds.FieldSize.TheVariants.{Bytes, Adr, JumpCall, Low12}
 use Rattle.macho_arm64.specs.Fields.{Holds}
@@ -32,6 +31,7 @@ use Rattle.macho_fields.specs.steps.Filled.{place_in}
 use Rattle.macho_fields.specs.steps.Writes.{IsPut}
 use Rattle.macho_fields.specs.steps.Kinds.{KindFits, IsSubtracted, IsLoadable, direct, by_slot}
 use Rattle.macho_fields.proofs.Placing.{address_told, stands_at, image_looked, slot_looked, call_looked, load_looked}
+use Rattle.macho_bytes.proofs.Bools.{true_or_false}
 
 -- where a pointer counts from: nothing, or the start of the template where it is an offset in it
 abbrev pub IsStart : Bool → Option Range64 → ℕ → Type 0

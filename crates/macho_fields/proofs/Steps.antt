@@ -11,7 +11,7 @@ use Rattle.std.proofs.lemmas.List.{map-append}
 use Rattle.std.proofs.lemmas.List.Elements.{filter-append}
 use Rattle.std.specs.FinMap.{empty}
 use Rattle.macho_bytes.specs.Numbers.{le_at}
-use Rattle.macho_structs.specs.declared.relocations.RelocationInfo.{RelocationInfo}
+use Rattle.macho_wire.specs.declared.relocations.RelocationInfo.{RelocationInfo}
 use Rattle.macho_model.specs.declared.placed.PlacedSection.{PlacedSection}
 use Rattle.macho_model.specs.Objects.{section_bytes}
 use Rattle.macho_model.specs.Links.{Link, SectionId, object_of, header_at, carried_of}
@@ -22,10 +22,9 @@ use Rattle.macho_model.specs.Stands.{kind_of}
 use Rattle.macho_model.specs.steps.Stands.{SaysOf}
 use Rattle.macho_model.specs.Values.{needs_fixup}
 use Rattle.macho_model.specs.Supported.{RelocationsAreSupported}
-use Rattle.macho_model.proofs.EachBelow.{true_or_false, and_left, and_right, either}
 use Rattle.macho_fixups.specs.declared.run.Fixup.{Fixup}
-use Rattle.macho_parts.specs.Filled.{FieldIsSet}
-use Rattle.macho_parts.specs.Asked.{field_fixup}
+use Rattle.macho_promise.specs.Filled.{FieldIsSet}
+use Rattle.macho_promise.specs.Asked.{field_fixup}
 use Rattle.macho_fields.specs.Looks.{Look}
 use Rattle.macho_fields.specs.steps.Filled.{IsDone}
 use Rattle.macho_fields.specs.steps.Writes.{ChangesOnly}
@@ -34,6 +33,8 @@ use Rattle.macho_fields.proofs.Puts.{same_bytes, number_stands}
 use Rattle.macho_fields.proofs.Numbered.{one_if, chosen, chosen_more}
 use Rattle.macho_fields.proofs.One.{one_set, one_fine, one_changes, one_asks}
 use Rattle.macho_model.specs.Spans.{IsOutsideField}
+use Rattle.macho_bytes.proofs.Bools.{true_or_false, and_left, and_right, either}
+use Rattle.macho_bytes.proofs.Comparing.{below_more}
 
 -- two fields of a section share no byte
 abbrev pub AreApart : Field → Field → Type 0
@@ -147,9 +148,6 @@ asks_none l p q n none =
     let front = map (field_fixup l p q) (filter (needs_fixup l (id_of q)) (fields_to l (id_of q) n)) in
     asks_added l p q n ∙ ap (λ (b : Bool). front ++ map (field_fixup l p q) (filter (needs_fixup l (id_of q)) (one_if b f))) none
     ∙ append-nil front
-
-below_more : (r n : ℕ) → r < n + 1 → (r < n) ⊎ (r ≡ n)
-below_more r n lt = elim (cases_lt r n) [ inl less ↦ inl less | inr last ↦ inr (omega arith) ]
 
 -- nothing is filled yet
 pub filled_none : (l : Link) (p : Placed) (q : PlacedSection) (text : List ℕ) (run : List Fixup)

@@ -5,8 +5,8 @@
 -- there.
 use Rattle.std.proofs.Common.{◌≡◌, ℕ, ◌-◌, ◌^◌, ◌<◌, ◌==◌, ◌&&◌, ◌||◌, not, Bool, true, false, Option, Some, None, Contains, refl, sym, ap, subst, ◌∙◌, inl, inr, ◌⊎◌, arith}
 use Rattle.std.specs.Prelude.{is_some, IfSome}
-use Rattle.std.proofs.lemmas.Bool.{cases_Bool, eqb-true}
-use Rattle.macho_structs.specs.declared.relocations.RelocationInfo.{RelocationInfo}
+use Rattle.std.proofs.lemmas.Bool.{cases_Bool}
+use Rattle.macho_wire.specs.declared.relocations.RelocationInfo.{RelocationInfo}
 use Rattle.macho_model.specs.declared.targets.Target.{Target}
 use Rattle.macho_model.specs.declared.targets.Target.TheVariants as target
 use Rattle.macho_model.specs.Links.{Link, SectionId, header_at, carried_of}
@@ -19,20 +19,16 @@ use Rattle.macho_model.specs.Rows.{has_form, is_none, difference_fits, pointer_f
 use Rattle.macho_model.specs.Supported.{may_be_called, takes_offset, load_fits, REGISTER_31}
 use Rattle.macho_model.specs.Stands.{Kind, Pointer, Difference, Branch, Page, Offset, SlotPage, SlotOffset, SlotDistance, kind_of}
 use Rattle.macho_model.specs.Placement.{Placed}
-use Rattle.macho_model.proofs.EachBelow.{true_or_false, and_left, and_right, either, is_equal}
 use Rattle.macho_arm64.specs.Relaxations.{is_relaxable}
 use Rattle.macho_fields.specs.Looks.{Leads, IsFound, HasSlot, HasStub}
 use Rattle.macho_fields.specs.steps.Fields.{goes_straight, kind_in}
 use Rattle.macho_fields.specs.steps.Kinds.{KindFits, IsInImage, IsSubtracted, IsCallable, IsLoadable, direct, by_stub, by_slot}
 use Rattle.macho_fields.proofs.RowTests.{Unsigned, Called, Paged, Low, LoadPage, LoadLow, ToSlot, RowOf, row_of}
-
--- the width of a form
-form_width : (rel : RelocationInfo) (length : ℕ) (pcrel extern : Bool) → has_form rel length pcrel extern ≡ true → rel.r_length ≡ length
-form_width rel length pcrel extern h = eqb-true rel.r_length length
-    (and_left (rel.r_length == length) _ (and_left ((rel.r_length == length) && _) _ h))
+use Rattle.macho_bytes.proofs.Bools.{true_or_false, and_left, and_right, either, is_equal}
+use Rattle.macho_arm64.proofs.SupportedKinds.{form_length}
 
 four_wide : (rel : RelocationInfo) (pcrel extern : Bool) → has_form rel 2 pcrel extern ≡ true → 2 ^ rel.r_length ≡ 4
-four_wide rel pcrel extern h = ap (λ (n : ℕ). 2 ^ n) (form_width rel 2 pcrel extern h)
+four_wide rel pcrel extern h = ap (λ (n : ℕ). 2 ^ n) (form_length rel 2 pcrel extern h)
 
 -- a type that is no part of another relocation's field
 pub no_addend : (type : ℕ) → is_prefix_type type ≡ false → (type == 10) ≡ false
@@ -131,8 +127,8 @@ relaxable w t h = (
 four_or_eight : (rel : RelocationInfo) → (has_form rel 2 false true || has_form rel 3 false true) ≡ true
     → (2 ^ rel.r_length ≡ 4) ⊎ (2 ^ rel.r_length ≡ 8)
 four_or_eight rel h = elim (either (has_form rel 2 false true) (has_form rel 3 false true) h) [
-  | inl two ↦ inl (ap (λ (n : ℕ). 2 ^ n) (form_width rel 2 false true two))
-  | inr three ↦ inr (ap (λ (n : ℕ). 2 ^ n) (form_width rel 3 false true three))
+  | inl two ↦ inl (ap (λ (n : ℕ). 2 ^ n) (form_length rel 2 false true two))
+  | inr three ↦ inr (ap (λ (n : ℕ). 2 ^ n) (form_length rel 3 false true three))
 ]
 
 pointer_kind : (l : Link) (p : Placed) (s : SectionId) (r : ℕ) → IsOf l p s r → (relocation_in l s r).r_type ≡ 0

@@ -5,8 +5,7 @@
 -- slot has no word exactly where its target's address is none that a word has room for.
 use Rattle.std.proofs.Common.{◌≡◌, ℕ, zero, suc, ◌+◌, ◌*◌, ◌<◌, ◌≤◌, true, List, [], ◌∷◌, ◌++◌, map, take, get_or, refl, sym, ap, subst, ◌∙◌, arith, inl, inr, ◌⊎◌, length, append_assoc}
 use Rattle.std.specs.Prelude.{Some}
-use Rattle.std.proofs.lemmas.Bool.{cases_lt}
-use Rattle.std.proofs.lemmas.List.{map-append, append-nil, take_more}
+use Rattle.std.proofs.lemmas.List.{map-append, take_more}
 use Rattle.macho_bytes.specs.Texts.{put, Stands}
 use Rattle.macho_bytes.proofs.Puts.{put_stands, stands_beside}
 use Rattle.macho_model.specs.declared.placed.Slot.{Slot}
@@ -17,19 +16,7 @@ use Rattle.macho_object.proofs.Options.{some_if}
 use Rattle.macho_fixups.specs.declared.words.FixupKind.{FixupKind}
 use Rattle.macho_fields.specs.steps.Fields.{is_encodable, kind_asked, fixup_asked}
 use Rattle.macho_fields.specs.steps.Stubs.{IsThrough, StubsStand, slot_asked, SlotsAsked}
-
--- an element that is there, whatever it is read with
-pub any_default : {X : Type 0} (xs : List X) (k : ℕ) (d e : X) → k < length xs → get_or xs k d ≡ get_or xs k e
-any_default [] k d e lt = absurd (omega arith)
-any_default (x ∷ xs) zero d e lt = refl
-any_default (x ∷ xs) (suc k) d e lt = any_default xs k d e (omega arith)
-
-below_more : (r n : ℕ) → r < n + 1 → (r < n) ⊎ (r ≡ n)
-below_more r n lt = elim (cases_lt r n) [ inl less ↦ inl less | inr last ↦ inr (omega arith) ]
-
--- no stub stands yet
-pub stubs_none : (look : Look) (stubs : List Stub) (out : List ℕ) → StubsStand look stubs 0 out
-stubs_none look stubs out = λ k d lt. absurd (omega arith)
+use Rattle.macho_bytes.proofs.Comparing.{below_more, read_alike}
 
 -- one stub more
 pub stubs_more : (look : Look) (stubs : List Stub) (n : ℕ) (s : Stub) (text old new : List ℕ) → StubsStand look stubs n old
@@ -51,17 +38,13 @@ stubs_more look stubs n s text old new before among is through room put_is k d l
         stands = subst (λ (t : List ℕ). Stands t (record { at = 12 * k; text = text })) (sym put_is)
             (subst (λ (m : ℕ). Stands (put (12 * n) text old) (record { at = 12 * m; text = text })) (sym last)
             (put_stands (12 * n) text old fits));
-        is = subst (λ (t : Stub). IsThrough look t text) (is ∙ any_default stubs n s d among
+        is = subst (λ (t : Stub). IsThrough look t text) (is ∙ read_alike stubs n s d among
             ∙ sym (ap (λ (m : ℕ). get_or stubs m d) last)) through;
       }
 ]
   where
     fits : 12 * n + length text ≤ length old
     fits = omega (arith, through.long, room, among)
-
--- no slot is asked for yet
-pub slots_none : (look : Look) (slots : List Slot) (run : List Fixup) → SlotsAsked look slots 0 run run
-slots_none look slots run = record { fit = λ k d lt. absurd (omega arith); run = sym (append-nil run) }
 
 -- one slot more
 pub slots_more : (look : Look) (slots : List Slot) (n : ℕ) (s : Slot) (old mid new : List Fixup) → SlotsAsked look slots n old mid
@@ -72,7 +55,7 @@ slots_more look slots n s old mid new before among is fits more = record {
   fit = λ k d lt. elim (below_more k n lt) [
     | inl less ↦ before.fit k d less
     | inr last ↦ subst (λ (t : Slot). is_encodable look t.target 0 ≡ true)
-        (is ∙ any_default slots n s d among ∙ sym (ap (λ (m : ℕ). get_or slots m d) last)) fits
+        (is ∙ read_alike slots n s d among ∙ sym (ap (λ (m : ℕ). get_or slots m d) last)) fits
   ];
   run =
       more ∙ ap (λ (t : List Fixup). t ++ slot_asked look s ∷ []) before.run

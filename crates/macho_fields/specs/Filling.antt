@@ -3,7 +3,7 @@ use Rattle.std.specs.Prelude.{◌≡◌, ℕ, List, Contains}
 use Rattle.macho_model.specs.declared.placed.PlacedSection.{PlacedSection}
 use Rattle.macho_model.specs.Links.{Link, object_of, carried_of}
 use Rattle.macho_model.specs.Placement.{Placed, id_of}
-use Rattle.macho_parts.specs.Sound.{IsSound}
+use Rattle.macho_promise.specs.Sound.{IsSound}
 use Rattle.macho_fields.specs.Looks.{Look, Tells, IsFound}
 
 -- A placed section of a sound link is to be filled from the bytes of its object, by these look-ups.

@@ -17,7 +17,7 @@ use Rattle.macho_model.specs.Uses.{slot_of_relocation, stub_of_relocation}
 use Rattle.macho_model.specs.Placement.{Placed, id_of}
 use Rattle.macho_model.specs.Lists.{of_first}
 use Rattle.macho_model.specs.Addresses.{section_address, common_address, slot_address}
-use Rattle.macho_parts.specs.FixupsSay.{own_number}
+use Rattle.macho_promise.specs.FixupsSay.{own_number}
 
 -- What is looked up, as plain functions.
 pub record Look : Type 0 where

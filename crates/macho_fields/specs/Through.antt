@@ -12,7 +12,7 @@ use Rattle.macho_model.specs.Placement.{Placed}
 use Rattle.macho_model.specs.Addresses.{address_of}
 use Rattle.macho_model.specs.Values.{BadRange, BadRebase}
 use Rattle.macho_model.specs.declared.targets.Target.TheVariants as target
-use Rattle.macho_parts.specs.Filled.{StubIsSet}
+use Rattle.macho_promise.specs.Filled.{StubIsSet}
 use Rattle.macho_fields.specs.Looks.{IsPlacedOnce, IsThere, HasSlot}
 
 -- The stubs of a placement have slots behind them, and none that is nearly 2 ^ 64 behind a stub's page, where a page's way would reach it

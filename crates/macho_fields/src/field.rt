@@ -2,15 +2,15 @@
 ghost use Rattle.std.specs.Prelude.{◌≡◌, ◌+◌, ◌-◌, ◌^◌, ◌<◌, ◌≤◌, ◌⊎◌, true, false, Some, IfSome, length};
 ghost use Rattle.macho_bytes.specs.Numbers.{le_at, signed};
 ghost use Rattle.macho_model.specs.Objects.{num_sections, section_at, relocation_at};
-ghost use Rattle.macho_structs.specs.Relocations.{BitsFit};
+ghost use Rattle.macho_wire.specs.Relocations.{BitsFit};
 ghost use Rattle.macho_fields.specs.steps.Fields.{subtractor_in, addend_before, target_in, subtrahend_in, addend_in, small_addend_in, IsInFront, IsNear, IsRead};
 
 use crate::places::Places;
 use macho_arm64::{is_difference, is_with_addend};
 use macho_model::Target;
-use macho_numbers::Number;
 use macho_object::{File, RelocationList};
 use macho_records::{ARM64_RELOC_UNSIGNED, RelocationInfo};
+use macho_wire::Number;
 
 /// A field of a section.
 #[derive(Clone, Copy)]

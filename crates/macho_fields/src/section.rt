@@ -5,8 +5,8 @@ ghost use Rattle.macho_model.specs.Objects.{num_sections, num_symbols, section_a
 ghost use Rattle.macho_model.specs.Links.{Link};
 ghost use Rattle.macho_model.specs.Placement.{Placed};
 ghost use Rattle.macho_fixups.specs.declared.run.Fixup.{Fixup};
-ghost use Rattle.macho_parts.specs.Asked.{fixups_in};
-ghost use Rattle.macho_parts.specs.Filled.{IsFilled};
+ghost use Rattle.macho_promise.specs.Asked.{fixups_in};
+ghost use Rattle.macho_promise.specs.Filled.{IsFilled};
 ghost use Rattle.macho_fields.specs.Filling.{IsToFill};
 ghost use Rattle.macho_fields.specs.Faults.{FillStands, NoneStandsIn};
 ghost use Rattle.macho_fields.specs.steps.Fields.{seen, IsNear};

@@ -2,7 +2,7 @@
 ghost use Rattle.std.specs.Prelude.{◌≡◌, ◌^◌, ◌<◌, ◌++◌, length, map, OnOk, IfErr};
 ghost use Rattle.macho_model.specs.Links.{Link};
 ghost use Rattle.macho_model.specs.Placement.{Placed};
-ghost use Rattle.macho_parts.specs.Asked.{slot_fixup};
+ghost use Rattle.macho_promise.specs.Asked.{slot_fixup};
 ghost use Rattle.macho_fields.specs.Looks.{Tells};
 ghost use Rattle.macho_fields.specs.Faults.{FillStands};
 ghost use Rattle.macho_fields.specs.Through.{SlotsAreFound, EachSlotFits};

@@ -12,7 +12,7 @@ use crate::fault::FillFault;
 use crate::places::Places;
 use macho_arm64::write_plt_entry;
 use macho_model::{Site, Stub, Target};
-use macho_numbers::put_text;
+use macho_wire::put_text;
 
 /// How many bytes a stub has: three instructions.
 pub const STUB_BYTES: usize = 12;

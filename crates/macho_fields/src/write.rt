@@ -4,7 +4,7 @@ ghost use Rattle.macho_arm64.specs.Fields.{width_of, is_field};
 ghost use Rattle.macho_fields.specs.steps.Writes.{IsReady, ChangesOnly, IsPut, HasField, CannotPut, IsNumber};
 
 use macho_arm64::{FieldSize, Relaxation, fits_instruction, write_field};
-use macho_numbers::Number;
+use macho_wire::Number;
 
 /// What is to be written to a field.
 #[derive(Clone, Copy)]

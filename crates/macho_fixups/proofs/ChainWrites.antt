@@ -3,8 +3,7 @@
 -- The next word is put at its place. Words before it stand apart from it, so they stand as before; the word itself
 -- stands since it was put; and a byte outside all of them is outside the one just put, so it is as before too. The
 -- segments that were passed end in front of this address, and so in front of every later one.
-use Rattle.std.proofs.Common.{◌≡◌, ℕ, ◌+◌, ◌<◌, ◌≤◌, ◌⊎◌, nat_le, true, false, List, length, get_or, arith, refl, sym, ap, subst, ◌∙◌}
-use Rattle.std.proofs.Common.{inl, inr}
+use Rattle.std.proofs.Common.{◌≡◌, ℕ, ◌+◌, ◌<◌, ◌≤◌, ◌⊎◌, nat_le, true, false, List, length, get_or, arith, refl, sym, ap, subst, ◌∙◌, inl, inr}
 use Rattle.std.specs.Prelude.{slice_index}
 use Rattle.std.proofs.lemmas.Bool.{cases_lt}
 use Rattle.std.proofs.lemmas.Bool.Decides.{nat_tests}
@@ -33,19 +32,6 @@ pub record WordsSoFar (segments : List FixupSegment) (fixups : List Fixup) (m i 
   pub written : AreWritten segments fixups i before now
   pub words : HaveWords fixups i
   pub passed : (k : ℕ) (d : Fixup) → i ≤ k → k < length fixups → ArePassed segments m (get_or fixups k d).address
-
-pub words_begin : (segments : List FixupSegment) (fixups : List Fixup) (out : List ℕ) → WordsSoFar segments fixups 0 0 out out
-words_begin segments fixups out =
-    record {
-      written = record {
-        size = refl;
-        words = λ k d none. absurd (omega arith);
-        each = λ k d none. absurd (omega arith);
-        outside = λ i all. refl;
-      };
-      words = record { each = λ k d none. absurd (omega arith) };
-      passed = λ k d le lt. record { each = λ j e none. absurd (omega arith) };
-    }
 
 -- there is room for the next word
 pub word_room : (segments : List FixupSegment) (fixups : List Fixup) (d : Fixup) (i m n : ℕ) → i < length fixups

@@ -4,12 +4,10 @@
 -- sorted no later fixup is below either: so the run is cut there. The pages up to the last fixup of a segment are the
 -- greatest count among its fixups: all counts are at most that of the last, since page numbers grow with addresses.
 -- The first fixup of a page, if there is one, is where the run is cut in front of the page.
-use Rattle.std.proofs.Common.{◌≡◌, ℕ, zero, suc, ◌+◌, ◌-◌, ◌/◌, ◌%◌, ◌<◌, ◌≤◌, ◌==◌, ◌⊎◌, ◌&&◌, nat_le, nat_lt, Bool, true, false, List}
-use Rattle.std.proofs.Common.{[], ◌∷◌, length, get_or, arith, refl, ap, ◌∙◌, inl, inr}
+use Rattle.std.proofs.Common.{◌≡◌, ℕ, zero, suc, ◌+◌, ◌-◌, ◌/◌, ◌%◌, ◌<◌, ◌≤◌, ◌==◌, ◌⊎◌, ◌&&◌, nat_le, nat_lt, Bool, true, false, List, [], ◌∷◌, length, get_or, arith, refl, ap, ◌∙◌, inl, inr}
 use Rattle.std.proofs.Math.Nat.{le-max_left, le-max_right, max-le}
 use Rattle.std.proofs.lemmas.Bool.{cases_lt}
 use Rattle.std.proofs.lemmas.Bool.Decides.{nat_tests}
-use Rattle.std.proofs.lemmas.List.{get_or_default}
 use Rattle.macho_model.specs.Images.{NO_START}
 use Rattle.macho_model.specs.Segments.{SEGMENT_PAGE}
 use Rattle.macho_fixups.specs.declared.run.Fixup.{Fixup}
@@ -17,26 +15,6 @@ use Rattle.macho_fixups.specs.declared.run.FixupSegment.{FixupSegment}
 use Rattle.macho_fixups.specs.Runs.{pages_of, start_of, is_in}
 use Rattle.macho_fixups.specs.steps.Runs.{pages_with, AreSorted}
 use Rattle.macho_fixups.specs.steps.Cuts.{AreBelow, AreBelowFrom, IsSkip, IsCut}
-
--- nothing is passed yet
-pub none_below : (fixups : List Fixup) (from bound : ℕ) → AreBelowFrom fixups from bound from
-none_below fixups from bound = record { each = λ k d le lt. absurd (omega arith) }
-
--- one fixup more is below
-pub one_below : (fixups : List Fixup) (from bound next : ℕ) (e : Fixup) → next < length fixups → AreBelowFrom fixups from bound next
-    → (get_or fixups next e).address < bound → AreBelowFrom fixups from bound (next + 1)
-one_below fixups from bound next e within so_far here =
-    record {
-      each = λ k d le lt. elim (cases_lt k next) [
-        | inl before ↦ so_far.each k d le before
-        | inr at ↦
-            let same : k ≡ next = omega arith in
-            let address : (get_or fixups k d).address ≡ (get_or fixups next e).address =
-            ap (λ (j : ℕ). (get_or fixups j d).address) same
-            ∙ ap (λ (f : Fixup). f.address) (get_or_default fixups next d e within) in
-            omega (arith, address, here)
-      ];
-    }
 
 -- a sorted run is cut where a search stops
 pub cut_of : (fixups : List Fixup) (from bound to : ℕ) → AreSorted fixups → AreBelow fixups from bound → IsSkip fixups from bound to

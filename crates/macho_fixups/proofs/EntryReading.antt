@@ -3,8 +3,7 @@
 -- Entry k stands k sizes behind the first. Its word is the sum of the library and of the name's place times 512, so its
 -- fields are read by dividing; in the format with addends, the addend stands behind the word. In the other format the
 -- addend is read as 0, which is what each entry has.
-use Rattle.std.proofs.Common.{◌≡◌, ℕ, ◌+◌, ◌*◌, ◌^◌, ◌<◌, ◌==◌, ◌⊎◌, true, false, List, ◌++◌, length, get_or, arith, refl, sym, ap, subst}
-use Rattle.std.proofs.Common.{◌∙◌, inl, inr, if◌then◌else◌, ℤ, pos}
+use Rattle.std.proofs.Common.{◌≡◌, ℕ, ◌+◌, ◌*◌, ◌^◌, ◌<◌, ◌==◌, ◌⊎◌, true, false, List, ◌++◌, length, get_or, arith, refl, sym, ap, subst, ◌∙◌, inl, inr, if◌then◌else◌, ℤ, pos}
 use Rattle.std.specs.Prelude.{All}
 use Rattle.std.specs.Int.{w32, cast_unsigned}
 use Rattle.std.specs.List.{flat_map}
@@ -14,7 +13,7 @@ use Rattle.macho_bytes.specs.Numbers.{little, le_at, le_bytes, bits, signed}
 use Rattle.macho_bytes.specs.Texts.{Stands}
 use Rattle.macho_bytes.proofs.Numbers.{little_is_sound, number-stands, stands-front, stands-back}
 use Rattle.macho_bytes.proofs.Tables.{table-stands}
-use Rattle.macho_structs.specs.declared.fixups.ChainedFixupsHeader.{ChainedFixupsHeader}
+use Rattle.macho_wire.specs.declared.fixups.ChainedFixupsHeader.{ChainedFixupsHeader}
 use Rattle.macho_model.specs.Images.{Table, fixups_header, import_entry_size, import_place, import_entry, entry_addend}
 use Rattle.macho_model.specs.Images as images
 use Rattle.macho_fixups.specs.declared.imports.ImportEntry.{ImportEntry}
@@ -24,7 +23,7 @@ use Rattle.macho_fixups.specs.steps.Calls.{EntryFits}
 use Rattle.macho_fixups.specs.Readings.{entry_seen}
 
 -- the length of an entry
-entry_long : (format : ℕ) (e : ImportEntry) → length (entry_text format e) ≡ import_entry_size format
+pub entry_long : (format : ℕ) (e : ImportEntry) → length (entry_text format e) ≡ import_entry_size format
 unfolding entry_text
 entry_long format e =
     elim (format == 2) as (λ t. length (if t then le_bytes 4 (entry_word e)
@@ -41,7 +40,7 @@ entry_long format e =
     ]
 
 -- the word of an entry stands at its place
-word_stands : (b : List ℕ) (p format : ℕ) (e : ImportEntry) → Stands b (record { at = p; text = entry_text format e })
+pub word_stands : (b : List ℕ) (p format : ℕ) (e : ImportEntry) → Stands b (record { at = p; text = entry_text format e })
     → Stands b (record { at = p; text = le_bytes 4 (entry_word e) })
 unfolding entry_text
 word_stands b p format e s =

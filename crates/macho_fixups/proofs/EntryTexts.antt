@@ -3,8 +3,7 @@
 -- An entry is its word, and in the format with addends its addend behind it: two puts next to each other are one. All
 -- entries of a format have one size, so entry k begins k sizes behind the first, and each is put where those before
 -- it end.
-use Rattle.std.proofs.Common.{◌≡◌, ℕ, ◌+◌, ◌*◌, ◌<◌, ◌≤◌, ◌==◌, true, false, List, ◌++◌, length, get_or, take, arith, refl, sym, ap, ◌∙◌}
-use Rattle.std.proofs.Common.{subst, inl, inr}
+use Rattle.std.proofs.Common.{◌≡◌, ℕ, ◌+◌, ◌*◌, ◌<◌, ◌≤◌, ◌==◌, true, false, List, ◌++◌, length, get_or, take, arith, refl, sym, ap, ◌∙◌, subst, inl, inr}
 use Rattle.std.proofs.lemmas.Bool.Decides.{nat_tests}
 use Rattle.std.proofs.Math.Nat.{mul-add, mul-le-mul_left}
 use Rattle.std.specs.List.{flat_map}
@@ -14,7 +13,7 @@ use Rattle.macho_bytes.specs.Numbers.{le_bytes}
 use Rattle.macho_bytes.specs.Texts.{put}
 use Rattle.macho_bytes.proofs.Numbers.{little_is_sound}
 use Rattle.macho_bytes.proofs.Puts.{put-put}
-use Rattle.macho_bytes.proofs.Sequences.{MoreTexts, texts_begin, texts_go_on, texts_end}
+use Rattle.macho_bytes.proofs.Sequences.{MoreTexts, texts_begin, texts_go_on}
 use Rattle.macho_model.specs.Images.{import_entry_size}
 use Rattle.macho_fixups.specs.declared.imports.ImportEntry.{ImportEntry}
 use Rattle.macho_fixups.specs.Tables.{entry_text, entry_word}
@@ -101,14 +100,3 @@ entries_go_on format at place next i imports d before out now lt room so_far lon
             subst (λ (j : ℕ). EntryFits (get_or imports j e)) same (subst EntryFits (get_or_default imports i d e lt) one)
       ];
     }
-
-pub entries_end : (format at place i : ℕ) (imports : List ImportEntry) (before now : List ℕ) → length imports ≤ i → i ≤ length imports
-    → EntriesSoFar format at place i imports before now
-    → (now ≡ put at (flat_map (entry_text format) imports) before)
-    × (length (flat_map (entry_text format) imports) ≡ import_entry_size format * length imports)
-    × All EntryFits imports
-entries_end format at place i imports before now past within so_far =
-    let all = texts_end (entry_text format) at place i imports before now past so_far.texts in
-    let count : import_entry_size format * i ≡ import_entry_size format * length imports = ap (λ (k : ℕ). import_entry_size format * k)
-    (omega arith) in
-    (all.written, omega (arith, all.ends, so_far.here, count), λ k d lt. so_far.fits k d (omega arith))

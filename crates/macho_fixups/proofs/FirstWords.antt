@@ -15,10 +15,9 @@ use Rattle.macho_model.specs.Images.{NO_START}
 use Rattle.macho_model.specs.Segments.{SEGMENT_PAGE}
 use Rattle.macho_fixups.specs.declared.run.Fixup.{Fixup}
 use Rattle.macho_fixups.specs.Runs.{start_of}
-use Rattle.macho_fixups.specs.steps.Cuts.{IsCut}
-use Rattle.macho_fixups.specs.steps.Cuts.{IsSkip}
+use Rattle.macho_fixups.specs.steps.Cuts.{IsCut, IsSkip}
 use Rattle.macho_fixups.specs.Tables.{page_starts_text}
-use Rattle.macho_fixups.proofs.Cuts.{start_of-here, start_of-none, cut_of, below_cut}
+use Rattle.macho_fixups.proofs.Cuts.{start_of-here, start_of-none}
 use Rattle.macho_fixups.specs.steps.Runs.{AreSorted}
 
 -- in front of the cut pages are lower
@@ -99,12 +98,3 @@ pages_end fixups first pages at place i before now end so_far =
     let all = texts_end (start_text fixups first) at place i (range_with_len 0 pages) before now
     (omega (arith, length-range_with_len 0 pages)) so_far.texts in
     (all.written, omega (arith, all.ends, so_far.here))
-
--- the run is cut in front of the next page too
-pub next_cut : (fixups : List Fixup) (next number to : ℕ) → AreSorted fixups → IsCut fixups next (number * SEGMENT_PAGE)
-    → IsSkip fixups next (number * SEGMENT_PAGE + SEGMENT_PAGE) to → IsCut fixups to ((number + 1) * SEGMENT_PAGE)
-next_cut fixups next number to sorted cut skip =
-    let bound : number * SEGMENT_PAGE + SEGMENT_PAGE ≡ (number + 1) * SEGMENT_PAGE = omega arith in
-    subst (λ (b : ℕ). IsCut fixups to b) bound
-    (cut_of fixups next (number * SEGMENT_PAGE + SEGMENT_PAGE) to sorted
-    (below_cut fixups next (number * SEGMENT_PAGE) (number * SEGMENT_PAGE + SEGMENT_PAGE) cut (omega arith)) skip)

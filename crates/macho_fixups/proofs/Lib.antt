@@ -15,7 +15,6 @@ pub mod EntryReading
 pub mod TableTaken
 pub mod TableReading
 pub mod Bounds
-pub mod Puts
 pub mod FileChains
 pub mod NamesRead
 pub mod WordsBeside

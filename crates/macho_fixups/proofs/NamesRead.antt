@@ -3,22 +3,20 @@
 -- The names begin where the header says, and lie in the table's range. So from an entry's place on, the bytes of the
 -- range are those of the names: first those of the entry's name, none of which is 0, and then its NUL. The name ends
 -- there, and one byte more is left in the range.
-use Rattle.std.proofs.Common.{◌≡◌, ℕ, ◌+◌, ◌-◌, ◌<◌, ◌≤◌, nat_lt, true, List, [], ◌∷◌, ◌++◌, length, take, drop, slice_range, get_or}
-use Rattle.std.proofs.Common.{arith, refl, sym, ap, ◌∙◌}
+use Rattle.std.proofs.Common.{◌≡◌, ℕ, ◌+◌, ◌-◌, ◌<◌, ◌≤◌, nat_lt, true, List, [], ◌∷◌, ◌++◌, length, take, drop, slice_range, get_or, arith, refl, sym, ap, ◌∙◌}
 use Rattle.std.specs.Prelude.{slice_index}
 use Rattle.std.proofs.lemmas.Bool.Decides.{nat_tests}
-use Rattle.std.proofs.lemmas.List.{ext_get_or, get_or-drop, get_or-take, get_or_append_left, get_or-append_right, length-append}
-use Rattle.std.proofs.lemmas.List.{length-take, length-drop}
+use Rattle.std.proofs.lemmas.List.{ext_get_or, get_or-drop, get_or-take, get_or_append_left, get_or-append_right, length-append, length-take, length-drop}
 use Rattle.std.proofs.lemmas.List.Edits.{get_or-between}
 use Rattle.macho_bytes.specs.Texts.{Stands, name_of}
 use Rattle.macho_bytes.proofs.Names.{name_of-ends}
-use Rattle.macho_structs.specs.declared.fixups.ChainedFixupsHeader.{ChainedFixupsHeader}
+use Rattle.macho_wire.specs.declared.fixups.ChainedFixupsHeader.{ChainedFixupsHeader}
 use Rattle.macho_model.specs.Images.{Table, fixups_header, import_entry, table_names}
 use Rattle.macho_model.specs.Images as images
 use Rattle.macho_model.specs.ObjectRules.{has_nul}
 use Rattle.macho_fixups.specs.Tables.{names_place}
 use Rattle.macho_fixups.specs.Laws.{NamesAreRead}
-use Rattle.macho_fixups.proofs.Puts.{byte_of}
+use Rattle.macho_bytes.proofs.Puts.{get_or-part}
 
 -- the bytes of the range from a name on
 pub record IsBehind (range name : List ℕ) : Type 0 where
@@ -77,8 +75,8 @@ behind b names name from to at stands room there =
     each i lt =
         get_or-drop at (slice_range b from to) i 0
         ∙ get_or-between b from to (at + i) 0 (omega (arith, ends, room, lt))
-        ∙ sym (byte_of b (record { at = from; text = names }) stands (at + i) (omega (arith, ends, lt)))
-        ∙ sym (byte_of names (record { at = at; text = name ++ 0 ∷ [] }) there i (omega (arith, lt, whole)))
+        ∙ sym (get_or-part b (record { at = from; text = names }) stands (at + i) (omega (arith, ends, lt)))
+        ∙ sym (get_or-part names (record { at = at; text = name ++ 0 ∷ [] }) there i (omega (arith, lt, whole)))
 
 pub names_are_read : NamesAreRead
 names_are_read b t fixups segments format imports names k d name read room lt named =

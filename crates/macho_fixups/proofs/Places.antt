@@ -3,8 +3,7 @@
 -- Segments are in order and share no address, so the first segment whose file part does not end in front of an address
 -- is the one that has it, if one has. Its place in the file is counted from the segment's. Two words in one segment
 -- are as far apart in the file as in memory; in two segments their places lie in file parts that share no byte.
-use Rattle.std.proofs.Common.{◌≡◌, ℕ, zero, suc, ◌+◌, ◌-◌, ◌<◌, ◌≤◌, ◌⊎◌, ◌&&◌, nat_le, nat_lt, Bool, true, false, List, [], ◌∷◌, length}
-use Rattle.std.proofs.Common.{get_or, arith, refl, sym, ap, subst, ◌∙◌, inl, inr}
+use Rattle.std.proofs.Common.{◌≡◌, ℕ, zero, suc, ◌+◌, ◌-◌, ◌<◌, ◌≤◌, ◌⊎◌, ◌&&◌, nat_le, nat_lt, Bool, true, false, List, [], ◌∷◌, length, get_or, arith, refl, sym, ap, subst, ◌∙◌, inl, inr}
 use Rattle.std.specs.Prelude.{Contains}
 use Rattle.std.proofs.lemmas.Bool.{cases_lt}
 use Rattle.std.proofs.lemmas.Bool.Decides.{nat_tests}
@@ -129,22 +128,6 @@ pub segment_number : (segments : List FixupSegment) (a : ℕ) → AreSegments se
     → (m : ℕ) × IsSegmentOf segments a m
 segment_number segments a order one =
     let n = number_of segments one.0 one.1 in (n.number, numbered segments one.0 a order n one.2)
-
--- one segment more is passed
-pub one_passed : (segments : List FixupSegment) (m a : ℕ) (d : FixupSegment) → m < length segments → ArePassed segments m a
-    → (get_or segments m d).address + (get_or segments m d).file_size ≤ a → ArePassed segments (m + 1) a
-one_passed segments m a d within passed behind =
-    record {
-      each = λ j e lt. elim (cases_lt j m) [
-        | inl early ↦ passed.each j e early
-        | inr at ↦
-            let same : (get_or segments j e).address + (get_or segments j e).file_size ≡ (get_or segments m d).address +
-            (get_or segments m d).file_size =
-            ap (λ (k : ℕ). (get_or segments k e).address + (get_or segments k e).file_size) (omega arith)
-            ∙ ap (λ (t : FixupSegment). t.address + t.file_size) (get_or_default segments m e d within) in
-            omega (arith, same, behind)
-      ];
-    }
 
 -- two words, one behind the other, stand apart in the file
 pub places_apart : (segments : List FixupSegment) (a b : ℕ) → AreSegments segments → ((s : FixupSegment) × Contains segments s × Holds s a)

@@ -26,12 +26,12 @@ use Rattle.macho_fixups.specs.declared.imports.ImportEntry.{ImportEntry}
 use Rattle.macho_fixups.specs.Words.{word_of}
 use Rattle.macho_fixups.specs.Runs.{pages_of, start_of}
 use Rattle.macho_fixups.specs.Chains.{AllStand, address_at, place_of, step_between, step_of, word_part}
-use Rattle.macho_fixups.specs.Tables.{offsets_text, segment_text, segment_size, starts_text, page_starts_text}
-use Rattle.macho_fixups.specs.Tables.{image_starts_text, image_starts_size, entry_word, entry_text, table_text}
+use Rattle.macho_fixups.specs.Tables.{offsets_text, segment_text, segment_size, starts_text, page_starts_text, image_starts_text, image_starts_size, entry_word, entry_text, table_text}
 use Rattle.macho_fixups.specs.Rows.{segment_rows, offset_of, image_rows, table_rows, step_to, WordsStand}
 use Rattle.macho_fixups.proofs.SegmentWrites.{length-offsets}
 use Rattle.macho_fixups.proofs.StartReading.{text_long}
 use Rattle.macho_bytes.specs.Spellings.{spelling}
+use Rattle.macho_fixups.proofs.EntryReading.{entry_long}
 
 -- numbers in front of others
 row_joined : (w : ℕ) (ns ms : List ℕ) → row_bytes little w (ns ++ ms) ≡ row_bytes little w ns ++ row_bytes little w ms
@@ -169,22 +169,6 @@ starts_long base fixups segments =
           sizes xs,
           sum_by-cons (segment_size fixups) x xs,
         )
-
--- an entry has the size of its format
-pub entry_long : (format : ℕ) (e : ImportEntry) → length (entry_text format e) ≡ import_entry_size format
-unfolding entry_text
-entry_long format e = by (format == 2)
-  where
-    by : (t : Bool) → length (if t then le_bytes 4 (entry_word e) ++ le_bytes 4 (cast_unsigned w32 e.addend) else le_bytes 4
-        (entry_word e)) ≡ (if t then 8 else 4)
-    by true =
-        omega (
-          arith,
-          length-append (le_bytes 4 (entry_word e)) (le_bytes 4 (cast_unsigned w32 e.addend)),
-          little_is_sound.long 4 (entry_word e),
-          little_is_sound.long 4 (cast_unsigned w32 e.addend),
-        )
-    by false = little_is_sound.long 4 (entry_word e)
 
 pub entries_long : (format : ℕ) (es : List ImportEntry) → length (flat_map (entry_text format) es) ≡ import_entry_size format * length es
 entries_long format es =

@@ -4,8 +4,7 @@
 -- page's chain is that of a fixup of the page. Some fixup of the segment stands on that page or behind it, so a segment
 -- behind this one begins at a later page, and one in front of it ends in front of the page. So the fixup, which some
 -- segment holds, is held by this one.
-use Rattle.std.proofs.Common.{◌≡◌, ℕ, ◌+◌, ◌/◌, ◌%◌, ◌<◌, ◌≤◌, List, [], ◌∷◌, length, map, get_or, slice_index, arith, refl, sym, ap}
-use Rattle.std.proofs.Common.{subst, ◌∙◌, inl, inr}
+use Rattle.std.proofs.Common.{◌≡◌, ℕ, ◌+◌, ◌/◌, ◌%◌, ◌<◌, ◌≤◌, List, [], ◌∷◌, length, map, get_or, slice_index, arith, refl, sym, ap, subst, ◌∙◌, inl, inr}
 use Rattle.std.specs.Prelude.{Contains}
 use Rattle.std.proofs.lemmas.Bool.{cases_lt}
 use Rattle.std.proofs.lemmas.List.Elements.{All-contains, All-contains_itself}
@@ -23,8 +22,7 @@ use Rattle.macho_fixups.specs.Chains.{starts_in, chain_seen, step_of, AllStand, 
 use Rattle.macho_fixups.proofs.Cuts.{pages_with-in, pages_with-out}
 use Rattle.macho_fixups.proofs.SegmentWrites.{no_segment}
 use Rattle.macho_fixups.proofs.Places.{HasNumber, number_of}
-use Rattle.macho_fixups.proofs.RunChain.{AreWords, seen_of, start_in, starts_long, start_of-found, word_is, leads, steps_lead}
-use Rattle.macho_fixups.proofs.RunChain.{page_address, only, found}
+use Rattle.macho_fixups.proofs.RunChain.{AreWords, seen_of, start_in, starts_long, start_of-found, word_is, leads, steps_lead, page_address, only, found}
 
 -- a fixup of a segment on a page or behind it
 record IsFarOn (s : FixupSegment) (fixups : List Fixup) (page : ℕ) : Type 0 where

@@ -13,7 +13,7 @@ use Rattle.macho_fixups.specs.declared.run.Fixup.{Fixup}
 use Rattle.macho_fixups.specs.declared.run.FixupSegment.{FixupSegment}
 use Rattle.macho_fixups.specs.Tables.{starts_text, starts_size, starts_record, page_starts_text}
 use Rattle.macho_bytes.specs.Spellings.{spelling}
-use Rattle.macho_structs.specs.Spellings.{chained_starts_in_segment_rows}
+use Rattle.macho_wire.specs.Spellings.{chained_starts_in_segment_rows}
 
 -- a segment without pages
 pub nothing_told : (base at pages : ℕ) (fixups : List Fixup) (s : FixupSegment) (out : List ℕ) → pages ≡ 0 → at ≤ length out

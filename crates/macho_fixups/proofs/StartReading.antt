@@ -3,8 +3,7 @@
 -- The number of segments and the offsets stand one behind the other, and behind them what is told of each segment, at
 -- the place that its offset tells. There its record says how many pages it has, and each page's start stands two
 -- bytes behind the one before it. A segment without pages has the offset 0, and no starts are read.
-use Rattle.std.proofs.Common.{◌≡◌, ℕ, zero, suc, ◌+◌, ◌*◌, ◌/◌, ◌%◌, ◌^◌, ◌<◌, ◌≤◌, ◌==◌, Bool, true, false, List, [], ◌∷◌, ◌++◌, length}
-use Rattle.std.proofs.Common.{get_or, take, arith, refl, sym, ap, subst, ◌∙◌, inl, inr, if◌then◌else◌}
+use Rattle.std.proofs.Common.{◌≡◌, ℕ, zero, suc, ◌+◌, ◌*◌, ◌/◌, ◌%◌, ◌^◌, ◌<◌, ◌≤◌, ◌==◌, Bool, true, false, List, [], ◌∷◌, ◌++◌, length, get_or, take, arith, refl, sym, ap, subst, ◌∙◌, inl, inr, if◌then◌else◌}
 use Rattle.std.specs.Prelude.{sum_by}
 use Rattle.std.specs.List.{flat_map, range_with_len}
 use Rattle.std.proofs.lemmas.Bool.{cases_lt}
@@ -17,7 +16,7 @@ use Rattle.macho_bytes.specs.Texts.{Stands}
 use Rattle.macho_bytes.proofs.Numbers.{little_is_sound, number-stands, stands-front, stands-back}
 use Rattle.macho_bytes.proofs.Layouts.{length-spelling, reads_back}
 use Rattle.macho_bytes.proofs.Tables.{EachLong, length-table, table-stands}
-use Rattle.macho_structs.specs.declared.fixups.ChainedStartsInSegment.{ChainedStartsInSegment}
+use Rattle.macho_wire.specs.declared.fixups.ChainedStartsInSegment.{ChainedStartsInSegment}
 use Rattle.macho_model.specs.Images.{Table, starts_place, starts_offset, segment_starts, segment_starts_place}
 use Rattle.macho_model.specs.Segments.{SEGMENT_PAGE}
 use Rattle.macho_fixups.specs.declared.run.Fixup.{Fixup}
@@ -29,7 +28,7 @@ use Rattle.macho_fixups.specs.Calls.{FitsTable}
 use Rattle.macho_fixups.proofs.Cuts.{pages_of-no_bytes}
 use Rattle.macho_fixups.proofs.SegmentWrites.{offset_at, sum_bound}
 use Rattle.macho_bytes.specs.Spellings.{spelling, ReadsBack}
-use Rattle.macho_structs.specs.Spellings.{chained_starts_in_segment_rows}
+use Rattle.macho_wire.specs.Spellings.{chained_starts_in_segment_rows}
 
 -- each start has two bytes
 two_bytes : (fixups : List Fixup) (first pages : ℕ) → EachLong (start_text fixups first) 2 (range_with_len 0 pages)

@@ -3,8 +3,7 @@
 -- The parts of the table stand where the lengths before them end. The header's record reads back, and tells that the
 -- starts begin at 28. There the offsets of the segments stand, and each leads to what is told of its segment: the
 -- record says how many pages there are, and their starts are read as they were written.
-use Rattle.std.proofs.Common.{◌≡◌, ℕ, ◌+◌, ◌*◌, ◌/◌, ◌<◌, ◌≤◌, ◌==◌, Bool, true, false, List, [], ◌++◌, length, map, get_or, arith, refl}
-use Rattle.std.proofs.Common.{sym, ap, subst, ◌∙◌, inl, inr, if◌then◌else◌}
+use Rattle.std.proofs.Common.{◌≡◌, ℕ, ◌+◌, ◌*◌, ◌/◌, ◌<◌, ◌≤◌, ◌==◌, Bool, true, false, List, [], ◌++◌, length, map, get_or, arith, refl, sym, ap, subst, ◌∙◌, inl, inr, if◌then◌else◌}
 use Rattle.std.specs.Prelude.{◌↔◌, All}
 use Rattle.std.specs.List.{flat_map, range_with_len, enumerate_from}
 use Rattle.macho_model.specs.Chain.{ChainSegment, OnChain}
@@ -15,17 +14,15 @@ use Rattle.std.proofs.lemmas.List.FromFn.{length-range_with_len, get_or-range_wi
 use Rattle.macho_bytes.specs.Numbers.{little, le_at, le_bytes}
 use Rattle.macho_bytes.specs.Texts.{Stands}
 use Rattle.macho_bytes.proofs.Numbers.{little_is_sound, number-stands, stands-front, stands-back}
-use Rattle.macho_structs.specs.declared.fixups.ChainedStartsInSegment.{ChainedStartsInSegment}
-use Rattle.macho_structs.specs.declared.fixups.ChainedFixupsHeader.{ChainedFixupsHeader}
-use Rattle.macho_model.specs.Images.{Table, fixups_header, starts_place, starts_offset, segment_starts, segment_starts_place}
+use Rattle.macho_wire.specs.declared.fixups.ChainedStartsInSegment.{ChainedStartsInSegment}
+use Rattle.macho_wire.specs.declared.fixups.ChainedFixupsHeader.{ChainedFixupsHeader}
+use Rattle.macho_model.specs.Images.{Table, fixups_header, starts_place, starts_offset, segment_starts, segment_starts_place, page_start, page_starts}
 use Rattle.macho_model.specs.Segments.{SEGMENT_PAGE}
-use Rattle.macho_model.specs.Images.{page_start, page_starts}
 use Rattle.macho_fixups.specs.declared.run.Fixup.{Fixup}
 use Rattle.macho_fixups.specs.declared.run.FixupSegment.{FixupSegment}
 use Rattle.macho_fixups.specs.declared.imports.ImportEntry.{ImportEntry}
 use Rattle.macho_fixups.specs.Runs.{pages_of, start_of}
-use Rattle.macho_fixups.specs.Tables.{offsets_text, segment_text, image_starts_text, image_starts_size, entry_text, table_header}
-use Rattle.macho_fixups.specs.Tables.{table_text, names_place}
+use Rattle.macho_fixups.specs.Tables.{offsets_text, segment_text, image_starts_text, image_starts_size, entry_text, table_header, table_text, names_place}
 use Rattle.macho_fixups.specs.Chains.{starts_in, chain_seen, IsAddressOf}
 use Rattle.macho_fixups.specs.Calls.{FitsTable, AreEntries}
 use Rattle.macho_fixups.specs.steps.Calls.{EntryFits}
@@ -37,7 +34,7 @@ use Rattle.macho_fixups.proofs.EntryReading.{entry_read}
 use Rattle.macho_fixups.proofs.TableTaken.{table_taken}
 use Rattle.macho_fixups.proofs.StartReading.{no_offset, record_read, start_stands}
 use Rattle.macho_bytes.specs.Spellings.{spelling, ReadsBack}
-use Rattle.macho_structs.specs.Spellings.{chained_fixups_header_rows}
+use Rattle.macho_wire.specs.Spellings.{chained_fixups_header_rows}
 
 -- lists of numbers that agree at each place
 same_map : (f g : ℕ → ℕ) (n : ℕ) → ((k : ℕ) → k < n → f k ≡ g k) → map f (range_with_len 0 n) ≡ map g (range_with_len 0 n)

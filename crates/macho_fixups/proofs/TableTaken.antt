@@ -4,20 +4,18 @@
 -- front of that, and these are no more than the range. Of a segment without pages nothing is asked. The record of one
 -- with pages ends in front of the imports, since the texts of the segments add up, and it says the segment's address
 -- less the base: added to the base again that is the address, which is below 2 ^ 64.
-use Rattle.std.proofs.Common.{◌≡◌, ℕ, suc, ◌+◌, ◌*◌, ◌-◌, ◌%◌, ◌^◌, ◌<◌, ◌≤◌, ◌==◌, ◌&&◌, ◌||◌, nat_le, Bool, true, false, List, [], ◌∷◌}
-use Rattle.std.proofs.Common.{length, map, get_or, arith, refl, ap, ◌∙◌, inl, inr}
+use Rattle.std.proofs.Common.{◌≡◌, ℕ, suc, ◌+◌, ◌*◌, ◌-◌, ◌%◌, ◌^◌, ◌<◌, ◌≤◌, ◌==◌, ◌&&◌, ◌||◌, nat_le, Bool, true, false, List, [], ◌∷◌, length, map, get_or, arith, refl, ap, ◌∙◌, inl, inr}
 use Rattle.std.specs.List.{flat_map, range_with_len, list_all}
 use Rattle.std.proofs.lemmas.Bool.{cases_lt}
 use Rattle.std.proofs.lemmas.Bool.Decides.{nat_tests}
 use Rattle.std.proofs.lemmas.List.{get_or-map}
 use Rattle.std.proofs.lemmas.List.FromFn.{length-range_with_len, get_or-range_with_len}
 use Rattle.macho_bytes.specs.Texts.{Stands}
-use Rattle.macho_structs.specs.declared.fixups.ChainedFixupsHeader.{ChainedFixupsHeader}
-use Rattle.macho_structs.specs.declared.fixups.ChainedStartsInSegment.{ChainedStartsInSegment}
+use Rattle.macho_wire.specs.declared.fixups.ChainedFixupsHeader.{ChainedFixupsHeader}
+use Rattle.macho_wire.specs.declared.fixups.ChainedStartsInSegment.{ChainedStartsInSegment}
 use Rattle.macho_model.specs.SegmentCommand.{SegmentCommand}
-use Rattle.macho_model.specs.Images.{Table, IMPORT_FORMAT, IMPORT_ADDEND_FORMAT, fixups_header, import_entry_size}
+use Rattle.macho_model.specs.Images.{Table, IMPORT_FORMAT, IMPORT_ADDEND_FORMAT, fixups_header, import_entry_size, starts_place, starts_count, starts_offset, segment_starts, segments_of, base_of}
 use Rattle.macho_model.specs.Segments.{SEGMENT_PAGE}
-use Rattle.macho_model.specs.Images.{starts_place, starts_count, starts_offset, segment_starts, segments_of, base_of}
 use Rattle.macho_model.specs.LoadRules.{starts_fit, table_fits}
 use Rattle.macho_fixups.specs.declared.run.Fixup.{Fixup}
 use Rattle.macho_fixups.specs.declared.run.FixupSegment.{FixupSegment}
@@ -29,25 +27,8 @@ use Rattle.macho_fixups.specs.Readings.{AreSegmentsOf, HasTable}
 use Rattle.macho_fixups.proofs.Cuts.{pages_of-no_bytes}
 use Rattle.macho_fixups.proofs.SegmentWrites.{no_segment, segment_room}
 use Rattle.macho_fixups.proofs.StartReading.{texts_before, no_offset, record_read}
-
--- tests joined
-and_both : (x y : Bool) → x ≡ true → y ≡ true → (x && y) ≡ true
-and_both true y is other = other
-and_both false y is other = absurd (cc)
-
-or_left : (x y : Bool) → x ≡ true → (x || y) ≡ true
-or_left true y is = refl
-or_left false y is = absurd (cc)
-
-or_right : (x y : Bool) → y ≡ true → (x || y) ≡ true
-or_right true y is = refl
-or_right false y is = is
-
-at_most : (m n : ℕ) → m ≤ n → nat_le m n ≡ true
-at_most m n le = grind (arith, nat_tests)
-
-same : (m n : ℕ) → m ≡ n → (m == n) ≡ true
-same m n is = grind (arith, nat_tests)
+use Rattle.macho_bytes.proofs.Comparing.{at_most}
+use Rattle.macho_bytes.proofs.Bools.{or_first as or_left, or_second as or_right, and_both, equal_is}
 
 -- a test of each number below n
 all_below : (test : ℕ → Bool) (n : ℕ) → ((k : ℕ) → k < n → test k ≡ true) → list_all test (range_with_len 0 n) ≡ true
@@ -98,7 +79,7 @@ segment_taken base at fixups segments b t k h fits header begins is_at offsets t
     without : pages ≤ 0 → starts_fit b t k ≡ true
     without none =
         or_left (starts_offset b t k == 0) _
-        (same (starts_offset b t k) 0 (no_offset base at fixups segments b t k no_segment fits place offsets lt (omega arith)))
+        (equal_is (starts_offset b t k) 0 (no_offset base at fixups segments b t k no_segment fits place offsets lt (omega arith)))
 
     no_command : SegmentCommand
     no_command = record {
@@ -140,13 +121,13 @@ segment_taken base at fixups segments b t k h fits header begins is_at offsets t
         let listed : nat_le ((fixups_header b t).starts_offset + starts_offset b t k + 22 + 2 * (segment_starts b t k).page_count) t.size
         ≡ true =
         at_most _ _ (omega (arith, starts, told.offset, end, room, count)) in
-        let paged : ((segment_starts b t k).page_size == SEGMENT_PAGE) ≡ true = same _ _
+        let paged : ((segment_starts b t k).page_size == SEGMENT_PAGE) ≡ true = equal_is _ _
         (ap (λ (r : ChainedStartsInSegment). r.page_size) told.is) in
         let formatted : ((segment_starts b t k).pointer_format == 6) ≡ true =
-        same _ _ (ap (λ (r : ChainedStartsInSegment). r.pointer_format) told.is) in
+        equal_is _ _ (ap (λ (r : ChainedStartsInSegment). r.pointer_format) told.is) in
         let placed : (((segment_starts b t k).segment_offset + base_of b) % 2 ^ 64
         == get_or (map (λ (c : SegmentCommand). c.vmaddr) (segments_of b)) k 0) ≡ true =
-        same _ _ (omega (arith, offset, base_is, above, small, address)) in
+        equal_is _ _ (omega (arith, offset, base_is, above, small, address)) in
         or_right (starts_offset b t k == 0) _
         (and_both _ _ (and_both _ _ (and_both _ _ listed paged) formatted) placed)
 
@@ -170,8 +151,8 @@ table_taken base size fixups segments format imports b t fits entries header cou
     known =
         let is : (fixups_header b t).imports_format ≡ format = ap (λ (h : ChainedFixupsHeader). h.imports_format) header in
         elim entries.known [
-          | inl one ↦ or_left _ _ (same _ _ (is ∙ one))
-          | inr two ↦ or_right _ _ (same _ _ (is ∙ two))
+          | inl one ↦ or_left _ _ (equal_is _ _ (is ∙ one))
+          | inr two ↦ or_right _ _ (equal_is _ _ (is ∙ two))
         ]
 
     imports_end : (fixups_header b t).imports_offset + import_entry_size (fixups_header b t).imports_format *
@@ -187,10 +168,10 @@ table_taken base size fixups segments format imports b t fits entries header cou
     whole = at_most _ _ (omega (arith, long, has.room))
 
     version : ((fixups_header b t).fixups_version == 0) ≡ true
-    version = same _ _ (ap (λ (h : ChainedFixupsHeader). h.fixups_version) header)
+    version = equal_is _ _ (ap (λ (h : ChainedFixupsHeader). h.fixups_version) header)
 
     plain : ((fixups_header b t).symbols_format == 0) ≡ true
-    plain = same _ _ (ap (λ (h : ChainedFixupsHeader). h.symbols_format) header)
+    plain = equal_is _ _ (ap (λ (h : ChainedFixupsHeader). h.symbols_format) header)
 
     offsets_fit : nat_le ((fixups_header b t).starts_offset + 4 + 4 * starts_count b t) t.size ≡ true
     offsets_fit = at_most _ _ (omega (arith, long, has.room, starts, count))

@@ -3,8 +3,7 @@
 -- Starts, imports and names are put each where the one before ends, and the header in front of them: so all are one
 -- put. Each segment with pages takes 22 bytes and two for each page, and there are six at most: so the table has no
 -- more bytes than are kept for it, whose sum is rounded up.
-use Rattle.std.proofs.Common.{◌≡◌, ℕ, ◌+◌, ◌*◌, ◌^◌, ◌<◌, ◌≤◌, ◌==◌, List, [], ◌∷◌, ◌++◌, length, arith, refl, ap, ◌∙◌, true, false, inl}
-use Rattle.std.proofs.Common.{inr, if◌then◌else◌}
+use Rattle.std.proofs.Common.{◌≡◌, ℕ, ◌+◌, ◌*◌, ◌^◌, ◌<◌, ◌≤◌, ◌==◌, List, [], ◌∷◌, ◌++◌, length, arith, refl, ap, ◌∙◌, true, false, inl, inr, if◌then◌else◌}
 use Rattle.std.specs.Prelude.{sum_by}
 use Rattle.std.proofs.Math.Nat.{mul-le-mul}
 use Rattle.std.proofs.lemmas.Bool.{cases_lt}
@@ -14,7 +13,7 @@ use Rattle.std.proofs.lemmas.List.Sums.{sum_by-cons}
 use Rattle.macho_bytes.specs.Texts.{put}
 use Rattle.macho_bytes.proofs.Numbers.{little_is_sound}
 use Rattle.macho_bytes.proofs.Layouts.{length-spelling}
-use Rattle.macho_structs.specs.declared.fixups.ChainedFixupsHeader.{ChainedFixupsHeader}
+use Rattle.macho_wire.specs.declared.fixups.ChainedFixupsHeader.{ChainedFixupsHeader}
 use Rattle.macho_bytes.proofs.Puts.{put-put}
 use Rattle.macho_model.specs.Images.{import_entry_size}
 use Rattle.macho_fixups.specs.declared.run.Fixup.{Fixup}
@@ -26,7 +25,7 @@ use Rattle.macho_fixups.specs.Calls.{AreEntries, FitsTable, all_pages}
 use Rattle.macho_fixups.proofs.SegmentWrites.{sum_bound}
 use Rattle.macho_fixups.proofs.PutOrder.{put_in_front}
 use Rattle.macho_bytes.specs.Spellings.{spelling}
-use Rattle.macho_structs.specs.Spellings.{chained_fixups_header_rows}
+use Rattle.macho_wire.specs.Spellings.{chained_fixups_header_rows}
 
 -- four texts put next to each other, the first of them last
 pub joined : (b c d : ℕ) (h s i n out : List ℕ) → b ≡ length h → c ≡ b + length s → d ≡ c + length i → d + length n ≤ length out

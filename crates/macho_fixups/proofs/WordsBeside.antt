@@ -8,7 +8,7 @@ use Rattle.std.specs.Prelude.{Contains}
 use Rattle.std.proofs.lemmas.Bool.{cases_lt}
 use Rattle.macho_bytes.specs.Texts.{Part, IsOutside}
 use Rattle.macho_bytes.proofs.Numbers.{little_is_sound}
-use Rattle.macho_bytes.proofs.Puts.{stands_by_bytes}
+use Rattle.macho_bytes.proofs.Puts.{stands_by_bytes, get_or-part}
 use Rattle.macho_model.specs.Needs.{POINTER_SIZE}
 use Rattle.macho_fixups.specs.declared.run.Fixup.{Fixup}
 use Rattle.macho_fixups.specs.declared.run.FixupSegment.{FixupSegment}
@@ -19,7 +19,6 @@ use Rattle.macho_fixups.specs.Laws.{BytesStay, TextsStay}
 use Rattle.macho_fixups.proofs.SegmentWrites.{no_segment}
 use Rattle.macho_fixups.proofs.Places.{HasNumber, number_of}
 use Rattle.macho_fixups.proofs.RunChain.{place_in}
-use Rattle.macho_fixups.proofs.Puts.{byte_of}
 
 -- a place in one segment is beside a word of another, or beside it as the addresses are
 beside : (segments : List FixupSegment) (s t : FixupSegment) (a f : ℕ) → AreSegments segments → Contains segments s → Contains segments t
@@ -103,4 +102,4 @@ texts_stay segments fixups before now s a text over one low high apart stands =
           | inl below ↦ inl (omega arith)
           | inr above ↦ inr (omega arith)
         ])
-        ∙ ap (λ (p : ℕ). get_or before p 0) (sym there) ∙ sym (byte_of before part stands i lt)
+        ∙ ap (λ (p : ℕ). get_or before p 0) (sym there) ∙ sym (get_or-part before part stands i lt)

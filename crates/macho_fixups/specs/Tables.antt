@@ -4,8 +4,8 @@ use Rattle.std.specs.Prelude.{ℕ, ◌+◌, ◌*◌, ◌-◌, ◌/◌, ◌^◌, 
 use Rattle.std.specs.Int.{w32, cast_unsigned}
 use Rattle.std.specs.List.{flat_map, range_with_len}
 use Rattle.macho_bytes.specs.Numbers.{le_bytes, rounded_up}
-use Rattle.macho_structs.specs.declared.fixups.ChainedFixupsHeader.{ChainedFixupsHeader}
-use Rattle.macho_structs.specs.declared.fixups.ChainedStartsInSegment.{ChainedStartsInSegment}
+use Rattle.macho_wire.specs.declared.fixups.ChainedFixupsHeader.{ChainedFixupsHeader}
+use Rattle.macho_wire.specs.declared.fixups.ChainedStartsInSegment.{ChainedStartsInSegment}
 use Rattle.macho_model.specs.Images.{import_entry_size, POINTER_FORMAT, IMPORT_ADDEND_FORMAT}
 use Rattle.macho_model.specs.WrittenSum.{FIXUP_RECORDS}
 use Rattle.macho_model.specs.Segments.{SEGMENT_PAGE}
@@ -14,7 +14,7 @@ use Rattle.macho_fixups.specs.declared.run.FixupSegment.{FixupSegment}
 use Rattle.macho_fixups.specs.declared.imports.ImportEntry.{ImportEntry}
 use Rattle.macho_fixups.specs.Runs.{pages_of, start_of}
 use Rattle.macho_bytes.specs.Spellings.{spelling}
-use Rattle.macho_structs.specs.Spellings.{chained_fixups_header_rows, chained_starts_in_segment_rows}
+use Rattle.macho_wire.specs.Spellings.{chained_fixups_header_rows, chained_starts_in_segment_rows}
 
 -- the starts of so many pages from a number on, two bytes each
 unfoldable pub page_starts_text : List Fixup → ℕ → ℕ → List ℕ

@@ -7,8 +7,7 @@ ghost use Rattle.macho_bytes.specs.Numbers.{le_bytes};
 ghost use Rattle.macho_bytes.specs.Texts.{put};
 ghost use Rattle.macho_model.specs.Needs.{POINTER_SIZE};
 ghost use Rattle.macho_fixups.specs.declared.run.FixupSegment.{FixupSegment};
-ghost use Rattle.macho_fixups.specs.Words.{has_word, FitsOrdinal, IsWordOf, word_of};
-ghost use Rattle.macho_fixups.specs.Words.{STEPS};
+ghost use Rattle.macho_fixups.specs.Words.{has_word, FitsOrdinal, IsWordOf, word_of, STEPS};
 ghost use Rattle.macho_fixups.specs.Runs.{AreFixups, AreSegments, Holds};
 ghost use Rattle.macho_fixups.specs.Chains.{place_of, step_of, step_between, AreWritten, HaveWords, IsFirstRefused, HaveRoom, ChainIsRun};
 ghost use Rattle.macho_fixups.specs.steps.Chains.{IsSegmentOf, ArePassed};
@@ -16,7 +15,7 @@ ghost use Rattle.macho_fixups.specs.steps.Chains.{IsSegmentOf, ArePassed};
 use crate::run::{Fixup, FixupSegment};
 use crate::words::{FixupKind, NotEncodable, bind_word, rebase_word};
 use macho_model::SEGMENT_PAGE;
-use macho_numbers::put_little;
+use macho_wire::put_little;
 
 /// The bytes of a step from word to word.
 const STRIDE: u64 = 4;

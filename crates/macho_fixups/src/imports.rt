@@ -8,7 +8,7 @@ ghost use Rattle.macho_fixups.specs.Tables.{entry_text, entry_word};
 ghost use Rattle.macho_fixups.specs.Calls.{AreEntries};
 ghost use Rattle.macho_fixups.specs.steps.Calls.{EntryFits};
 
-use macho_numbers::put_little;
+use macho_wire::put_little;
 
 /// `DYLD_CHAINED_IMPORT_ADDEND`: an entry is a word and an addend.
 pub const IMPORT_ADDEND_FORMAT: u32 = 2;

@@ -10,8 +10,7 @@ ghost use Rattle.macho_fixups.specs.steps.Runs.{AreSorted};
 
 use crate::run::{Fixup, FixupSegment, SegmentRun, has_next, skip_below};
 use macho_model::{NO_START, POINTER_FORMAT, SEGMENT_PAGE};
-use macho_numbers::put_little;
-use macho_structs::ChainedStartsInSegment;
+use macho_wire::{ChainedStartsInSegment, put_little};
 
 /// The bytes that tell of a segment with so many pages.
 pub(crate) fn starts_size(pages: u64) -> usize

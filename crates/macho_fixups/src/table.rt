@@ -22,8 +22,7 @@ use crate::imports::{ImportEntry, entry_size, write_imports};
 use crate::run::{Fixup, FixupSegment};
 use crate::starts::{starts_size, write_starts};
 use macho_model::FIXUP_RECORDS;
-use macho_numbers::{put_little, put_text};
-use macho_structs::ChainedFixupsHeader;
+use macho_wire::{ChainedFixupsHeader, put_little, put_text};
 
 /// The place of the starts: behind the header.
 const STARTS_AT: usize = ChainedFixupsHeader::SIZE;

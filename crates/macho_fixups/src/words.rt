@@ -12,8 +12,7 @@ ghost use Rattle.std.specs.Prelude.{◌≡◌, ◌<◌, ◌^◌, ◌%◌, ◌*�
 ghost use Rattle.macho_bytes.specs.Numbers.{le_at, le_bytes};
 ghost use Rattle.macho_model.specs.Needs.{POINTER_SIZE};
 ghost use Rattle.macho_fixups.specs.declared.words.FixupKind.TheVariants.{Rebase, Bind};
-ghost use Rattle.macho_fixups.specs.Words.{has_word, FitsOrdinal, IsWordOf, word_of};
-ghost use Rattle.macho_fixups.specs.Words.{STEPS};
+ghost use Rattle.macho_fixups.specs.Words.{has_word, FitsOrdinal, IsWordOf, word_of, STEPS};
 
 /// What the loader makes of a word.
 #[derive(Clone, Copy)]

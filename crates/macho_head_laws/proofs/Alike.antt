@@ -11,8 +11,7 @@ use Rattle.macho_bytes.specs.Numbers.{row_bytes}
 use Rattle.macho_bytes.specs.Texts.{name_of}
 use Rattle.macho_records.specs.Segments.{text_of, segment_flags_of}
 use Rattle.macho_records.specs.declared.header.SectionHeader.{SectionHeader}
-use Rattle.macho_records.specs.declared.constants.TheConstants.{LC_CODE_SIGNATURE, LC_DYLD_CHAINED_FIXUPS, LC_DYLD_EXPORTS_TRIE}
-use Rattle.macho_records.specs.declared.constants.TheConstants.{LC_SEGMENT_64}
+use Rattle.macho_records.specs.declared.constants.TheConstants.{LC_CODE_SIGNATURE, LC_DYLD_CHAINED_FIXUPS, LC_DYLD_EXPORTS_TRIE, LC_SEGMENT_64}
 use Rattle.macho_model.specs.declared.placed.Counts.{Counts}
 use Rattle.macho_model.specs.declared.placed.PlacedSegment.{PlacedSegment}
 use Rattle.macho_model.specs.declared.placed.Range64.{Range64}
@@ -22,8 +21,7 @@ use Rattle.macho_model.specs.Placement.{Placed}
 use Rattle.macho_model.specs.Head.{headers_in, range_size}
 use Rattle.macho_model.specs.HeadCommands.{HeadCommand, Segment, segment_for, entry_point_for, linkedit_for, symtab_for, commands_for}
 use Rattle.macho_commands.specs.Texts.{text_said}
-use Rattle.macho_head_laws.proofs.Cut.{bytes_cut4, bytes_cut8, segment_cut, header_cut, range_cut, range_cut-size, counts_cut, placed_cut}
-use Rattle.macho_head_laws.proofs.Cut.{entry_cut, entry_distance}
+use Rattle.macho_head_laws.proofs.Cut.{bytes_cut4, bytes_cut8, segment_cut, header_cut, range_cut, range_cut-size, counts_cut, placed_cut, entry_cut, entry_distance}
 use Rattle.macho_bytes.specs.Spellings.{spelling}
 use Rattle.macho_records.specs.Spellings.{section_header_rows}
 

@@ -26,8 +26,8 @@ use Rattle.macho_model.specs.Stands.{IsAt}
 use Rattle.macho_model.specs.Agreement.{table_of_range, EntryAgrees}
 use Rattle.macho_model.specs.Head.{range_size}
 use Rattle.macho_model.specs.HeadCommands.{HeadCommand, segment_for, entry_point_for, linkedit_for}
-use Rattle.macho_targets.specs.Laws.{ListsAll}
-use Rattle.macho_targets.proofs.Places.{places_are_one}
+use Rattle.macho_placed_laws.specs.Targets.{ListsAll}
+use Rattle.macho_placed_laws.proofs.Places.{places_are_one}
 use Rattle.macho_head_laws.proofs.Cut.{segment_cut, header_cut, range_cut, placed_cut, entry_distance}
 use Rattle.macho_head_laws.proofs.Alike.{segment_with}
 use Rattle.macho_model.specs.steps.Agreement.{SegmentPlace, place_told}

@@ -3,8 +3,7 @@
 -- Each number is below the end of its field: one that was cut since it was, a constant since it is computed, a count of headers and a
 -- size since the size of the command fits. Each text has its length. So each record reads back, and the command does; it has as many
 -- bytes as it says, and at least 8.
-use Rattle.std.proofs.Common.{◌≡◌, ℕ, ◌+◌, ◌*◌, ◌%◌, ◌^◌, ◌<◌, ◌≤◌, ◌⊎◌, Bool, true, false, List, [], ◌∷◌, ◌++◌, length, map, get_or}
-use Rattle.std.proofs.Common.{refl, sym, ap, ◌∙◌, arith, inl, inr, All}
+use Rattle.std.proofs.Common.{◌≡◌, ℕ, ◌+◌, ◌*◌, ◌%◌, ◌^◌, ◌<◌, ◌≤◌, ◌⊎◌, Bool, true, false, List, [], ◌∷◌, ◌++◌, length, map, get_or, refl, sym, ap, ◌∙◌, arith, inl, inr, All}
 use Rattle.std.specs.Prelude.{Some}
 use Rattle.std.specs.Str.{bytes_eq}
 use Rattle.std.specs.List.{flat_map}
@@ -16,34 +15,30 @@ use Rattle.macho_bytes.proofs.Numbers.{little_is_sound}
 use Rattle.macho_records.specs.Segments.{text_of, segment_flags_of}
 use Rattle.macho_records.specs.declared.header.SegmentCommand.{SegmentCommand}
 use Rattle.macho_records.specs.declared.header.SectionHeader.{SectionHeader}
-use Rattle.macho_records.specs.declared.constants.TheConstants.{LC_BUILD_VERSION, LC_ID_DYLIB, LC_LOAD_DYLIB, LC_MAIN}
-use Rattle.macho_records.specs.declared.constants.TheConstants.{LC_SEGMENT_64, LC_SYMTAB, LC_UUID}
+use Rattle.macho_records.specs.declared.constants.TheConstants.{LC_BUILD_VERSION, LC_ID_DYLIB, LC_LOAD_DYLIB, LC_MAIN, LC_SEGMENT_64, LC_SYMTAB, LC_UUID}
 use Rattle.macho_records.specs.declared.symbols.SymtabCommand.{SymtabCommand}
-use Rattle.macho_structs.specs.declared.commands.EntryPointCommand.{EntryPointCommand}
-use Rattle.macho_structs.specs.declared.commands.DylinkerCommand.{DylinkerCommand}
-use Rattle.macho_structs.specs.declared.commands.DylibCommand.{DylibCommand}
-use Rattle.macho_structs.specs.declared.commands.RpathCommand.{RpathCommand}
-use Rattle.macho_structs.specs.declared.commands.LinkeditDataCommand.{LinkeditDataCommand}
-use Rattle.macho_structs.specs.declared.commands.UuidCommand.{UuidCommand}
-use Rattle.macho_structs.specs.declared.commands.BuildVersionCommand.{BuildVersionCommand}
-use Rattle.macho_structs.specs.declared.commands.BuildToolVersion.{BuildToolVersion}
+use Rattle.macho_wire.specs.declared.commands.EntryPointCommand.{EntryPointCommand}
+use Rattle.macho_wire.specs.declared.commands.DylinkerCommand.{DylinkerCommand}
+use Rattle.macho_wire.specs.declared.commands.DylibCommand.{DylibCommand}
+use Rattle.macho_wire.specs.declared.commands.RpathCommand.{RpathCommand}
+use Rattle.macho_wire.specs.declared.commands.LinkeditDataCommand.{LinkeditDataCommand}
+use Rattle.macho_wire.specs.declared.commands.UuidCommand.{UuidCommand}
+use Rattle.macho_wire.specs.declared.commands.BuildVersionCommand.{BuildVersionCommand}
+use Rattle.macho_wire.specs.declared.commands.BuildToolVersion.{BuildToolVersion}
 use Rattle.macho_model.specs.declared.placed.PlacedSegment.{PlacedSegment}
 use Rattle.macho_model.specs.Segments.{PAGEZERO, TEXT, DATA_CONST, LINKEDIT, loaded_protection_of}
 use Rattle.macho_model.specs.Signature.{uuid_written}
-use Rattle.macho_model.specs.HeadCommands.{DYLINKER, THIS_TOOL, THIS_VERSION, path_command_size, path_filled}
-use Rattle.macho_model.specs.HeadCommands.{HeadCommand, EntryPoint, Symtab, BuildVersion, size_said, uuid_for, versions_for, dylinker_for}
-use Rattle.macho_model.specs.HeadCommands.{dylib_for, rpath_for, linkedit_for}
+use Rattle.macho_model.specs.HeadCommands.{DYLINKER, THIS_TOOL, THIS_VERSION, path_command_size, path_filled, HeadCommand, EntryPoint, Symtab, BuildVersion, size_said, uuid_for, versions_for, dylinker_for, dylib_for, rpath_for, linkedit_for}
 use Rattle.macho_commands.specs.Texts.{text_said}
 use Rattle.macho_commands.specs.Reading.{IsReadable}
 use Rattle.macho_commands.specs.steps.Writing.{IsLinkedit, EachReadsBack}
-use Rattle.macho_commands.proofs.Readable.{segment_readable, entry_point_readable, uuid_readable, build_version_readable, dylinker_readable}
-use Rattle.macho_commands.proofs.Readable.{dylib_readable, rpath_readable, linkedit_readable, symtab_readable}
+use Rattle.macho_commands.proofs.Readable.{segment_readable, entry_point_readable, uuid_readable, build_version_readable, dylinker_readable, dylib_readable, rpath_readable, linkedit_readable, symtab_readable}
 use Rattle.macho_commands.proofs.PathTexts.{length-filled, length-path_written, dylinker_sized, dylib_sized, rpath_sized}
 use Rattle.macho_commands.proofs.Texts.{length-flat_map_same}
 use Rattle.macho_head_laws.proofs.Cut.{segment_cut, header_cut}
 use Rattle.macho_head_laws.proofs.Alike.{segment_with}
 use Rattle.macho_bytes.specs.Spellings.{spelling, ReadsBack}
-use Rattle.macho_structs.specs.Spellings.{entry_point_command_rows, dylinker_command_rows, dylib_command_rows, rpath_command_rows, linkedit_data_command_rows, uuid_command_rows, build_version_command_rows, build_tool_version_rows}
+use Rattle.macho_wire.specs.Spellings.{entry_point_command_rows, dylinker_command_rows, dylib_command_rows, rpath_command_rows, linkedit_data_command_rows, uuid_command_rows, build_version_command_rows, build_tool_version_rows}
 use Rattle.macho_records.specs.Spellings.{segment_command_rows, section_header_rows, symtab_command_rows}
 
 -- A command has the bytes that it says, and is found again where their number fits its field.

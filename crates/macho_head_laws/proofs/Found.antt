@@ -3,9 +3,7 @@
 -- The header stands first, and its fields are constants but for these two numbers. What it says of the bytes is what is left of their
 -- number in 32 bits; and the end of the commands is where the placement's head ends. So the bytes are that many, and below 2 ^ 32. Each
 -- command has at least 8 of them, so the number of commands fits too, and so does the size of each.
-use Rattle.std.proofs.Common.{◌≡◌, ℕ, ◌+◌, ◌*◌, ◌%◌, ◌^◌, ◌<◌, Bool, true, false, List, [], ◌∷◌, ◌++◌, length, map, refl, sym, ap}
-use Rattle.std.proofs.Common.{subst, ◌∙◌}
-use Rattle.std.proofs.Common.{arith, All}
+use Rattle.std.proofs.Common.{◌≡◌, ℕ, ◌+◌, ◌*◌, ◌%◌, ◌^◌, ◌<◌, Bool, true, false, List, [], ◌∷◌, ◌++◌, length, map, refl, sym, ap, subst, ◌∙◌, arith, All}
 use Rattle.std.specs.Prelude.{if◌then◌else◌, sum_by}
 use Rattle.std.specs.List.{concat, flat_map}
 use Rattle.std.proofs.lemmas.List.{length-map, map-append}
@@ -27,7 +25,7 @@ use Rattle.macho_model.specs.HeadCommands.{HeadCommand, command_in, commands_in,
 use Rattle.macho_commands.specs.Texts.{text_said}
 use Rattle.macho_commands.proofs.HeadBytes.{commands-spelled}
 use Rattle.macho_promise.specs.Sizes.{commands_size}
-use Rattle.macho_agreement.proofs.Heads.{commands_sized}
+use Rattle.macho_placed_laws.proofs.Heads.{commands_sized}
 use Rattle.macho_head_laws.proofs.Cut.{bytes_cut4, segment_cut, header_cut, counts_cut, placed_cut}
 use Rattle.macho_head_laws.proofs.Alike.{headers_cut, commands_alike}
 use Rattle.macho_head_laws.proofs.Fits.{IsWhole}

@@ -27,9 +27,9 @@ use Rattle.macho_commands.specs.Laws.{HeadReads}
 use Rattle.macho_commands.proofs.HeadRead.{head_read}
 use Rattle.macho_promise.specs.Sizes.{AreCounts, counts_with, commands_size}
 use Rattle.macho_promise.specs.Promise.{IsLinked}
-use Rattle.macho_targets.specs.Laws.{ListsAll}
-use Rattle.macho_agreement.proofs.Headers.{headers-are}
-use Rattle.macho_agreement.proofs.Entry.{file_base}
+use Rattle.macho_placed_laws.specs.Targets.{ListsAll}
+use Rattle.macho_placed_laws.proofs.Headers.{headers-are}
+use Rattle.macho_placed_laws.proofs.Entry.{file_base}
 use Rattle.macho_head_laws.specs.Laws.{LinkedHeadIsRead, LinkedUuidIsRead}
 use Rattle.macho_head_laws.proofs.Cut.{segment_cut, header_cut, counts_cut, placed_cut}
 use Rattle.macho_head_laws.proofs.Named.{segments_named, headers_named}
@@ -38,10 +38,7 @@ use Rattle.macho_head_laws.proofs.Found.{head_found, sections_cut}
 use Rattle.macho_head_laws.proofs.Compared.{segments_kept, segments_same, entry_same, range_same, at_same}
 use Rattle.macho_model.proofs.Parts.{in_order_of, order_of}
 use Rattle.macho_model.proofs.Outputs.{headers_same}
-
-commands_counted : (l : Link) (counts : Counts) → AreCounts l counts → counts.commands ≡ commands_size l
-unfolding counts_with
-commands_counted l counts are = ap (λ (c : Counts). c.commands) are.are
+use Rattle.macho_promise.proofs.Counted.{commands_counted}
 
 -- the tables' commands are those of the placement
 trie_same : (l : Link) (counts : Counts) (uuid b : List ℕ) (p : Placed) (trie : ℕ)

@@ -2,12 +2,10 @@
 --
 -- A segment's name is that of the link, filled with zeros, so it has 16 bytes at least; its text is read from a field of the file, so
 -- it has 16 at most. The headers of sections are read from the file, and their names are filled in the same way.
-use Rattle.std.proofs.Common.{◌≡◌, ℕ, ◌+◌, ◌*◌, ◌-◌, ◌≤◌, ◌==◌, List, [], ◌∷◌, length, map, get_or, drop, slice_range, refl, sym, ap}
-use Rattle.std.proofs.Common.{subst, ◌∙◌}
-use Rattle.std.proofs.Common.{arith, All}
+use Rattle.std.proofs.Common.{◌≡◌, ℕ, ◌+◌, ◌*◌, ◌-◌, ◌≤◌, ◌==◌, List, [], ◌∷◌, length, map, get_or, drop, slice_range, refl, sym, ap, subst, ◌∙◌, arith, All}
 use Rattle.std.specs.Prelude.{replicate}
 use Rattle.std.specs.List.{flat_map, range_with_len, position_or_len}
-use Rattle.std.proofs.lemmas.List.{length-append, length-map, length-take, length-replicate, get_or-map}
+use Rattle.std.proofs.lemmas.List.{length-append, length-take, length-replicate}
 use Rattle.std.proofs.lemmas.List.Concat.{flat_map-cons}
 use Rattle.std.proofs.lemmas.List.Elements.{All-map, All-same, All-append, All-nil, All-cons}
 use Rattle.macho_bytes.specs.Texts.{name_of}
@@ -27,6 +25,8 @@ use Rattle.macho_model.specs.steps.Outputs.{OutputSection, key_of_output, output
 use Rattle.macho_model.specs.Spans.{StandInOrder}
 use Rattle.macho_head_laws.proofs.Fits.{IsNamed}
 use Rattle.macho_model.specs.steps.Agreement.{SegmentPlace, place_by_command, place_told}
+use Rattle.macho_bytes.proofs.Maps.{map_map}
+use Rattle.macho_bytes.proofs.Members.{all_unmap}
 
 -- a field of the file has 16 bytes at most, and a name no more than its field
 field_short : (b : List ℕ) (from to : ℕ) → to ≤ from + 16 → length (slice_range b from to) ≤ 16
@@ -49,14 +49,6 @@ filled_is name short =
     let gap : List ℕ = replicate n 0 in
     let count : length gap ≡ n = length-replicate n 0 in
     omega (arith, length-append (name_of name) gap, count, short)
-
-map_twice : {X Y Z : Type 0} (g : Y → Z) (f : X → Y) (xs : List X) → map g (map f xs) ≡ map (λ x. g (f x)) xs
-map_twice g f [] = refl
-map_twice {Z = Z} g f (x ∷ xs) = ap (λ (zs : List Z). g (f x) ∷ zs) (map_twice g f xs)
-
--- what holds of each element's image holds of the image of each
-of_map : {X Y : Type 0} (P : Y → Type 0) (f : X → Y) (xs : List X) → All P (map f xs) → All (λ x. P (f x)) xs
-of_map P f xs each = λ k d lt. subst P (get_or-map f xs k d (f d) lt) (each k (f d) (omega (arith, length-map xs f)))
 
 of_flat_map : {X Y : Type 0} (P : Y → Type 0) (f : X → List Y) (xs : List X) → ((x : X) → All P (f x)) → All P (flat_map f xs)
 of_flat_map P f [] each = All-nil P
@@ -88,7 +80,7 @@ segments_named l counts b p order agree = λ k d lt.
   where
     alike : map (λ (t : PlacedSegment). t.name.0) p.segments ≡ map (λ (t : PlacedSegment). name_field (text_of t.name)) p.segments
     alike = order.names ∙ ap (map name_field) (sym order.segments)
-        ∙ map_twice name_field (λ (t : PlacedSegment). text_of t.name) p.segments
+        ∙ map_map name_field (λ (t : PlacedSegment). text_of t.name) p.segments
 
     read : All Short (map place_by_command (segments_of b))
     read =
@@ -100,7 +92,7 @@ segments_named l counts b p order agree = λ k d lt.
 
     texts : All (λ s. length (text_of s.name) ≤ 16) p.segments
     texts =
-        of_map Short place_told p.segments
+        all_unmap Short place_told p.segments
         (All-same Short (map place_told p.segments) (map place_by_command (segments_of b)) (sym agree) read)
 
 -- THE names in section headers

@@ -2,16 +2,14 @@
 -- its size fits.
 --
 -- Names have 16 bytes, and versions fit as the image's head promises. All other numbers are cut, constants, or told by the size.
-use Rattle.std.proofs.Common.{◌≡◌, ℕ, ◌%◌, ◌^◌, ◌<◌, Bool, true, false, List, [], ◌∷◌, length, map, get_or, refl, sym, subst, arith, All}
-use Rattle.std.proofs.Common.{inl, inr}
+use Rattle.std.proofs.Common.{◌≡◌, ℕ, ◌%◌, ◌^◌, ◌<◌, Bool, true, false, List, [], ◌∷◌, length, map, get_or, refl, sym, subst, arith, All, inl, inr}
 use Rattle.std.specs.Prelude.{if◌then◌else◌, Option, Some, None, IfSome}
 use Rattle.std.proofs.lemmas.List.Elements.{All-map, All-append, All-cons, All-nil, All-filter}
 use Rattle.std.specs.Str.{bytes_eq}
 use Rattle.macho_bytes.specs.Texts.{name_of}
 use Rattle.macho_records.specs.Segments.{text_of}
 use Rattle.macho_records.specs.declared.header.SectionHeader.{SectionHeader}
-use Rattle.macho_records.specs.declared.constants.TheConstants.{LC_CODE_SIGNATURE, LC_DYLD_CHAINED_FIXUPS, LC_DYLD_EXPORTS_TRIE}
-use Rattle.macho_records.specs.declared.constants.TheConstants.{LC_ID_DYLIB, LC_LOAD_DYLIB, LC_MAIN}
+use Rattle.macho_records.specs.declared.constants.TheConstants.{LC_CODE_SIGNATURE, LC_DYLD_CHAINED_FIXUPS, LC_DYLD_EXPORTS_TRIE, LC_ID_DYLIB, LC_LOAD_DYLIB, LC_MAIN}
 use Rattle.macho_model.specs.declared.placed.Counts.{Counts}
 use Rattle.macho_model.specs.declared.placed.PlacedSegment.{PlacedSegment}
 use Rattle.macho_model.specs.declared.placed.Range64.{Range64}
@@ -20,13 +18,11 @@ use Rattle.macho_model.specs.Needs.{libraries_needed}
 use Rattle.macho_model.specs.Segments.{list_if}
 use Rattle.macho_model.specs.Placement.{Placed}
 use Rattle.macho_model.specs.Head.{headers_in, range_size}
-use Rattle.macho_model.specs.HeadCommands.{HeadCommand, EntryPoint, segment_for, entry_point_for, uuid_for, versions_for, dylinker_for}
-use Rattle.macho_model.specs.HeadCommands.{dylib_for, needed_dylib_for, rpath_for, linkedit_for, symtab_for, commands_for}
+use Rattle.macho_model.specs.HeadCommands.{HeadCommand, EntryPoint, segment_for, entry_point_for, uuid_for, versions_for, dylinker_for, dylib_for, needed_dylib_for, rpath_for, linkedit_for, symtab_for, commands_for}
 use Rattle.macho_commands.specs.steps.Writing.{IsLinkedit}
 use Rattle.macho_head_laws.proofs.Cut.{segment_cut, range_cut, range_cut-size, counts_cut, placed_cut, entry_cut, entry_distance}
 use Rattle.macho_head_laws.proofs.Alike.{segment_with, headers_cut}
-use Rattle.macho_head_laws.proofs.Fits.{IsWhole, IsNamed, segment_whole, entry_point_whole, uuid_whole, versions_whole, dylinker_whole}
-use Rattle.macho_head_laws.proofs.Fits.{dylib_whole, rpath_whole, linkedit_whole, symtab_whole}
+use Rattle.macho_head_laws.proofs.Fits.{IsWhole, IsNamed, segment_whole, entry_point_whole, uuid_whole, versions_whole, dylinker_whole, dylib_whole, rpath_whole, linkedit_whole, symtab_whole}
 
 segments : (l : Link) (p : Placed) → All (λ s. length s.name.0 ≡ 16) p.segments → All IsNamed p.output_sections
     → All IsWhole (map (segment_for (placed_cut l p)) (placed_cut l p).segments)

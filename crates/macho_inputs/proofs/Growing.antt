@@ -6,13 +6,13 @@ use Rattle.std.proofs.Common.{◌≡◌, ℕ, ◌+◌, ◌<◌, ◌≤◌, List,
 use Rattle.std.specs.List.{enumerate_from, filter_map}
 use Rattle.std.proofs.lemmas.List.{length-map, length-take, map-append, take_all, take_more}
 use Rattle.std.proofs.lemmas.List.Elements.{filter_map-append}
-use Rattle.macho_layout.proofs.Numbered.{enumerate_push}
 use Rattle.macho_model.specs.Links.{Input}
-use Rattle.macho_names.specs.Kept.{FileRows, Keeps}
+use Rattle.macho_symbol_names.specs.Kept.{FileRows, Keeps}
 use Rattle.macho_linkedit.specs.Listing.{object_in}
-use Rattle.macho_inputs.specs.declared.owned.OwnedInput.{OwnedInput}
-use Rattle.macho_inputs.specs.declared.owned.OwnedInput.TheVariants as owned
-use Rattle.macho_inputs.specs.Owned.{input_of}
+use Rattle.macho_linker.specs.declared.owned.OwnedInput.{OwnedInput}
+use Rattle.macho_linker.specs.declared.owned.OwnedInput.TheVariants as owned
+use Rattle.macho_linker.specs.Owned.{input_of}
+use Rattle.macho_model.proofs.LinkLaws.{enumerate_more}
 
 -- the inputs with one more
 pub inputs_more : (xs : List OwnedInput) (i : ℕ) (x : OwnedInput) → i < length xs → x ≡ get_or xs i x → map input_of (take (i + 1) xs)
@@ -30,7 +30,7 @@ objects_more xs i x old new lt is so_far added =
     let long : 0 + length before ≡ i = omega (arith, lt, length-map (take i xs) input_of, length-take i xs) in
     added ∙ ap (λ (ys : List (ℕ × List ℕ)). ys ++ filter_map object_in ((i, input_of x) ∷ [])) so_far
     ∙ sym (ap (λ (ys : List Input). filter_map object_in (enumerate_from 0 ys)) (inputs_more xs i x lt is)
-    ∙ ap (filter_map object_in) (enumerate_push 0 before (input_of x)
+    ∙ ap (filter_map object_in) (enumerate_more 0 before (input_of x)
     ∙ ap (λ (n : ℕ). enumerate_from 0 before ++ (n, input_of x) ∷ []) long)
     ∙ filter_map-append object_in (enumerate_from 0 before) ((i, input_of x) ∷ []))
 

@@ -1,4 +1,3 @@
-pub mod OneReading
 pub mod Growing
 pub mod Naming
 pub mod Duplicates

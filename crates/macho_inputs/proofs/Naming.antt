@@ -12,17 +12,18 @@ use Rattle.std.proofs.lemmas.List.Elements.{filter_agree}
 use Rattle.std.proofs.lemmas.Slice.Eq.{bytes_eq-Decides}
 use Rattle.indexmap.specs.IndexSet.{insert_key}
 use Rattle.macho_layout.proofs.Distinct.{distinct_push}
-use Rattle.macho_layout.proofs.Named.{any_agree, any_distinct, any_map}
 use Rattle.macho_linkedit.specs.Libraries.{same_text}
 use Rattle.macho_model.specs.Links.{Link, Input}
 use Rattle.macho_model.specs.Needs.{distinct, import_library, imports_of, libraries_needed}
 use Rattle.macho_model.specs.steps.Resolved.{library_file}
-use Rattle.macho_model.specs.Resolution.{Definition, library_of_input}
-use Rattle.macho_model.specs.Resolution.{library_name}
+use Rattle.macho_model.specs.Resolution.{Definition, library_of_input, library_name}
 use Rattle.macho_symbols.specs.declared.solved.Import.{Import}
 use Rattle.macho_symbols.specs.Told.{ImportsAre, IsImportOf}
 use Rattle.macho_stub_lines.specs.Lists.{texts}
 use Rattle.macho_inputs.specs.steps.Libraries.{asked_of, is_kept}
+use Rattle.macho_bytes.proofs.Comparing.{bytes_turn}
+use Rattle.macho_bytes.proofs.Maps.{any_map, any_agree}
+use Rattle.macho_model.proofs.Distinct.{any_distinct}
 
 -- some import is bound to the library
 abbrev is_needed : Link → List ℕ → Bool
@@ -58,16 +59,6 @@ pub distinct_more : (names : List (Bor (List ℕ))) (i : ℕ) (x : Bor (List ℕ
 distinct_more names i x old new lt is so_far put =
     ap texts put ∙ texts_put old x ∙ ap (λ (ys : List (List ℕ)). insert_key bytes_eq ys x.now) so_far
     ∙ sym (ap (distinct bytes_eq) (texts_more names i x lt is) ∙ distinct_push bytes_eq bytes_eq-Decides (texts (take i names)) x.now)
-
--- two tests of one equality
-same_bytes : (a b : List ℕ) → bytes_eq a b ≡ bytes_eq b a
-same_bytes a b = by (bytes_eq a b) refl (bytes_eq b a) refl
-  where
-    by : (p : Bool) → bytes_eq a b ≡ p → (q : Bool) → bytes_eq b a ≡ q → bytes_eq a b ≡ bytes_eq b a
-    by true e true f = e ∙ sym f
-    by false e false f = e ∙ sym f
-    by true e false f = absurd (let on : bytes_eq b a ≡ true = (bytes_eq-Decides b a).1 (sym ((bytes_eq-Decides a b).0 e)) in cc)
-    by false e true f = absurd (let on : bytes_eq a b ≡ true = (bytes_eq-Decides a b).1 (sym ((bytes_eq-Decides b a).0 f)) in cc)
 
 -- the library of an import
 library_is : (l : Link) (name : List ℕ) (i : Import) → IsImportOf l name i → i.library.items ≡ import_library l name
@@ -107,7 +98,7 @@ needed_are l inputs imports dead asked held strips are names =
         ∙ any_distinct bytes_eq (bytes_eq n) (λ a b e. ap (bytes_eq n) ((bytes_eq-Decides a b).0 e)) (asked_of imports)
         ∙ ap (list_any (bytes_eq n)) (asked_are l imports are) ∙ any_map (bytes_eq n) (import_library l) (imports_of l)
         ∙ any_agree (λ (name : List ℕ). bytes_eq n (import_library l name)) (λ (name : List ℕ). bytes_eq (import_library l name) n)
-        (λ name. same_bytes n (import_library l name)) (imports_of l)
+        (λ name. bytes_turn n (import_library l name)) (imports_of l)
 
     same : (n : List ℕ) → is_kept dead asked n ≡ (not l.dead_strip_dylibs || is_needed l n)
     same n = by dead refl

@@ -1,3 +1,1 @@
-pub mod Owned
-pub mod Readings
 pub mod steps

@@ -3,13 +3,11 @@
 
 mod libraries;
 mod objects;
-mod owned;
 mod resolving;
 mod stubs;
 mod views;
 
 pub use libraries::needed_libraries;
 pub use objects::list_objects;
-pub use owned::{OwnedInput, StubText};
 pub use resolving::resolve_inputs;
 pub use views::view_inputs;

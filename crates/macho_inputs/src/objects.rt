@@ -3,10 +3,10 @@ ghost use Rattle.std.specs.Prelude.{◌≡◌, ◌<◌, ◌^◌, false, length, 
 ghost use Rattle.macho_model.specs.Links.{Link};
 ghost use Rattle.macho_promise.specs.Inputs.{IsInput};
 ghost use Rattle.macho_linkedit.specs.Listing.{AreObjects};
-ghost use Rattle.macho_inputs.specs.Owned.{input_of};
+ghost use Rattle.macho_linker.specs.Owned.{input_of};
 
-use crate::owned::OwnedInput;
 use macho_linkedit::LinkedObject;
+use macho_linker::OwnedInput;
 use macho_object::File;
 use std::alloc::{AllocError, Global};
 

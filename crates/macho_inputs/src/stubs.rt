@@ -1,9 +1,9 @@
 //! The text of a stub, read again: it was found to be a stub when it was taken, and its reading isn't kept.
 ghost use Rattle.std.specs.Prelude.{◌≡◌, IfOk};
-ghost use Rattle.macho_names.specs.Kept.{reading_of};
-ghost use Rattle.macho_inputs.specs.Owned.{says_of};
+ghost use Rattle.macho_symbol_names.specs.Kept.{reading_of};
+ghost use Rattle.macho_linker.specs.Owned.{says_of};
 
-use crate::owned::StubText;
+use macho_linker::StubText;
 use macho_stub::{DefinedStubLibrary, StubFault, parse_defined_library};
 use std::alloc::{AllocError, Global};
 

@@ -1,10 +1,10 @@
 //! Views of the inputs of a link.
 ghost use Rattle.std.specs.Prelude.{◌≡◌, map, All, IfOk};
 ghost use Rattle.macho_promise.specs.Inputs.{IsInput};
-ghost use Rattle.macho_parts.specs.Views.{object_view, ViewsObject};
-ghost use Rattle.macho_inputs.specs.Owned.{input_of};
+ghost use Rattle.macho_promise.specs.Views.{object_view, ViewsObject};
+ghost use Rattle.macho_linker.specs.Owned.{input_of};
 
-use crate::owned::OwnedInput;
+use macho_linker::OwnedInput;
 use macho_object::File;
 use std::alloc::{AllocError, Global};
 

@@ -4,8 +4,7 @@
 -- stands behind those before it: the files are one more, the link has its input last, and the paths end with its own. What
 -- refused it is the cause of a fault of the whole: the inputs before it are taken, and a count that rose in this call rose since
 -- the first, since no count falls. A list is asked for behind all inputs.
-use Rattle.std.proofs.Common.{◌≡◌, ℕ, suc, ◌+◌, ◌<◌, ◌≤◌, inl, inr, arith, refl, ap, sym, subst, ◌∙◌, List, []}
-use Rattle.std.proofs.Common.{◌∷◌, ◌++◌, map, take, drop, length, get_or, All, Option, Some, None, String, Result, Ok, Err, OnOk}
+use Rattle.std.proofs.Common.{◌≡◌, ℕ, suc, ◌+◌, ◌<◌, ◌≤◌, inl, inr, arith, refl, ap, sym, subst, ◌∙◌, List, [], ◌∷◌, ◌++◌, map, take, drop, length, get_or, All, Option, Some, None, String, Result, Ok, Err, OnOk}
 use Rattle.std.specs.Prelude.{IfErr}
 use Rattle.std.proofs.Math.Seq.{drop-cons}
 use Rattle.std.proofs.lemmas.Bool.{cases_lt}
@@ -19,7 +18,7 @@ use Rattle.macho_args.specs.declared.fields.InputSpec.{InputSpec}
 use Rattle.macho_model.specs.Links.{Link}
 use Rattle.macho_model.specs.Links as model
 use Rattle.macho_model.specs.LinkLaws.{with_input}
-use Rattle.macho_image.specs.Linkers.{link_of, with_export_list}
+use Rattle.macho_linker.specs.Linkers.{link_of, with_export_list}
 use Rattle.macho_devices.specs.Devices.{ReadsFile}
 use Rattle.macho_devices.specs.Faults.{CountsOn, CountRose}
 use Rattle.macho_job.specs.declared.fault.Fault.{Fault}
@@ -28,6 +27,7 @@ use Rattle.macho_job.specs.Search.{candidates_of, FileIs, IsFirstHeld}
 use Rattle.macho_job.specs.Job.{SourceFile, IsTaken, IsListed, Links}
 use Rattle.macho_job.specs.Causes.{IsAsked, IsListAsked, JobFails, reading}
 use Rattle.macho_job.specs.steps.Gathering.{TakesFile, TakesBytesOf, EndsWith, InputFails, ListFails, Gathered, HaveInputs, HaveLists}
+use Rattle.macho_bytes.proofs.Comparing.{on_ok_one}
 
 -- what a read says of the bytes that it gave, and of a path without a file
 pub read-held : (told : Option Store) (path bytes : List ℕ) (answer : Option (List ℕ)) → ReadsFile told path answer → answer ≡ Some bytes
@@ -75,11 +75,6 @@ pub none-held : {A : Type 0} (told : Option Store) (paths : List (String A)) (i 
     → All (FileIs told None) (map string_bytes paths)
 none-held told paths i end missing = subst (λ (ps : List (String _)). All (FileIs told None) (map string_bytes ps)) (take_all i paths end)
     missing
-
--- what follows from an answer
-pub on-ok : {T E P Q : Type 0} (r : Result T E) → (P → Q) → OnOk r P → OnOk r Q
-on-ok (Ok x) f p = f p
-on-ok (Err e) f p = tt
 
 -- an input is found and taken
 pub takes-file : (told : Option Store) (s : Settings) (asked : Input) (old paths : List (List ℕ)) (l m : Link) (path bytes : List ℕ)
@@ -277,7 +272,7 @@ pub lists-joined : {T E : Type 0} (told now : Option Store) (s : Settings) (path
     → HaveLists told s [] paths l → (HaveLists now s [] paths l → OnOk r (HaveLists now s s.export_list_paths paths m))
     → OnOk r (Links told s paths m)
 lists-joined told now s paths l m r same have more =
-    on-ok r (λ all. links-of told s paths m (lists-since now told s s.export_list_paths paths m (sym same) all))
+    on_ok_one r (λ all. links-of told s paths m (lists-since now told s s.export_list_paths paths m (sym same) all))
     (more (lists-since told now s [] paths l same have))
 
 -- a list was refused

@@ -8,8 +8,7 @@ use Rattle.std.proofs.lemmas.Bool.Decides.{nat_tests}
 use Rattle.std.proofs.lemmas.List.{length-append}
 use Rattle.macho_bytes.specs.Numbers.{le_bytes, row_bytes}
 use Rattle.macho_job.specs.Generator.{object_with, generated_object, function_name}
-use Rattle.macho_job.specs.steps.Objects.{words, joined_all, OBJECT_HEAD, CALLING_SECTIONS, LAST_SECTIONS, calling_parts, last_parts}
-use Rattle.macho_job.specs.steps.Objects.{calling_object, last_object}
+use Rattle.macho_job.specs.steps.Objects.{words, joined_all, OBJECT_HEAD, CALLING_SECTIONS, LAST_SECTIONS, calling_parts, last_parts, calling_object, last_object}
 use Rattle.macho_bytes.specs.Spellings.{spelling}
 use Rattle.macho_job.specs.steps.Generator.{pointer_name}
 

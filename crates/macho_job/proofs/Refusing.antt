@@ -5,10 +5,10 @@
 -- memory, or one of bytes with the head of that kind.
 use Rattle.std.proofs.Common.{◌≡◌, ℕ, inl, inr, refl, sym, subst, List, Result, Err}
 use Rattle.std.specs.Prelude.{IfErr}
-use Rattle.macho_faults.specs.declared.fault.LinkError.{LinkError}
-use Rattle.macho_faults.specs.declared.fault.LinkError.TheVariants as error
-use Rattle.macho_faults.specs.declared.fault.InputFault.TheVariants as broken
-use Rattle.macho_image.specs.Refusals.{ObjectRefused, DylibRefused}
+use Rattle.macho_answer.specs.declared.fault.LinkError.{LinkError}
+use Rattle.macho_answer.specs.declared.fault.LinkError.TheVariants as error
+use Rattle.macho_answer.specs.declared.fault.InputFault.TheVariants as broken
+use Rattle.macho_linker.specs.Refusals.{ObjectRefused, DylibRefused}
 use Rattle.macho_job.specs.declared.fault.Fault.{Fault}
 use Rattle.macho_job.specs.declared.fault.Fault.TheVariants.{Input}
 use Rattle.macho_job.specs.declared.heads.Head.{Head}

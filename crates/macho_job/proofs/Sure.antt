@@ -3,8 +3,7 @@
 -- The store holds one text under a path, so what is linked is determined. Each cause of a fault then meets what is known of the
 -- job: an input that was asked for is found, its bytes begin as an input and are one; a made object keeps the rules; a list is
 -- held; no refusal of the link stands; and no count rose. Only want of memory is left.
-use Rattle.std.proofs.Common.{◌≡◌, ℕ, suc, ◌<◌, arith, refl, ap, sym, subst, ◌∙◌, inl, inr, ◌⊎◌, true, false, Bool}
-use Rattle.std.proofs.Common.{List, [], ◌∷◌, ◌++◌, Option, Some, None, Ok, Contains, All}
+use Rattle.std.proofs.Common.{◌≡◌, ℕ, suc, ◌<◌, arith, refl, ap, sym, subst, ◌∙◌, inl, inr, ◌⊎◌, true, false, Bool, List, [], ◌∷◌, ◌++◌, Option, Some, None, Ok, Contains, All}
 use Rattle.std.proofs.lemmas.List.Elements.{All-contains}
 use Rattle.std.specs.List.{AllZip}
 use Rattle.macho_args.specs.Settings as args
@@ -18,11 +17,11 @@ use Rattle.macho_promise.proofs.Stubs.{library_of}
 use Rattle.macho_stub.specs.Library.{LibraryFields}
 use Rattle.macho_stub.proofs.Answered.{answer_only, told}
 use Rattle.macho_stub_lines.proofs.Bind.{no_ok}
-use Rattle.macho_faults.specs.declared.fault.LinkError.{LinkError}
-use Rattle.macho_faults.specs.declared.fault.LinkError.TheVariants as error
-use Rattle.macho_faults.specs.declared.fault.InputFault.TheVariants as broken
-use Rattle.macho_image.specs.Linkers.{link_of}
-use Rattle.macho_image.specs.Refusals.{RefusalStands}
+use Rattle.macho_answer.specs.declared.fault.LinkError.{LinkError}
+use Rattle.macho_answer.specs.declared.fault.LinkError.TheVariants as error
+use Rattle.macho_answer.specs.declared.fault.InputFault.TheVariants as broken
+use Rattle.macho_linker.specs.Linkers.{link_of}
+use Rattle.macho_answer.specs.Linked.{RefusalStands}
 use Rattle.macho_devices.specs.Faults.{last_count}
 use Rattle.macho_job.specs.declared.fault.Fault.{Fault}
 use Rattle.macho_job.specs.declared.fault.Fault.TheVariants as fault
@@ -33,8 +32,7 @@ use Rattle.macho_job.specs.Heads.{head_of}
 use Rattle.macho_job.specs.Search.{candidates_of, FileIs, IsFirstHeld}
 use Rattle.macho_job.specs.Generator.{generated_object}
 use Rattle.macho_job.specs.Job.{Job, IsJob, SourceFile, IsReadAs, IsTaken, IsListed, AreFiles, linked, paths_of}
-use Rattle.macho_job.specs.Causes.{Failures, NoneFailed, IsAsked, BytesRefused, MadeRefused, IsClear}
-use Rattle.macho_job.specs.Causes.{LinkRefused, JobFails}
+use Rattle.macho_job.specs.Causes.{Failures, NoneFailed, IsAsked, BytesRefused, MadeRefused, IsClear, LinkRefused, JobFails}
 use Rattle.macho_job.proofs.Determined.{one-held, not-missing, job-once}
 
 -- an element of a list has its partner

@@ -10,12 +10,12 @@ use Rattle.macho_model.specs.Faults.{bad_name}
 use Rattle.macho_model.specs.Grammar.{IsObject, ObjectBreaks, DylibBreaks}
 use Rattle.macho_stub.specs.Answer.{IsToldOfText}
 use Rattle.macho_stub_lines.specs.declared.fault.StubFault.TheVariants.{Rule}
-use Rattle.macho_faults.specs.declared.fault.LinkError.{LinkError}
-use Rattle.macho_faults.specs.declared.fault.LinkError.TheVariants as error
-use Rattle.macho_faults.specs.declared.fault.InputFault.TheVariants as input
+use Rattle.macho_answer.specs.declared.fault.LinkError.{LinkError}
+use Rattle.macho_answer.specs.declared.fault.LinkError.TheVariants as error
+use Rattle.macho_answer.specs.declared.fault.InputFault.TheVariants as input
 use Rattle.macho_stub_lines.specs.declared.fault.StubRule.TheVariants.{S1}
-use Rattle.macho_image.specs.Linkers.{link_of}
-use Rattle.macho_image.specs.Refusals.{RefusalStands}
+use Rattle.macho_linker.specs.Linkers.{link_of}
+use Rattle.macho_answer.specs.Linked.{RefusalStands}
 use Rattle.macho_devices.specs.Faults.{CountRose, last_count}
 use Rattle.macho_job.specs.declared.fault.Fault.{Fault}
 use Rattle.macho_job.specs.declared.fault.Fault.TheVariants.{MissingFile, UnknownKind, Input, Link as LinkFault, Words, Read, Write, Print, OutOfMemory}

@@ -8,7 +8,7 @@ use Rattle.macho_args.specs.Store.{Store, Directories, CanonicalPaths}
 use Rattle.macho_model.specs.Links.{Link, Input, Object, Dylib, Stub, StubReading}
 use Rattle.macho_model.specs.Grammar.{IsObject, IsDylib}
 use Rattle.macho_promise.specs.Inputs.{IsStubInput}
-use Rattle.macho_image.specs.Linkers.{link_of, bytes_of}
+use Rattle.macho_linker.specs.Linkers.{link_of, bytes_of}
 use Rattle.macho_job.specs.declared.heads.Head.{Head}
 use Rattle.macho_job.specs.declared.heads.Head.TheVariants as head
 use Rattle.macho_job.specs.Heads.{head_of}

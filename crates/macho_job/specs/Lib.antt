@@ -7,5 +7,5 @@ pub mod Refused
 pub mod Causes
 pub mod steps
 -- definitions of the crate below, which clauses of this one and above cite
-pub use Rattle.macho_image.specs.Linkers
-pub use Rattle.macho_image.specs.Refusals
+pub use Rattle.macho_linker.specs.Linkers
+pub use Rattle.macho_linker.specs.Refusals

@@ -2,12 +2,12 @@
 
 ghost use Rattle.std.specs.Prelude.{◌≡◌};
 ghost use Rattle.macho_args.specs.declared.fault.ArgsFault.TheVariants as words;
-ghost use Rattle.macho_faults.specs.declared.fault.LinkError.TheVariants as refusal;
+ghost use Rattle.macho_answer.specs.declared.fault.LinkError.TheVariants as refusal;
 ghost use Rattle.macho_job.specs.declared.fault.Fault.TheVariants.{Words, Link, Input, OutOfMemory};
 ghost use Rattle.macho_job.specs.Refused.{Tells};
 
 use macho_args::ArgsFault;
-use macho_image::LinkError;
+use macho_linker::LinkError;
 use std::alloc::AllocError;
 
 /// What a file that is no input is, by its first bytes.

@@ -3,7 +3,7 @@
 ghost use Rattle.std.specs.Prelude.{◌≡◌, ℕ, ◌+◌, ◌-◌, ◌^◌, ◌<◌, [], List, Option, map, length, IfOk, IfErr, OnOk, Some};
 ghost use Rattle.macho_args.specs.Settings.{settings_of, input_of};
 ghost use Rattle.macho_args.specs.Store.{Store};
-ghost use Rattle.macho_image.specs.Linkers.{link_of, TakesStub};
+ghost use Rattle.macho_linker.specs.Linkers.{link_of, TakesStub};
 ghost use Rattle.macho_devices.specs.Devices.{OnlyReads};
 ghost use Rattle.macho_devices.specs.Faults.{CountsOn};
 ghost use Rattle.macho_job.specs.Search.{candidates_of};
@@ -18,7 +18,7 @@ use crate::names::FileNames;
 use crate::search::{FoundFile, candidates_of, first_held};
 use macho_args::{InputSpec, MachOArgs};
 use macho_devices::{FileFault, Files};
-use macho_image::{InputFault, LinkError, Linker};
+use macho_linker::{InputFault, LinkError, Linker};
 use macho_stub::StubRule;
 use std::alloc::Global;
 

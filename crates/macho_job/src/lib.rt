@@ -19,4 +19,5 @@ pub use crate::heads::Head;
 pub use crate::names::FileNames;
 pub use crate::sources::gather;
 pub use crate::uuid::uuid_of;
-pub use macho_image::{InputFault, InputView, LinkError, LinkedImage, Linker};
+pub use macho_answer::LinkedImage;
+pub use macho_linker::{InputFault, InputView, LinkError, Linker};

@@ -4,7 +4,7 @@ ghost use Rattle.std.specs.Prelude.{◌≡◌, ℕ, List, [], Some, IfOk, IfErr,
 ghost use Rattle.macho_args.specs.Settings.{settings_of};
 ghost use Rattle.macho_devices.specs.Devices.{OnlyReads};
 ghost use Rattle.macho_devices.specs.Faults.{CountsOn};
-ghost use Rattle.macho_image.specs.Linkers.{with_export_list};
+ghost use Rattle.macho_linker.specs.Linkers.{with_export_list};
 ghost use Rattle.macho_job.specs.declared.fault.Fault.TheVariants.{OutOfMemory};
 ghost use Rattle.macho_job.specs.Search.{FileIs};
 ghost use Rattle.macho_job.specs.Causes.{JobFails, reading};
@@ -13,7 +13,7 @@ ghost use Rattle.macho_job.specs.steps.Gathering.{HaveLists, ListFails};
 use crate::fault::Fault;
 use macho_args::MachOArgs;
 use macho_devices::{FileFault, Files};
-use macho_image::Linker;
+use macho_linker::Linker;
 use std::alloc::Global;
 
 /// Reads the export lists of the arguments, and adds them to the linker in the order of their words.

@@ -6,12 +6,11 @@ ghost use Rattle.macho_bytes.specs.Numbers.{le_bytes};
 ghost use Rattle.std.specs.String.{string_bytes};
 ghost use Rattle.macho_args.specs.Settings.{Settings};
 ghost use Rattle.macho_args.specs.Store.{Store};
-ghost use Rattle.macho_image.specs.Linkers.{link_of};
+ghost use Rattle.macho_linker.specs.Linkers.{link_of};
 ghost use Rattle.macho_job.specs.Causes.{JobFails, Failures};
 ghost use Rattle.macho_job.specs.steps.Gathering.{HaveLists};
 ghost use Rattle.macho_job.specs.Generator.{generated_object, generated_path, function_name};
-ghost use Rattle.macho_job.specs.steps.Objects.{joined_all, OBJECT_HEAD, CALLING_SECTIONS, LAST_SECTIONS};
-ghost use Rattle.macho_job.specs.steps.Objects.{calling_parts, last_parts, calling_object, last_object};
+ghost use Rattle.macho_job.specs.steps.Objects.{joined_all, OBJECT_HEAD, CALLING_SECTIONS, LAST_SECTIONS, calling_parts, last_parts, calling_object, last_object};
 ghost use Rattle.macho_job.specs.Names.{names_of};
 ghost use Rattle.macho_job.specs.steps.Parts.{part_bytes, TakesMade, MadeFails};
 ghost use Rattle.macho_job.specs.steps.Generator.{pointer_name};
@@ -20,7 +19,7 @@ use crate::fault::Fault;
 use crate::inputs::MAX_FILES;
 use crate::names::FileNames;
 use byteorder::{ByteOrder, LittleEndian};
-use macho_image::Linker;
+use macho_linker::Linker;
 use std::alloc::{AllocError, Global};
 
 /// A part of an object's bytes. Numbers are written lowest byte first.

@@ -4,7 +4,7 @@ ghost use Rattle.std.specs.Prelude.{◌≡◌, ℕ, List, [], Some, None, IfErr,
 ghost use Rattle.macho_args.specs.Settings.{settings_of};
 ghost use Rattle.macho_devices.specs.Devices.{OnlyReads};
 ghost use Rattle.macho_devices.specs.Faults.{CountsOn};
-ghost use Rattle.macho_image.specs.Linkers.{link_of};
+ghost use Rattle.macho_linker.specs.Linkers.{link_of};
 ghost use Rattle.macho_job.specs.Causes.{JobFails, reading};
 ghost use Rattle.macho_job.specs.Job.{Links};
 ghost use Rattle.macho_job.specs.Names.{names_of};
@@ -17,7 +17,7 @@ use crate::made::add_made;
 use crate::names::FileNames;
 use macho_args::MachOArgs;
 use macho_devices::Files;
-use macho_image::Linker;
+use macho_linker::Linker;
 use std::alloc::Global;
 
 /// Reads the inputs of the arguments, or makes the objects of `-generate`, then reads the export lists, and adds all to the

@@ -6,11 +6,11 @@ ghost use Rattle.sha2.specs.Sha256.{sha256};
 ghost use Rattle.sha2.specs.Hashers.{Holds256};
 ghost use Rattle.macho_args.specs.Settings.{settings_of};
 ghost use Rattle.macho_model.specs.Links.{no_input};
-ghost use Rattle.macho_image.specs.Linkers.{bytes_of};
+ghost use Rattle.macho_linker.specs.Linkers.{bytes_of};
 ghost use Rattle.macho_job.specs.Job.{uuid_of};
 
 use macho_args::MachOArgs;
-use macho_image::Linker;
+use macho_linker::Linker;
 use sha2::{Digest, Sha256};
 
 /// How many bytes an identifier has.

@@ -36,10 +36,13 @@ use Rattle.macho_layout.specs.Keys.{padded, same_segment, same_output}
 use Rattle.macho_layout.specs.Names.{section_outputs, segment_count, merged_count, has_new_commons, COMMON_NAME}
 use Rattle.macho_layout.specs.Members.{type_of_spec, template_align, placed_align}
 use Rattle.macho_layout.specs.Sums.{section_cost, members_cost, content_sum, output_count, unsigned_sum, written_sum}
-use Rattle.macho_layout.proofs.Named.{name_in_field, fields_agree, filter_map_is, distinct_map, any_map, any_agree}
+use Rattle.macho_layout.proofs.Named.{fields_agree, distinct_map}
 use Rattle.macho_layout.proofs.Distinct.{distinct_push}
-use Rattle.macho_layout.proofs.Whole.{map_map, map_numbered}
-use Rattle.macho_layout.proofs.SumLaw.{output_key, outputs_once, outputs_are, commons_many, and_group, segments_same}
+use Rattle.macho_layout.proofs.Whole.{map_numbered}
+use Rattle.macho_layout.proofs.SumLaw.{output_key, outputs_once, outputs_are, commons_many, segments_same}
+use Rattle.macho_bytes.proofs.Bools.{and_group}
+use Rattle.macho_bytes.proofs.Maps.{map_map, filter-map, any_map, any_agree}
+use Rattle.macho_model.proofs.Sections.{name_in_field}
 
 -- the test of keys decides whether they are equal
 pub key-decides : (a b : OutputKey) → Decides (same_key a b) (a ≡ b)
@@ -145,7 +148,7 @@ template_same l p plan =
     let kept : filter (λ (s : SectionSpec). is_template_type (type_of_spec s)) p.sections ≡ map (spec_of l)
     (filter (λ s. is_template (header_at l s)) (sections_of l))
     = ap (filter (λ (s : SectionSpec). is_template_type (type_of_spec s))) plan.sections
-    ∙ filter_map_is (λ (s : SectionSpec). is_template_type (type_of_spec s)) (spec_of l)
+    ∙ filter-map (λ (s : SectionSpec). is_template_type (type_of_spec s)) (spec_of l)
     (filter (λ s. is_carried (header_at l s)) (sections_of l))
     ∙ ap (map (spec_of l)) (filter_both (λ s. is_template_type (type_of (header_at l s))) (λ s. is_carried (header_at l s))
     (sections_of l)) in

@@ -10,8 +10,8 @@ use Rattle.std.proofs.lemmas.List.Elements.{recursion_from_All, All-filter}
 use Rattle.std.proofs.lemmas.List.Folds.{fold-map}
 use Rattle.std.proofs.lemmas.List.Sums.{sum_by-append}
 use Rattle.macho_records.specs.Sections.{is_template_type}
-use Rattle.macho_cells.specs.declared.members.Member.{Member}
-use Rattle.macho_cells.specs.Costs.{cost_of}
+use Rattle.macho_stack.specs.declared.members.Member.{Member}
+use Rattle.macho_stack.specs.Costs.{cost_of}
 use Rattle.macho_layout.specs.declared.spec.SectionSpec.{SectionSpec}
 use Rattle.macho_layout.specs.declared.spec.CommonSpec.{CommonSpec}
 use Rattle.macho_layout.specs.Plans.{Planning}

@@ -10,18 +10,8 @@ use Rattle.std.proofs.lemmas.List.{length_push}
 use Rattle.std.proofs.lemmas.List.Folds.{position_or_len_push}
 use Rattle.indexmap.specs.IndexSet.{insert_key}
 use Rattle.macho_model.specs.Needs.{distinct}
-use Rattle.macho_cells.proofs.Lists.{filter_push_yes, filter_push_no}
-
--- what is taken out of a list doesn't pass a test: the list passes it as before
-pub any-filter : {X : Type 0} (p q : X → Bool) (xs : List X) → ((x : X) → p x ≡ false → q x ≡ false) → list_any q (filter p xs)
-    ≡ list_any q xs
-any-filter p q [] h = refl
-any-filter {X} p q (x ∷ xs) h = by (any-filter p q xs h) (p x) refl
-  where
-    by : list_any q (filter p xs) ≡ list_any q xs → (b : Bool) → p x ≡ b → list_any q (cond b (x ∷ filter p xs) (filter p xs)) ≡
-        (q x || list_any q xs)
-    by rest true is = ap (λ (b : Bool). q x || b) rest
-    by rest false is = rest ∙ sym (ap (λ (b : Bool). b || list_any q xs) (h x is))
+use Rattle.macho_stack.proofs.Lists.{filter_push_yes, filter_push_no}
+use Rattle.macho_bytes.proofs.Maps.{any-filter}
 
 -- what is left when one element is taken out
 abbrev others : {X : Type 0} → (X → X → Bool) → X → List X → List X

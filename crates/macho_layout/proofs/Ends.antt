@@ -12,19 +12,19 @@ use Rattle.macho_model.specs.Segments.{TEXT, SEGMENT_PAGE, list_if, PAGEZERO_SIZ
 use Rattle.macho_model.specs.WrittenSum.{written_sum_of}
 use Rattle.macho_model.specs.Placement.{is_segment_named}
 use Rattle.macho_layout.specs.Plans.{Planning}
-use Rattle.macho_cells.specs.declared.place.Cell.{Cell}
+use Rattle.macho_stack.specs.declared.place.Cell.{Cell}
 use Rattle.macho_layout.specs.Cells.{cells_of}
 use Rattle.macho_layout.specs.Keys.{padded}
 use Rattle.macho_layout.specs.Names.{mapped_names}
 use Rattle.macho_layout.specs.Places.{row_pages}
-use Rattle.macho_rows.specs.Rows.{RowCells, RowsFrom, row_segment, row_at, segments_from}
+use Rattle.macho_stack.specs.Rows.{RowCells, RowsFrom, row_segment, row_at, segments_from}
 use Rattle.macho_layout.specs.Sums.{base_of, head_size}
-use Rattle.macho_rows.specs.Tables.{tables_at}
+use Rattle.macho_stack.specs.Tables.{tables_at}
 use Rattle.macho_layout.specs.Laid.{zero_page, tables_segment}
 use Rattle.macho_layout.specs.Laws.{TextIsFirst, EndsWithinSum}
 use Rattle.macho_layout.proofs.Costs.{members-cost-is}
 use Rattle.macho_layout.proofs.CostLaw.{written_same}
-use Rattle.macho_rows.proofs.RowSteps.{paged-near}
+use Rattle.macho_stack.proofs.RowSteps.{paged-near}
 use Rattle.macho_layout.proofs.TableRooms.{first_is_text, names_some, tables_within, tables_end_low}
 use Rattle.macho_layout.proofs.Whole.{base_is_links}
 

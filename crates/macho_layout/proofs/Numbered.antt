@@ -2,13 +2,7 @@
 use Rattle.std.proofs.Common.{◌≡◌, ℕ, ◌+◌, ◌<◌, List, [], ◌∷◌, ◌++◌, length, map, take, get_or, sym, ap, ◌∙◌, arith}
 use Rattle.std.specs.List.{enumerate_from}
 use Rattle.std.proofs.lemmas.List.{take_more, map_push, length-take-le}
-
-pub enumerate_push : {X : Type 0} (n : ℕ) (xs : List X) (x : X) → enumerate_from n (xs ++ x ∷ []) ≡ enumerate_from n xs ++
-    (n + length xs, x) ∷ []
-enumerate_push {X} n [] x = let e : n ≡ n + 0 = omega arith in ap (λ (k : ℕ). (k, x) ∷ []) e
-enumerate_push {X} n (y ∷ ys) x =
-    let e : n + 1 + length ys ≡ n + length (y ∷ ys) = omega arith in
-    ap (λ (zs : List (ℕ × X)). (n, y) ∷ zs) (enumerate_push (n + 1) ys x ∙ ap (λ (k : ℕ). enumerate_from (n + 1) ys ++ (k, x) ∷ []) e)
+use Rattle.macho_model.proofs.LinkLaws.{enumerate_more}
 
 pub numbered_more : {X Y : Type 0} (f : ℕ × X → Y) (xs : List X) (k : ℕ) (d : X) (done : List Y) (y : Y) → k < length xs → y ≡ f
     (k, get_or xs k d)
@@ -17,6 +11,6 @@ numbered_more {X} {Y} f xs k d done y low is all =
     let long : 0 + length (take k xs) ≡ k = omega (arith, length-take-le k xs (omega arith)) in
     ap (λ (z : Y). done ++ z ∷ []) is ∙ ap (λ (ys : List Y). ys ++ f (k, get_or xs k d) ∷ []) all
     ∙ sym (ap (λ (zs : List X). map f (enumerate_from 0 zs)) (take_more xs k d low) ∙ ap (map f)
-    (enumerate_push 0 (take k xs) (get_or xs k d))
+    (enumerate_more 0 (take k xs) (get_or xs k d))
     ∙ map_push f (enumerate_from 0 (take k xs)) (0 + length (take k xs), get_or xs k d)
     ∙ ap (λ (n : ℕ). map f (enumerate_from 0 (take k xs)) ++ f (n, get_or xs k d) ∷ []) long)

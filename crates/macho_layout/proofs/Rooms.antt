@@ -5,44 +5,35 @@
 -- bytes, and at most 16 bytes more for the alignments of what it makes.
 use Rattle.std.proofs.Common.{◌≡◌, ℕ, ◌+◌, ◌*◌, ◌<◌, ◌≤◌, ◌==◌, ◌&&◌, zero, suc, nat_lt, not, Bool, true, false, cond, List, [], ◌∷◌, ◌++◌, map, filter, length, get_or, All, sum_by, refl, sym, ap, ◌∙◌, subst, arith, inl, inr}
 use Rattle.std.specs.List.{range_with_len, list_any, position_or_len}
-use Rattle.std.proofs.lemmas.Bool.{cases_lt, cases_Bool, false≢true, ne_eqb}
+use Rattle.std.proofs.lemmas.Bool.{cases_Bool, ne_eqb}
 use Rattle.std.proofs.lemmas.List.{get_or-map, length-map}
 use Rattle.std.proofs.lemmas.List.Elements.{recursion_from_All, All-from_recursion, All-filter, All-map, All-append, All-same}
-use Rattle.std.proofs.lemmas.List.Folds.{fold-map, Any-from_list_any}
+use Rattle.std.proofs.lemmas.List.Folds.{fold-map}
 use Rattle.std.proofs.lemmas.List.FromFn.{fill_by_all, length-map-range_with_len, get_or-map-range_with_len}
-use Rattle.std.proofs.lemmas.List.Sums.{sum_by-append, sum_by-cons, fails_before_first, prefix_len-le-length}
+use Rattle.std.proofs.lemmas.List.Sums.{sum_by-append, sum_by-cons, prefix_len-le-length}
 use Rattle.macho_model.specs.declared.placed.Counts.{Counts}
 use Rattle.macho_model.specs.Segments.{one_if}
 use Rattle.macho_records.specs.declared.segments.SegmentName.{SegmentName}
-use Rattle.macho_cells.specs.declared.members.Member.{Member}
-use Rattle.macho_cells.specs.declared.members.PlacedMember.{PlacedMember}
-use Rattle.macho_cells.specs.declared.members.Extent.{Extent}
-use Rattle.macho_cells.specs.declared.place.Cell.{Cell}
-use Rattle.macho_cells.specs.declared.place.PlacedCell.{PlacedCell}
-use Rattle.macho_cells.specs.Costs.{extent_cost}
-use Rattle.macho_cells.specs.Stacks.{extent_at, empty_extent, members_in, is_in_cell, AreStacked}
-use Rattle.macho_cells.specs.Ranks.{cell_cost, of_ranks, has_rank}
-use Rattle.macho_cells.proofs.Ranks.{of_ranks-none, of_ranks-more}
+use Rattle.macho_stack.specs.declared.members.Member.{Member}
+use Rattle.macho_stack.specs.declared.members.PlacedMember.{PlacedMember}
+use Rattle.macho_stack.specs.declared.members.Extent.{Extent}
+use Rattle.macho_stack.specs.declared.place.Cell.{Cell}
+use Rattle.macho_stack.specs.declared.place.PlacedCell.{PlacedCell}
+use Rattle.macho_stack.specs.Costs.{extent_cost}
+use Rattle.macho_stack.specs.Stacks.{extent_at, empty_extent, members_in, is_in_cell, AreStacked}
+use Rattle.macho_stack.specs.Ranks.{cell_cost, of_ranks, has_rank}
+use Rattle.macho_stack.proofs.Ranks.{of_ranks-none, of_ranks-more}
 use Rattle.macho_layout.specs.declared.spec.SectionSpec.{SectionSpec}
 use Rattle.macho_layout.specs.declared.spec.OutputName.{OutputName}
 use Rattle.macho_layout.specs.declared.spec.Planned.{Planned}
 use Rattle.macho_layout.specs.Plans.{Planning}
-use Rattle.macho_layout.specs.Keys.{same_output, output_key_of, outputs_seen}
-use Rattle.macho_layout.specs.Keys.{specs_of}
+use Rattle.macho_layout.specs.Keys.{same_output, output_key_of, outputs_seen, specs_of}
 use Rattle.macho_layout.specs.steps.Holding.{HoldNames}
 use Rattle.macho_layout.specs.Names.{section_outputs, merged_count, common_output, has_new_commons, COMMON_NAME}
 use Rattle.macho_layout.specs.Members.{section_member, common_member, members_of, template_align, first_flags}
 use Rattle.macho_layout.specs.Cells.{merged_cell, cell_if, text_cell, made_cells, cells_of}
 use Rattle.macho_layout.proofs.Costs.{most-max, template-small, placed-small}
-
--- the first place that passes is inside where some place passes
-pub place_inside : {X : Type 0} (p : X → Bool) (xs : List X) → list_any p xs ≡ true → position_or_len p xs < length xs
-place_inside p xs some =
-    let a = Any-from_list_any p xs some in
-    elim (cases_lt (position_or_len p xs) (length xs)) [
-      | inl inside ↦ inside
-      | inr past ↦ absurd (false≢true (sym (fails_before_first p xs a.0 a.1 (omega (arith, a.2))) ∙ ap p a.3 ∙ a.4))
-    ]
+use Rattle.macho_bytes.proofs.Members.{place_inside}
 
 -- the commons have a number, where there are some
 pub commons_there : (p : Planning) → 0 < length p.commons → common_output p < merged_count p
@@ -109,7 +100,7 @@ extents_small flags members extents placed c s small there =
     omega (arith, s.exponents c there, most)
 
 -- a cell that isn't empty
-if_small : (P : Cell → Type 0) (c : Cell) → P c → All P (cell_if c)
+pub if_small : (P : Cell → Type 0) (c : Cell) → P c → All P (cell_if c)
 if_small P c h = by (nat_lt 0 c.size)
   where
     by : (b : Bool) → All P (cond b (c ∷ []) [])

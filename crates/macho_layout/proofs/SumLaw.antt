@@ -7,7 +7,6 @@
 use Rattle.std.proofs.Common.{◌≡◌, ℕ, ◌==◌, ◌&&◌, ◌||◌, not, Bool, true, false, List, [], ◌∷◌, ◌++◌, map, filter, length, length-append, refl, sym, ap, ◌∙◌, arith}
 use Rattle.std.specs.List.{list_any, enumerate_from}
 use Rattle.std.specs.Str.{bytes_eq}
-use Rattle.std.proofs.lemmas.Bool.Decides.{same_from_decides}
 use Rattle.std.proofs.lemmas.Slice.Eq.{bytes_eq-Decides}
 use Rattle.std.proofs.lemmas.List.{length-map}
 use Rattle.std.proofs.lemmas.List.Elements.{filter_agree}
@@ -26,9 +25,13 @@ use Rattle.macho_layout.specs.declared.spec.OutputName.{OutputName}
 use Rattle.macho_layout.specs.Plans.{Planning, IsPlanOf, spec_of, common_spec_of}
 use Rattle.macho_layout.specs.Keys.{padded, same_segment, same_output, segment_key_of, output_key_of, segments_seen, outputs_seen}
 use Rattle.macho_layout.specs.Names.{is_other, section_segments, section_outputs, has_segment, has_data, has_data_const, segment_count}
-use Rattle.macho_layout.proofs.Named.{name_in_field, fields_agree, filter_map_is, distinct_map, distinct_agree, any_distinct, any_map, any_agree}
+use Rattle.macho_layout.proofs.Named.{fields_agree, distinct_map, distinct_agree}
 use Rattle.macho_layout.proofs.Tests.{count_of_names, length-list_if}
-use Rattle.macho_layout.proofs.Whole.{map_map}
+use Rattle.macho_bytes.proofs.Comparing.{bytes_turn}
+use Rattle.macho_bytes.proofs.Bools.{and_group}
+use Rattle.macho_bytes.proofs.Maps.{map_map, filter-map, any_map, any_agree}
+use Rattle.macho_model.proofs.Sections.{name_in_field}
+use Rattle.macho_model.proofs.Distinct.{any_distinct}
 
 -- the segment and the output section of a carried section, in the tables of a plan
 abbrev pub segment_key : Link → SectionId → SegmentName
@@ -47,10 +50,6 @@ segments_agree l a b =
     fields_agree (name_field (header_at l a).segname) (name_field (header_at l b).segname)
     ∙ ap (λ (n : List ℕ). bytes_eq n (name_of (name_field (header_at l b).segname))) (name_in_field (header_at l a).segname)
     ∙ ap (bytes_eq (name_of (header_at l a).segname)) (name_in_field (header_at l b).segname)
-
-pub and_group : (a b c : Bool) → (a && (b && c)) ≡ (a && b && c)
-and_group true b c = refl
-and_group false b c = refl
 
 pub outputs_agree : (l : Link) (a b : SectionId) → same_output (output_key l a) (output_key l b) ≡ same_key (key_of (header_at l a))
     (key_of (header_at l b))
@@ -93,22 +92,17 @@ others_many : (l : Link) (p : Planning) → IsPlanOf l p → length (filter is_o
 unfolding other_segments
 others_many l p plan =
     let mine : filter is_other (section_segments p) ≡ map (segment_key l) (filter (λ s. is_other (segment_key l s)) (segments_once l))
-    = ap (filter is_other) (segments_are l p plan) ∙ filter_map_is is_other (segment_key l) (segments_once l) in
+    = ap (filter is_other) (segments_are l p plan) ∙ filter-map is_other (segment_key l) (segments_once l) in
     let theirs : filter (λ name. not (is_known_segment name))
     (distinct bytes_eq (map (λ s. segment_name_of (header_at l s)) (carried_of l)))
     ≡ map (λ s. segment_name_of (header_at l s)) (filter (λ s. not (is_known_segment (segment_name_of (header_at l s)))) (segments_once l))
     = ap (filter (λ name. not (is_known_segment name))) (distinct_map bytes_eq (λ s. segment_name_of (header_at l s)) (carried_of l))
-    ∙ filter_map_is (λ name. not (is_known_segment name)) (λ s. segment_name_of (header_at l s)) (segments_once l) in
+    ∙ filter-map (λ name. not (is_known_segment name)) (λ s. segment_name_of (header_at l s)) (segments_once l) in
     let same = filter_agree (λ s. is_other (segment_key l s)) (λ s. not (is_known_segment (segment_name_of (header_at l s))))
     (λ s. ap (λ (n : List ℕ). not (is_known_segment n)) (twice (header_at l s).segname)) (segments_once l) in
     ap length mine ∙ length-map (filter (λ s. is_other (segment_key l s)) (segments_once l)) (segment_key l) ∙ ap length same
     ∙ sym (ap length theirs ∙ length-map (filter (λ s. not (is_known_segment (segment_name_of (header_at l s)))) (segments_once l))
     (λ s. segment_name_of (header_at l s)))
-
-pub bytes_turn : (a b : List ℕ) → bytes_eq a b ≡ bytes_eq b a
-bytes_turn a b =
-    same_from_decides (bytes_eq a b) (bytes_eq b a) (λ t. sym ((bytes_eq-Decides a b).0 t), λ e. (bytes_eq-Decides a b).1 (sym e))
-    (bytes_eq-Decides b a)
 
 -- whether a segment of a name has sections
 pub segment_there : (l : Link) (p : Planning) (name : List ℕ) → IsPlanOf l p → name_of name ≡ name → has_segment p (padded name)

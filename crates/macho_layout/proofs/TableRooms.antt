@@ -12,25 +12,25 @@ use Rattle.macho_records.specs.declared.segments.SegmentName.{SegmentName}
 use Rattle.macho_model.specs.declared.placed.Counts.{Counts}
 use Rattle.macho_model.specs.declared.placed.PlacedSegment.{PlacedSegment}
 use Rattle.macho_model.specs.Segments.{TEXT, SEGMENT_PAGE, one_if}
-use Rattle.macho_cells.specs.declared.members.Extent.{Extent}
-use Rattle.macho_cells.specs.declared.place.Cell.{Cell}
-use Rattle.macho_cells.specs.declared.place.PlacedCell.{PlacedCell}
-use Rattle.macho_cells.specs.Costs.{extent_cost}
-use Rattle.macho_cells.specs.Ranks.{cell_cost, of_ranks}
-use Rattle.macho_cells.proofs.Ranks.{ranks-cost}
+use Rattle.macho_stack.specs.declared.members.Extent.{Extent}
+use Rattle.macho_stack.specs.declared.place.Cell.{Cell}
+use Rattle.macho_stack.specs.declared.place.PlacedCell.{PlacedCell}
+use Rattle.macho_stack.specs.Costs.{extent_cost}
+use Rattle.macho_stack.specs.Ranks.{cell_cost, of_ranks}
+use Rattle.macho_stack.proofs.Ranks.{ranks-cost}
 use Rattle.macho_layout.specs.Plans.{Planning}
 use Rattle.macho_layout.specs.Keys.{padded}
 use Rattle.macho_layout.specs.Names.{mapped_names}
 use Rattle.macho_layout.specs.Cells.{cells_of}
-use Rattle.macho_rows.specs.Rows.{RowCells, row_segment, row_at, front_at, RowsFrom, segments_from, AreRows}
+use Rattle.macho_stack.specs.Rows.{RowCells, row_segment, row_at, front_at, RowsFrom, segments_from, AreRows}
 use Rattle.macho_layout.specs.Places.{is_pointer_segment, segment_pages, row_pages}
 use Rattle.macho_layout.specs.Sums.{members_cost, written_sum, head_size, base_of, FitsLimits}
 use Rattle.std.proofs.lemmas.Nat.{div-mul-add}
-use Rattle.macho_cells.proofs.Multiples.{rounded-near, rounded-above}
-use Rattle.macho_rows.specs.Tables.{tables_cost, tables_at, symbols_start, signature_start}
-use Rattle.macho_rows.proofs.RowSteps.{parts-cost, paged-near, row-cost}
+use Rattle.macho_stack.specs.Tables.{tables_cost, tables_at, symbols_start, signature_start}
+use Rattle.macho_stack.proofs.RowSteps.{parts-cost, paged-near, row-cost}
 use Rattle.macho_layout.proofs.Rooms.{cells-cost}
 use Rattle.macho_model.specs.Rooms.{fixup_room}
+use Rattle.macho_bytes.proofs.Rounding.{rounded-above, rounded-near}
 
 -- a segment has no more pages than its file part
 pages-most : (s : PlacedSegment) → 0x4000 * segment_pages s ≤ s.file_size

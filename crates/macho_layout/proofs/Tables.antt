@@ -16,8 +16,7 @@ use Rattle.macho_layout.specs.declared.spec.CommonSpec.{CommonSpec}
 use Rattle.macho_layout.specs.declared.spec.OutputName.{OutputName}
 use Rattle.macho_layout.specs.declared.spec.Planned.{Planned}
 use Rattle.macho_layout.specs.Plans.{MayStand}
-use Rattle.macho_layout.specs.Keys.{same_segment, same_output, segment_key_of, output_key_of, segments_seen, outputs_seen}
-use Rattle.macho_layout.specs.Keys.{specs_of}
+use Rattle.macho_layout.specs.Keys.{same_segment, same_output, segment_key_of, output_key_of, segments_seen, outputs_seen, specs_of}
 use Rattle.macho_layout.specs.steps.Holding.{HoldNames, AreSound}
 use Rattle.macho_layout.proofs.Distinct.{distinct_push, place_put, place_new, longer_put}
 

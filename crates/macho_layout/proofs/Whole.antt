@@ -25,11 +25,7 @@ use Rattle.macho_layout.specs.Names.{mapped_names}
 use Rattle.macho_layout.specs.Places.{placed_section, address_at}
 use Rattle.macho_layout.specs.Laid.{IsLaidOut}
 use Rattle.macho_layout.specs.Laws.{BaseIsLinks, ListsAreWhole, SectionsAreListed, CommonsAreListed}
-
--- a map of a map
-pub map_map : {X Y Z : Type 0} (g : Y → Z) (f : X → Y) (xs : List X) → map g (map f xs) ≡ map (λ x. g (f x)) xs
-map_map g f [] = refl
-map_map {X} {Y} {Z} g f (x ∷ xs) = ap (λ (zs : List Z). g (f x) ∷ zs) (map_map g f xs)
+use Rattle.macho_bytes.proofs.Maps.{map_map}
 
 -- what is told of numbered elements without their numbers
 pub map_numbered : {X Y Z : Type 0} (g : Y → Z) (f : ℕ × X → Y) (h : X → Z) → ((n : ℕ) (x : X) → g (f (n, x)) ≡ h x) → (n : ℕ) (xs : List X)

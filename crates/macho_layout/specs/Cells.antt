@@ -6,9 +6,9 @@ use Rattle.macho_records.specs.declared.constants.TheConstants.{S_THREAD_LOCAL_R
 use Rattle.macho_records.specs.Sections.{is_zerofill_type, has_instructions}
 use Rattle.macho_model.specs.declared.placed.Counts.{Counts}
 use Rattle.macho_model.specs.Segments.{TEXT, DATA, list_if}
-use Rattle.macho_cells.specs.declared.members.Extent.{Extent}
-use Rattle.macho_cells.specs.declared.place.Cell.{Cell}
-use Rattle.macho_cells.specs.Stacks.{extent_at}
+use Rattle.macho_stack.specs.declared.members.Extent.{Extent}
+use Rattle.macho_stack.specs.declared.place.Cell.{Cell}
+use Rattle.macho_stack.specs.Stacks.{extent_at}
 use Rattle.macho_layout.specs.declared.spec.OutputName.{OutputName}
 use Rattle.macho_layout.specs.Plans.{Planning}
 use Rattle.macho_layout.specs.Keys.{padded, same_segment, same_output}

@@ -7,9 +7,9 @@ use Rattle.macho_records.specs.Sections.{is_zerofill_type}
 use Rattle.macho_model.specs.declared.placed.PlacedSegment.{PlacedSegment}
 use Rattle.macho_model.specs.OutputSections.{KEPT_FLAGS}
 use Rattle.macho_model.specs.Segments.{TEXT, DATA_CONST}
-use Rattle.macho_cells.specs.declared.members.Extent.{Extent}
-use Rattle.macho_cells.specs.declared.place.PlacedCell.{PlacedCell}
-use Rattle.macho_cells.specs.Stacks.{extent_at}
+use Rattle.macho_stack.specs.declared.members.Extent.{Extent}
+use Rattle.macho_stack.specs.declared.place.PlacedCell.{PlacedCell}
+use Rattle.macho_stack.specs.Stacks.{extent_at}
 use Rattle.macho_layout.specs.declared.headers.Title.{Title}
 use Rattle.macho_layout.specs.Plans.{Planning}
 use Rattle.macho_layout.specs.Keys.{padded}

@@ -2,7 +2,7 @@
 use Rattle.std.specs.Prelude.{ℕ, List, map, Bool, ◌&&◌, ◌==◌, ◌%◌}
 use Rattle.std.specs.Str.{bytes_eq}
 use Rattle.macho_records.specs.declared.segments.SegmentName.{SegmentName}
-pub use Rattle.macho_rows.specs.Rows.{padded}
+pub use Rattle.macho_stack.specs.Rows.{padded}
 use Rattle.macho_model.specs.Needs.{distinct}
 use Rattle.macho_layout.specs.declared.spec.SectionSpec.{SectionSpec}
 use Rattle.macho_layout.specs.declared.spec.OutputName.{OutputName}

@@ -12,20 +12,19 @@ use Rattle.macho_model.specs.declared.placed.Linkedit.{Linkedit}
 use Rattle.macho_model.specs.declared.placed.PlacedSegment.{PlacedSegment}
 use Rattle.macho_model.specs.Placement.{Placed}
 use Rattle.macho_model.specs.Segments.{PAGEZERO, LINKEDIT, PAGEZERO_SIZE, SEGMENT_PAGE, list_if, one_if}
-use Rattle.macho_cells.specs.declared.members.Extent.{Extent}
-use Rattle.macho_cells.specs.declared.members.PlacedMember.{PlacedMember}
-use Rattle.macho_cells.specs.declared.place.PlacedCell.{PlacedCell}
-use Rattle.macho_cells.specs.Stacks.{AreStacked}
-use Rattle.macho_cells.specs.Ranks.{HasStarts}
+use Rattle.macho_stack.specs.declared.members.Extent.{Extent}
+use Rattle.macho_stack.specs.declared.members.PlacedMember.{PlacedMember}
+use Rattle.macho_stack.specs.declared.place.PlacedCell.{PlacedCell}
+use Rattle.macho_stack.specs.Stacks.{AreStacked}
+use Rattle.macho_stack.specs.Ranks.{HasStarts}
 use Rattle.macho_layout.specs.declared.spec.Planned.{Planned}
-use Rattle.macho_layout.specs.Keys.{padded}
-use Rattle.macho_layout.specs.Keys.{specs_of}
+use Rattle.macho_layout.specs.Keys.{padded, specs_of}
 use Rattle.macho_layout.specs.Names.{segment_count, mapped_names}
 use Rattle.macho_layout.specs.Members.{members_of, first_flags}
 use Rattle.macho_layout.specs.Cells.{cells_of}
-use Rattle.macho_rows.specs.Rows.{AreRows}
+use Rattle.macho_stack.specs.Rows.{AreRows}
 use Rattle.macho_layout.specs.Headers.{header_of}
-use Rattle.macho_rows.specs.Tables.{tables_at}
+use Rattle.macho_stack.specs.Tables.{tables_at}
 use Rattle.macho_layout.specs.Places.{number_at, range_at, template_range, row_pages, placed_sections, placed_commons, placed_slots, placed_stubs}
 use Rattle.macho_layout.specs.Sums.{output_count, written_sum, head_size, base_of, FitsLimits}
 

@@ -3,7 +3,7 @@ use Rattle.std.specs.Prelude.{ℕ, ◌==◌, if◌then◌else◌, List, ◌++◌
 use Rattle.std.specs.List.{range_with_len, position_or_len}
 use Rattle.macho_records.specs.declared.constants.TheConstants.{S_THREAD_LOCAL_VARIABLES}
 use Rattle.macho_records.specs.Sections.{is_template_type}
-use Rattle.macho_cells.specs.declared.members.Member.{Member}
+use Rattle.macho_stack.specs.declared.members.Member.{Member}
 use Rattle.macho_layout.specs.declared.spec.SectionSpec.{SectionSpec}
 use Rattle.macho_layout.specs.declared.spec.CommonSpec.{CommonSpec}
 use Rattle.macho_layout.specs.Plans.{Planning}

@@ -9,7 +9,7 @@ use Rattle.macho_model.specs.declared.placed.PlacedCommon.{PlacedCommon}
 use Rattle.macho_model.specs.declared.placed.Slot.{Slot}
 use Rattle.macho_model.specs.declared.placed.Stub.{Stub}
 use Rattle.macho_model.specs.Segments.{DATA, DATA_CONST, SEGMENT_PAGE}
-use Rattle.macho_cells.specs.declared.place.PlacedCell.{PlacedCell}
+use Rattle.macho_stack.specs.declared.place.PlacedCell.{PlacedCell}
 use Rattle.macho_layout.specs.declared.spec.SectionSpec.{SectionSpec}
 use Rattle.macho_layout.specs.declared.spec.CommonSpec.{CommonSpec}
 use Rattle.macho_layout.specs.declared.spec.StubSpec.{StubSpec}
@@ -17,7 +17,7 @@ use Rattle.macho_layout.specs.declared.spec.Planned.{Planned}
 use Rattle.macho_layout.specs.Keys.{padded, same_segment, segment_key_of}
 use Rattle.macho_layout.specs.Cells.{segment_number, is_template_class}
 use Rattle.macho_model.specs.declared.placed.Range64.{Range64}
-use Rattle.macho_cells.specs.declared.members.PlacedMember.{PlacedMember}
+use Rattle.macho_stack.specs.declared.members.PlacedMember.{PlacedMember}
 
 abbrev pub behind : ℕ → ℕ → ℕ
 behind address offset = (address + offset) % 2 ^ 64

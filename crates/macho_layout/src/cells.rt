@@ -9,13 +9,12 @@ ghost use Rattle.macho_layout.specs.Names.{merged_count};
 use crate::names::common_name;
 use crate::plan::Plan;
 use crate::spec::OutputName;
-use macho_cells::{Cell, Extent};
 use macho_model::Counts;
 use macho_records::{
     S_THREAD_LOCAL_REGULAR, S_THREAD_LOCAL_ZEROFILL, SegmentName, has_instructions,
     is_zerofill_type,
 };
-use macho_rows::CLASSES;
+use macho_stack::{CLASSES, Cell, Extent};
 use std::alloc::{AllocError, Global};
 
 const CODE: u32 = 0;

@@ -5,11 +5,11 @@ ghost use Rattle.macho_layout.specs.Sums.{members_cost, head_size, base_of, Fits
 ghost use Rattle.macho_model.specs.Segments.{list_if};
 ghost use Rattle.macho_layout.specs.Laid.{FaultIs, IsLaidOut, FaultStands, IsSmall, is_small_segment, is_small_tables, zero_page, tables_segment};
 ghost use Rattle.std.specs.List.{list_all};
-ghost use Rattle.macho_cells.specs.Stacks.{AreStacked};
+ghost use Rattle.macho_stack.specs.Stacks.{AreStacked};
 ghost use Rattle.macho_layout.specs.Names.{mapped_names, merged_count};
 ghost use Rattle.macho_layout.specs.Members.{members_of, first_flags};
 ghost use Rattle.macho_layout.specs.Cells.{cells_of};
-ghost use Rattle.macho_rows.specs.Rows.{AreRows};
+ghost use Rattle.macho_stack.specs.Rows.{AreRows};
 
 use crate::cells::{MADE_INIT_OFFSETS, MADE_SLOTS, MADE_STUBS, MADE_UNWIND_INFO};
 use crate::fault::LayoutFault;
@@ -19,10 +19,9 @@ use crate::places::{
     template_range,
 };
 use crate::plan::Plan;
-use macho_cells::{PlacedMember, Stacked, stack, starts};
 use macho_model::{Counts, LIMIT_32, Limit, Linkedit, PlacedSegment, SEGMENT_PAGE};
 use macho_records::SegmentName;
-use macho_rows::{Rows, place_rows, tables};
+use macho_stack::{PlacedMember, Rows, Stacked, place_rows, stack, starts, tables};
 use std::alloc::{AllocError, Global};
 
 /// The most segments that a file may have, `__PAGEZERO` and `__LINKEDIT` among them.

@@ -5,14 +5,13 @@ ghost use Rattle.macho_layout.specs.Headers.{made_title, title_of, header_of, fi
 use crate::cells::{MADE_INIT_OFFSETS, MADE_STUBS, MADE_UNWIND_INFO};
 use crate::plan::Plan;
 use crate::spec::OutputName;
-use macho_cells::{Extent, PlacedCell};
 use macho_model::PlacedSegment;
 use macho_records::{
     S_ATTR_EXT_RELOC, S_ATTR_LOC_RELOC, S_ATTR_PURE_INSTRUCTIONS, S_ATTR_SOME_INSTRUCTIONS,
     S_INIT_FUNC_OFFSETS, S_NON_LAZY_SYMBOL_POINTERS, S_SYMBOL_STUBS, SectionHeader, SegmentName,
     is_zerofill_type,
 };
-use macho_rows::CLASSES;
+use macho_stack::{CLASSES, Extent, PlacedCell};
 use std::alloc::{AllocError, Global};
 
 /// All flags but those that tell of relocations in an object.

@@ -6,10 +6,10 @@ ghost use Rattle.macho_layout.specs.Names.{merged_count};
 
 use crate::plan::Plan;
 use crate::spec::{CommonSpec, SectionSpec};
-use macho_cells::Member;
 use macho_records::{
     S_THREAD_LOCAL_REGULAR, S_THREAD_LOCAL_VARIABLES, S_THREAD_LOCAL_ZEROFILL, SectionFlags,
 };
+use macho_stack::Member;
 use std::alloc::{AllocError, Global};
 
 /// The alignment of a pointer, as an exponent of 2.

@@ -4,12 +4,11 @@ ghost use Rattle.macho_layout.specs.Places.{number_at, address_at, range_at, cov
 
 use crate::cells::{is_template_class, segment_number};
 use crate::spec::{CommonSpec, Planned, SectionSpec, StubSpec};
-use macho_cells::{PlacedCell, PlacedMember};
 use macho_model::{
     PlacedCommon, PlacedSection, PlacedSegment, Range64, SEGMENT_PAGE, Slot, Stub, Target,
 };
 use macho_records::SegmentName;
-use macho_rows::CLASSES;
+use macho_stack::{CLASSES, PlacedCell, PlacedMember};
 use std::alloc::{AllocError, Global};
 
 /// An address behind another one. In an image that keeps to its written sum none wraps.

@@ -1,6 +1,6 @@
 //! The written sum: how long the image may be, from sizes alone.
 ghost use Rattle.std.specs.Prelude.{◌≡◌, ◌+◌, ◌<◌, ◌≤◌, ◌^◌, ◌*◌, ◌/◌, length, All, sum_by};
-ghost use Rattle.macho_cells.specs.Costs.{cost_of};
+ghost use Rattle.macho_stack.specs.Costs.{cost_of};
 ghost use Rattle.macho_layout.specs.Names.{segment_count, merged_count};
 ghost use Rattle.macho_layout.specs.Members.{template_align, placed_align, section_member, common_member};
 ghost use Rattle.macho_layout.specs.Sums.{fitting, members_cost, output_count, unsigned_sum, written_sum, section_cost};

@@ -18,11 +18,12 @@ use Rattle.macho_model.specs.Placement.{Placed, id_of, IsPlaced}
 use Rattle.macho_model.specs.Zeros.{Span}
 use Rattle.macho_model.specs.Spans.{spans_with, AreApart, section_span, common_span, slot_span, stub_span, head_span}
 use Rattle.macho_fixups.specs.declared.run.Fixup.{Fixup}
-use Rattle.macho_parts.specs.Asked.{slot_fixup, field_fixup, fixups_in, fixups_asked}
+use Rattle.macho_promise.specs.Asked.{slot_fixup, field_fixup, fixups_in, fixups_asked}
 use Rattle.macho_linkedit.specs.Runs.{PointersFit, WordsApart, IsWordPlace}
-use Rattle.macho_linkedit.proofs.Members.{in_rest, in_map, from_map, from_filter, from_flat_map}
-use Rattle.macho_linkedit.proofs.Pairs.{pairs_front, pairs_back, pairs_tail, pairs_cross, pairs_map, pairs_unmap, pairs_weaker, pairs_append, pairs_flat_map}
+use Rattle.macho_linkedit.proofs.Pairs.{pairs_weaker, pairs_append, pairs_flat_map}
 use Rattle.macho_model.proofs.Parts.{apart_of, same_order}
+use Rattle.macho_bytes.proofs.Pairs.{pairs_tail, pairs_front, pairs_back, pairs_cross, pairs_map, pairs_unmap}
+use Rattle.macho_bytes.proofs.Members.{contains_later, contains_map, map_contains, filter_contains, flat_map_contains}
 
 -- the parts up to the slots
 abbrev before_slots : Link → Counts → Placed → List Span
@@ -63,15 +64,15 @@ pub of_section : (l : Link) (p : Placed) (q : PlacedSection) (x : Fixup) → Con
     → (f : Field) × Contains (fields_of l (id_of q)) f × (needs_fixup l (id_of q) f ≡ true) × (field_fixup l p q f ≡ x)
 unfolding fixups_in
 of_section l p q x c =
-    let z = from_map (field_fixup l p q) (filter (needs_fixup l (id_of q)) (fields_of l (id_of q))) x c in
-    let y = from_filter (needs_fixup l (id_of q)) (fields_of l (id_of q)) z.0 z.1 in (z.0, y.0, y.1, z.2)
+    let z = map_contains (field_fixup l p q) (filter (needs_fixup l (id_of q)) (fields_of l (id_of q))) x c in
+    let y = filter_contains (needs_fixup l (id_of q)) (fields_of l (id_of q)) z.0 z.1 in (z.0, y.0, y.1, z.2)
 
 -- a placed section is carried
 pub carried : (l : Link) (counts : Counts) (p : Placed) (q : PlacedSection) → IsPlaced l counts p → Contains p.sections q → Contains
     (carried_of l) (id_of q)
 carried l counts p q placed c =
     Contains-permutation (map id_of p.sections) (carried_of l) (id_of q) (same_order placed.whole_list.sections)
-    (in_map id_of p.sections q c)
+    (contains_map id_of p.sections q c)
 
 -- Facts of the pointer of a placed section.
 record IsPointerAt (l : Link) (p : Placed) (q : PlacedSection) (a : ℕ) : Type 0 where
@@ -109,7 +110,8 @@ section_among : (l : Link) (counts : Counts) (p : Placed) (q : PlacedSection) �
     (section_span l q)
 section_among l counts p q c =
     Contains-append_left (head_span counts p ∷ map (section_span l) p.sections) (map (common_span l) p.commons) (section_span l q)
-    (in_rest (head_span counts p) (map (section_span l) p.sections) (section_span l q) (in_map (section_span l) p.sections q c))
+    (contains_later (head_span counts p) (map (section_span l) p.sections) (section_span l q)
+    (contains_map (section_span l) p.sections q c))
 
 -- ALL words are apart.
 pub words_apart : (l : Link) (counts : Counts) (p : Placed) → IsPlaced l counts p → PointersFit l p
@@ -142,12 +144,12 @@ words_apart l counts p placed fit =
     cross : (x y : Fixup) → Contains (map (slot_fixup l p) p.slots) x → Contains (flat_map (fixups_in l p) p.sections) y
         → Beside x.address y.address
     cross x y in_x in_y =
-        let s = from_map (slot_fixup l p) p.slots x in_x in
-        let q = from_flat_map (fixups_in l p) p.sections y in_y in
+        let s = map_contains (slot_fixup l p) p.slots x in_x in
+        let q = flat_map_contains (fixups_in l p) p.sections y in_y in
         let b = pointer_at l counts p q.0 y placed fit q.1 q.2 in
         let both = pairs_cross AreApart (before_slots l counts p) (map slot_span p.slots) (section_span l q.0) (slot_span s.0)
         (to_slots l counts p (apart_of placed))
-        (section_among l counts p q.0 q.1) (in_map slot_span p.slots s.0 s.1) in
+        (section_among l counts p q.0 q.1) (contains_map slot_span p.slots s.0 s.1) in
         let apart = words_of (section_span l q.0) (slot_span s.0) y.address s.0.address both b.low b.high (omega arith) (omega arith) in
         subst (λ (z : Fixup). Beside z.address y.address) s.2 (turn y.address s.0.address apart)
       where

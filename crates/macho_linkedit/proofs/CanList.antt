@@ -8,20 +8,20 @@ use Rattle.std.proofs.lemmas.List.{get_or_default, get_or-map, length-map}
 use Rattle.std.proofs.lemmas.List.FromFn.{get_or-enumerate_from, length-enumerate_from, length-map-range_with_len}
 use Rattle.macho_model.specs.Objects.{num_symbols}
 use Rattle.macho_model.specs.Links.{Input, Object, Dylib, Stub, Link, no_input}
-use Rattle.macho_names.specs.Kept.{FileRows, kept_of, kept_object, no_file, row_of_symbol, rows_of_object}
+use Rattle.macho_symbol_names.specs.Kept.{FileRows, kept_of, kept_object, no_file, row_of_symbol, rows_of_object}
 use Rattle.macho_symbols.specs.Kept.{ResolvedRows, IsResolved, HasSymbol}
 use Rattle.macho_linkedit.specs.declared.listing.LinkedObject.{LinkedObject}
 use Rattle.macho_linkedit.specs.Listing.{object_in, seen_object, AreObjects}
 use Rattle.macho_linkedit.specs.Laws.{ResolvedCanBeListed}
-use Rattle.macho_linkedit.proofs.Members.{in_map, from_filter_map, all_in}
+use Rattle.macho_bytes.proofs.Members.{contains_all, contains_map, filter_map_contains}
 
 -- an object of the list is the link's input of its number
 pub input_is : (l : Link) (objects : List LinkedObject) (o : LinkedObject) → AreObjects l objects → Contains objects o
     → (o.number < length l.inputs) × (get_or l.inputs o.number no_input ≡ Object o.file.bytes)
 input_is l objects o are c =
     let there : Contains (filter_map object_in (enumerate_from 0 l.inputs)) (seen_object o)
-    = subst (λ (xs : List (ℕ × List ℕ)). Contains xs (seen_object o)) are.are (in_map seen_object objects o c) in
-    let z = from_filter_map object_in (enumerate_from 0 l.inputs) (seen_object o) there in
+    = subst (λ (xs : List (ℕ × List ℕ)). Contains xs (seen_object o)) are.are (contains_map seen_object objects o c) in
+    let z = filter_map_contains object_in (enumerate_from 0 l.inputs) (seen_object o) there in
     by z.0 z.1 z.2
   where
     kind : (n : ℕ) (x : Input) → object_in (n, x) ≡ Some (seen_object o) → (n ≡ o.number) × (x ≡ Object o.file.bytes)
@@ -67,7 +67,7 @@ symbol_is_kept l noted r objects o is are c k lt =
 pub can_be_listed : ResolvedCanBeListed
 can_be_listed l noted r objects is are kinds few = record {
   kinds = kinds;
-  known = all_in (λ (o : LinkedObject). (k : ℕ) → k < num_symbols o.file.bytes → HasSymbol r o.number k) objects
+  known = contains_all (λ (o : LinkedObject). (k : ℕ) → k < num_symbols o.file.bytes → HasSymbol r o.number k) objects
       (λ o c. symbol_is_kept l noted r objects o is are c);
   few = few;
 }

@@ -17,7 +17,7 @@ use Rattle.macho_model.specs.Segments.{one_if}
 use Rattle.macho_model.specs.HeadCommands.{DYLINKER, path_command_size, own_commands_size, versions_size}
 use Rattle.macho_symbols.specs.declared.solved.Import.{Import}
 use Rattle.macho_commands.proofs.LinkCommands.{length-link_commands}
-use Rattle.macho_parts.specs.Sizes.{commands_size, padding_size, text_size, counts_with}
+use Rattle.macho_promise.specs.Sizes.{commands_size, padding_size, text_size, counts_with}
 use Rattle.macho_linkedit.specs.declared.counting.SizesAsked.{SizesAsked}
 use Rattle.macho_linkedit.specs.Imports.{texts, name_bytes}
 use Rattle.macho_linkedit.specs.Counting.{AreArguments, AreAsked}
@@ -29,7 +29,7 @@ sum_texts : (f : List ℕ → ℕ) (xs : List (Vec ℕ Global)) → sum_by (λ x
 sum_texts f [] = refl
 sum_texts f (x ∷ xs) = omega (arith, sum_by-cons (λ (y : Vec ℕ Global). f y.items) x xs, sum_by-cons f x.items (texts xs), sum_texts f xs)
 
-sum_names : (xs : List Import) → name_bytes xs ≡ sum_by text_size (map (λ i. i.name.items) xs)
+pub sum_names : (xs : List Import) → name_bytes xs ≡ sum_by text_size (map (λ i. i.name.items) xs)
 sum_names [] = refl
 sum_names (x ∷ xs) =
     omega (

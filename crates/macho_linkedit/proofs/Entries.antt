@@ -8,7 +8,7 @@ use Rattle.std.proofs.Common.{◌≡◌, ℕ, ◌+◌, ◌-◌, ◌<◌, ◌≤�
 use Rattle.std.specs.Prelude.{All, sum_by}
 use Rattle.std.specs.Int.{w32, cast_unsigned}
 use Rattle.std.proofs.lemmas.Bool.{cases_lt}
-use Rattle.std.proofs.lemmas.List.{append-nil, get_or_default, get_or_append_left, get_or-append_right, get_or-append-add, length-append, length_push, take_more, append_assoc}
+use Rattle.std.proofs.lemmas.List.{get_or_default, get_or_append_left, get_or-append_right, get_or-append-add, length-append, length_push, take_more, append_assoc}
 use Rattle.std.proofs.lemmas.List.Concat.{length-flat_map}
 use Rattle.std.proofs.lemmas.List.Sums.{sum_by-take-le, sum_by-le-sum_by, sum_by_more_le}
 use Rattle.macho_bytes.specs.Numbers.{signed}
@@ -18,16 +18,6 @@ use Rattle.macho_fixups.specs.declared.imports.ImportEntry.{ImportEntry}
 use Rattle.macho_symbols.specs.declared.solved.OwnEntry.{OwnEntry}
 use Rattle.macho_linkedit.specs.Imports.{name_bytes}
 use Rattle.macho_linkedit.specs.steps.Entries.{name_text, names_of, plain_entry, plain_at, HavePlain, IsOwnOf, HaveOwn}
-
--- no import yet
-pub plain_none : (libraries : List (List ℕ)) (imports : List Import) (entries : List ImportEntry) (names : List ℕ) → entries ≡ []
-    → names ≡ []
-    → HavePlain libraries imports 0 entries names
-plain_none libraries imports entries names none empty = record {
-  long = ap length none;
-  each = λ k d i lt. absurd (omega arith);
-  text = empty;
-}
 
 -- one import more
 pub plain_more : (libraries : List (List ℕ)) (imports : List Import) (n : ℕ) (entries now : List ImportEntry) (names next : List ℕ)
@@ -86,10 +76,6 @@ names_left imports k d lt =
       sum_by-le-sum_by (λ (i : Import). length (name_text i)) (λ (i : Import). length i.name.items + 1) (take k imports)
           (λ i. omega (arith, length-append i.name.items (0 ∷ []))),
     )
-
--- no own entry yet, and one more
-pub own_none : (plain : List ImportEntry) (own : List OwnEntry) → HaveOwn plain own 0 plain
-own_none plain own = record { rest = []; are = sym (append-nil plain); long = refl; each = λ k d o lt. absurd (omega arith) }
 
 pub own_more : (plain : List ImportEntry) (own : List OwnEntry) (n : ℕ) (entries now : List ImportEntry) (o : OwnEntry) (e : ImportEntry)
     → HaveOwn plain own n entries → n < length own → o ≡ get_or own n o → now ≡ entries ++ e ∷ [] → IsOwnOf plain o e → HaveOwn plain own

@@ -17,7 +17,7 @@ use Rattle.macho_model.specs.Placement.{Placed}
 use Rattle.macho_model.specs.Values.{is_absolute_target}
 use Rattle.macho_model.specs.Stands.{IsAt}
 use Rattle.macho_model.proofs.Words.{place_of_symbol}
-use Rattle.macho_parts.specs.TrieSays.{from_object, from_library, ValueOf}
+use Rattle.macho_promise.specs.TrieSays.{from_object, from_library, ValueOf}
 use Rattle.macho_linkedit.specs.Tries.{said_of, value_said, is_thread_local}
 use Rattle.macho_linkedit.specs.Laws.{ValuesAreFound, ReexportsAreFound}
 use Rattle.macho_linkedit.proofs.Numbering.{not_own}

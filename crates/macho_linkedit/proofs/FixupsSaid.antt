@@ -10,9 +10,7 @@ use Rattle.std.proofs.lemmas.List.{append-nil, ext_get_or, get_or-map, length-ma
 use Rattle.std.proofs.lemmas.List.Elements.{All-contains}
 use Rattle.macho_bytes.specs.Numbers.{little, le_bytes, row_bytes, AllBelow, signed}
 use Rattle.macho_bytes.specs.Texts.{Stands}
-use Rattle.macho_bytes.proofs.Numbers.{little_is_sound}
-use Rattle.macho_bytes.proofs.Layouts.{reads_back}
-use Rattle.macho_structs.specs.declared.fixups.ChainedFixupsHeader.{ChainedFixupsHeader}
+use Rattle.macho_wire.specs.declared.fixups.ChainedFixupsHeader.{ChainedFixupsHeader}
 use Rattle.macho_model.specs.Links.{Link}
 use Rattle.macho_model.specs.Needs.{imports_of, import_library}
 use Rattle.macho_model.specs.Exports.{library_number}
@@ -27,15 +25,12 @@ use Rattle.macho_fixups.specs.Tables.{image_starts_text, entry_text, entry_word,
 use Rattle.macho_fixups.specs.Rows.{table_rows}
 use Rattle.macho_fixups.specs.Calls.{AreEntries, FitsTable}
 use Rattle.macho_fixups.specs.steps.Calls.{EntryFits}
-use Rattle.macho_fixups.proofs.TableTexts.{joined_long, header_long, names_near}
-use Rattle.macho_fixups.proofs.TableReading.{table_reads_back}
-use Rattle.macho_fixups.proofs.Rows.{starts_long, entries_long, table_same, words_stand}
-use Rattle.macho_parts.specs.FixupsSay.{IsFixupOf, fixup_segments, entry_row, FixupsSay}
+use Rattle.macho_fixups.proofs.Rows.{table_same, words_stand}
+use Rattle.macho_promise.specs.FixupsSay.{IsFixupOf, fixup_segments, entry_row, FixupsSay}
 use Rattle.macho_linkedit.specs.Imports.{IsEntryFor, AreEntriesOf, IsImportTable, AreTellable}
 use Rattle.macho_linkedit.specs.Laws.{FixupsAreSaid}
-use Rattle.macho_linkedit.proofs.TableSays.{table_is_said}
 use Rattle.macho_bytes.specs.Spellings.{spelling, ReadsBack}
-use Rattle.macho_structs.specs.Spellings.{chained_fixups_header_rows}
+use Rattle.macho_wire.specs.Spellings.{chained_fixups_header_rows}
 use Rattle.macho_model.specs.steps.ImportTable.{no_entry}
 
 four : (a b c d w x y z : ℕ) → a ≡ w → b ≡ x → c ≡ y → d ≡ z → (a ∷ b ∷ c ∷ d ∷ []) ≡ (w ∷ x ∷ y ∷ z ∷ [])
@@ -130,56 +125,3 @@ fixups_are_said l b p t fixups format entries names run is table words = record 
       (text_same l p.base fixups (fixup_segments p) format entries names is) table.text;
   words = words_stand (fixup_segments p) fixups b words;
 }
-
--- And back: where a file says the fixups of a link whose numbers fit a table, and the table lies in its range, a reader finds the link's
--- import table.
-pub imports_follow : (l : Link) (b : List ℕ) (p : Placed) (say : FixupsSay l b p) (entries : List ImportEntry)
-    → AreEntriesOf l entries → AreEntries (import_format l) entries → All EntryFits entries → AreTellable l
-    → FitsTable p.base say.fixups (fixup_segments p)
-    → names_place say.fixups (fixup_segments p) (import_format l) entries + length (names_text l) ≤ say.table.size
-    → ImportTableSays l b
-unfolding table_text
-imports_follow l b p say entries are known fit tell fits room =
-    table_is_said l b say.table p.base say.fixups segments (import_format l) entries (names_text l) is known tell (record {
-      one = say.one;
-      text =
-          subst (λ (text : List ℕ). Stands b (record { at = say.table.at; text = text }))
-          (sym (text_same l p.base say.fixups segments (import_format l) entries (names_text l) is)) say.text;
-      room = room;
-      reads =
-          table_reads_back p.base say.fixups segments (import_format l) entries (names_text l) fits known fit back
-          (starts_long p.base say.fixups segments) (omega (
-            arith,
-            joined_long (spelling chained_fixups_header_rows header) (image_starts_text p.base say.fixups segments)
-                (flat_map (entry_text (import_format l)) entries) (names_text l),
-            header_long header,
-            starts_long p.base say.fixups segments,
-            entries_long (import_format l) entries,
-          ));
-    })
-  where
-    segments : List FixupSegment
-    segments = fixup_segments p
-
-    is : IsImportTable l (import_format l) entries (names_text l)
-    is = record { format_is = refl; entries_are = are; names_are = refl }
-
-    header : ChainedFixupsHeader
-    header = table_header say.fixups segments (import_format l) entries
-
-    format_small : import_format l < 2 ^ 32
-    format_small = elim known.known [ inl one ↦ omega (arith, one) | inr two ↦ omega (arith, two) ]
-
-    behind : AllBelow 4 (length entries ∷ import_format l ∷ 0 ∷ [])
-    behind = (omega (arith, known.count), (omega (arith, format_small), (omega arith, tt)))
-
-    back : ReadsBack chained_fixups_header_rows header
-    back =
-        let near = names_near p.base (import_format l) say.fixups segments entries fits known in
-        reads_back chained_fixups_header_rows header little_is_sound (
-          (
-            (omega arith, (omega arith, (omega (arith, near.0), (omega (arith, near.1), behind)))),
-            refl,
-          ),
-          tt,
-        ) refl

@@ -15,8 +15,7 @@ use Rattle.std.proofs.lemmas.List.Folds.{flat_map-map}
 use Rattle.std.proofs.lemmas.List.FromFn.{get_or-map-range_with_len, length-map-range_with_len}
 use Rattle.std.proofs.lemmas.List.Sums.{sum_by-cons}
 use Rattle.macho_model.specs.Links.{Link}
-use Rattle.macho_model.specs.Resolution.{Definition}
-use Rattle.macho_model.specs.Resolution.{library_name}
+use Rattle.macho_model.specs.Resolution.{Definition, library_name}
 use Rattle.macho_model.specs.Needs.{imports_of, import_library}
 use Rattle.macho_model.specs.steps.Resolved.{library_file}
 use Rattle.macho_model.specs.Exports.{library_number}

@@ -24,8 +24,8 @@ use Rattle.macho_model.proofs.ObjectLaws.{object_keeps, dylib_keeps}
 use Rattle.macho_model.specs.Links.{Input, Object, Dylib, Stub, Link, no_input, object_bytes, object_of, is_carried}
 use Rattle.macho_model.specs.Resolution.{SymbolId, name_at, defines, symbols_of_file, symbols_of}
 use Rattle.macho_model.specs.SymbolTable.{table_symbols}
-use Rattle.macho_parts.specs.Sizes.{text_size}
-use Rattle.macho_names.specs.Kept.{in_carried}
+use Rattle.macho_promise.specs.Sizes.{text_size}
+use Rattle.macho_symbol_names.specs.Kept.{in_carried}
 use Rattle.macho_symbols.specs.Kept.{symbol_id}
 use Rattle.macho_linkedit.specs.declared.names.Names.{Names}
 use Rattle.macho_linkedit.specs.steps.Names.{AreNames}
@@ -34,8 +34,8 @@ use Rattle.macho_linkedit.specs.declared.listing.TableSymbol.{TableSymbol}
 use Rattle.macho_linkedit.specs.declared.listing.TableSymbols.{TableSymbols}
 use Rattle.macho_linkedit.specs.Listing.{object_in, seen_object, AreObjects, id_of_symbol, HasLength, AreListed}
 use Rattle.macho_linkedit.specs.steps.Listing.{is_defined_symbol, is_label, name_length, symbols_in, Lists}
-use Rattle.macho_linkedit.proofs.Members.{in_map, from_filter_map}
 use Rattle.macho_model.specs.steps.SymbolTable.{is_in_table}
+use Rattle.macho_bytes.proofs.Members.{contains_map, filter_map_contains}
 
 -- a symbol is in the table by what its object's bytes say
 in_table_is : (l : Link) (file k : ℕ) (b : List ℕ) → object_of l file ≡ b
@@ -92,14 +92,6 @@ label_is b k name defined local =
     external_is (e.n_strx == 0) (is_stab_of e) (has_any N_EXT e.n_type) (bit_and e.n_type N_TYPE == N_SECT)
     (is_carried (section_at b (e.n_sect - 1))) (bit_and e.n_type N_TYPE == N_ABS) (bit_and e.n_type N_TYPE == N_UNDF) (e.n_value == 0)
     (is_label name) defined local
-
-pub none_is : (l : Link) (file k : ℕ) (b : List ℕ) → object_of l file ≡ b → is_defined_symbol b k ≡ false → name_length l
-    (symbol_id file k) ≡ None
-none_is l file k b is undefined =
-    ap (λ (t : Bool). if t then Some (length (name_at l (symbol_id file k))) else None)
-    (in_table_is l file k b is
-    ∙ ap (λ (t : Bool). t && (if is_global (symbol_at b k) then defines l (symbol_id file k) else not
-    (is_label (symbol_name b k)))) undefined)
 
 -- a name is shorter than its file
 file_small : (dyn : Bool) (b : List ℕ) → IsFile dyn b → length b < 2 ^ 32
@@ -291,8 +283,8 @@ pub bytes_are : (l : Link) (objects : List LinkedObject) (i : ℕ) (o : LinkedOb
 bytes_are l objects i o are lt is =
     let c : Contains objects o = (i, lt, sym is) in
     let there : Contains (filter_map object_in (enumerate_from 0 l.inputs)) (seen_object o)
-    = subst (λ (xs : List (ℕ × List ℕ)). Contains xs (seen_object o)) are.are (in_map seen_object objects o c) in
-    let z = from_filter_map object_in (enumerate_from 0 l.inputs) (seen_object o) there in
+    = subst (λ (xs : List (ℕ × List ℕ)). Contains xs (seen_object o)) are.are (contains_map seen_object objects o c) in
+    let z = filter_map_contains object_in (enumerate_from 0 l.inputs) (seen_object o) there in
     by z.0 z.1 z.2
   where
     kind : (n : ℕ) (x : Input) → object_in (n, x) ≡ Some (seen_object o) → (n ≡ o.number) × (object_bytes x ≡ o.file.bytes)

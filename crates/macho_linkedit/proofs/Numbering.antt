@@ -3,7 +3,7 @@
 -- A target that is an import is that of a global name which a library defines, and so is the name of a use. The name is
 -- among the imports, so its number is below theirs. A pointer whose addend has no room has an entry of its own, so the number
 -- of that entry is below that of all.
-use Rattle.std.proofs.Common.{◌≡◌, ℕ, ◌==◌, ◌<◌, ◌≤◌, Bool, true, false, not, ◌&&◌, ◌||◌, if◌then◌else◌, List, map, length, refl, sym, ap, ◌∙◌, arith, Option, Some, None, Decides}
+use Rattle.std.proofs.Common.{◌≡◌, ℕ, ◌==◌, ◌<◌, ◌≤◌, Bool, true, false, not, ◌&&◌, ◌||◌, if◌then◌else◌, List, map, length, refl, sym, ap, ◌∙◌, arith, Option, Some, None, Decides, subst}
 use Rattle.std.specs.Prelude.{Contains, filter}
 use Rattle.std.specs.List.{flat_map, filter_map, position_or_len, range_with_len}
 use Rattle.std.specs.Str.{bytes_eq}
@@ -19,17 +19,17 @@ use Rattle.macho_model.specs.Links.{Link, SectionId, header_at, is_carried, carr
 use Rattle.macho_model.specs.Resolution.{SymbolId, Definition, Symbol, Library, ImageBase, entry_at, name_at, same_symbol, chosen_commons, stands_in_carried, definition_of}
 use Rattle.macho_model.specs.Needs.{relocation_in, section_named, relocations_of, is_imported, symbol_of_relocation, imports_of}
 use Rattle.macho_model.specs.steps.Resolved.{is_library}
-use Rattle.macho_model.specs.Uses.{Use, ByRelocation, ByInitializer, ByPersonality, ByName, carried_uses, uses_of, global_name, name_used}
+use Rattle.macho_model.specs.Uses.{Use, ByRelocation, ByInitializer, ByPersonality, ByName, carried_uses, uses_of, global_name, name_used, slot_of_use, goes_by_slot}
 use Rattle.macho_model.specs.Targets.{own_target, definition_target, target_of, target_of_relocation, slots_of, is_import, same_target}
-use Rattle.macho_model.specs.Uses.{slot_of_use, goes_by_slot}
 use Rattle.macho_model.specs.Fixups.{EntryOfImport, same_entry, has_room, own_entry, own_entries, import_entries_of}
 use Rattle.macho_model.specs.Fields.{Field, field_of, is_prefix_type, fields_of}
 use Rattle.macho_model.specs.Values.{is_pointer}
-use Rattle.macho_model.proofs.EachBelow.{and_left, and_right, and_both, is_equal, equal_is}
 use Rattle.macho_model.proofs.Words.{place_of_symbol, target_of_symbol, target_of_section}
-use Rattle.macho_linkedit.proofs.Members.{in_map, from_map, in_filter, from_filter, in_flat_map, in_filter_map, from_filter_map, in_distinct, from_distinct, place_in}
+use Rattle.macho_linkedit.proofs.Members.{in_distinct}
 use Rattle.macho_model.proofs.Uses.{imports_are, slots_are}
-use Rattle.std.proofs.Common.{subst}
+use Rattle.macho_bytes.proofs.Members.{position_below, contains_map, map_contains, contains_filter, filter_contains, contains_flat_map, contains_filter_map, filter_map_contains}
+use Rattle.macho_model.proofs.Sections.{entry-Decides}
+use Rattle.macho_model.proofs.Distinct.{distinct_contains}
 
 -- A name that a library defines, and its number.
 pub record IsNamed (l : Link) (used : Option (List ℕ)) (id : ℕ) : Type 0 where
@@ -98,15 +98,15 @@ relocation_named l s r id is = outside (relocation_in l s r).r_extern is
 -- the number of a name that a use names is below the number of imports
 named_below : (l : Link) (u : Use) (id : ℕ) → Contains (uses_of l) u → IsNamed l (name_used l u) id → id < length (imports_of l)
 named_below l u id there named =
-    let among : Contains (filter_map (name_used l) (uses_of l)) named.name = in_filter_map (name_used l)
+    let among : Contains (filter_map (name_used l) (uses_of l)) named.name = contains_filter_map (name_used l)
     (uses_of l) u named.name there named.is in
     let imported : Contains (filter (is_imported l) (filter_map (name_used l) (uses_of l))) named.name
-    = in_filter (is_imported l) (filter_map (name_used l) (uses_of l)) named.name among named.imported in
+    = contains_filter (is_imported l) (filter_map (name_used l) (uses_of l)) named.name among named.imported in
     let once : Contains (imports_of l) named.name
     = subst (λ (ns : List (List ℕ)). Contains ns named.name) (sym (imports_are l))
     (in_distinct bytes_eq bytes_eq-Decides (filter (is_imported l) (filter_map (name_used l) (uses_of l))) named.name imported) in
     let below : position_or_len (bytes_eq named.name) (imports_of l) < length (imports_of l)
-    = place_in (bytes_eq named.name) (imports_of l) named.name once ((bytes_eq-Decides named.name named.name).1 refl) in
+    = position_below (bytes_eq named.name) (imports_of l) named.name once ((bytes_eq-Decides named.name named.name).1 refl) in
     let number : id ≡ position_or_len (bytes_eq named.name) (imports_of l) = named.number in
     omega arith
 
@@ -116,7 +116,8 @@ carried_use : (l : Link) (s : SectionId) (r : ℕ) → Contains (carried_of l) s
 unfolding uses_of
 carried_use l s r in_l in_s =
     Contains-append_left _ _ (ByRelocation s r) (Contains-append_left _ _ (ByRelocation s r) (Contains-append_left _ _ (ByRelocation s r)
-    (in_flat_map (carried_uses l) (carried_of l) s (ByRelocation s r) in_l (in_map (ByRelocation s) (relocations_of l s) r in_s))))
+    (contains_flat_map (carried_uses l) (carried_of l) s (ByRelocation s r) in_l
+    (contains_map (ByRelocation s) (relocations_of l s) r in_s))))
 
 -- THE number of an import that a field leads to
 pub field_below : (l : Link) (s : SectionId) (f : Field) (id : ℕ) → Contains (carried_of l) s → Contains (fields_of l s) f
@@ -124,16 +125,16 @@ pub field_below : (l : Link) (s : SectionId) (f : Field) (id : ℕ) → Contains
     → id < length (imports_of l)
 unfolding fields_of
 field_below l s f id in_l in_s is =
-    let z = from_map (field_of l s) (filter (λ r. not (is_prefix_type (relocation_in l s r).r_type)) (relocations_of l s)) f in_s in
-    let r = from_filter (λ r. not (is_prefix_type (relocation_in l s r).r_type)) (relocations_of l s) z.0 z.1 in
+    let z = map_contains (field_of l s) (filter (λ r. not (is_prefix_type (relocation_in l s r).r_type)) (relocations_of l s)) f in_s in
+    let r = filter_contains (λ r. not (is_prefix_type (relocation_in l s r).r_type)) (relocations_of l s) z.0 z.1 in
     let leads : target_of_relocation l s z.0 ≡ target.Import id = ap (λ (g : Field). g.target) z.2 ∙ is in
     named_below l (ByRelocation s z.0) id (carried_use l s z.0 in_l r.0) (relocation_named l s z.0 id leads)
 
 -- and that a slot leads to
 pub slot_below : (l : Link) (id : ℕ) → Contains (slots_of l) (target.Import id) → id < length (imports_of l)
 slot_below l id c =
-    let z = from_filter_map (slot_of_use l) (uses_of l) (target.Import id)
-    (from_distinct same_target (filter_map (slot_of_use l) (uses_of l)) (target.Import id)
+    let z = filter_map_contains (slot_of_use l) (uses_of l) (target.Import id)
+    (distinct_contains same_target (filter_map (slot_of_use l) (uses_of l)) (target.Import id)
     (subst (λ (ts : List Target). Contains ts (target.Import id)) (slots_are l) c)) in
     named_below l z.0 id z.1 (by z.0 z.2)
   where
@@ -150,19 +151,6 @@ slot_below l id c =
     by (ByPersonality s r) is = relocation_named l s r id (let same : target_of_relocation l s r ≡ target.Import id = cc in same)
     by (ByName name) is = cc
 
--- entries are equal by both numbers
-entry-Decides : (a b : EntryOfImport) → Decides (same_entry a b) (a ≡ b)
-entry-Decides a b = (
-  λ h.
-      let imports : a.import ≡ b.import = is_equal a.import b.import (and_left (a.import == b.import) (a.addend == b.addend) h) in
-      let addends : a.addend ≡ b.addend = is_equal a.addend b.addend (and_right (a.import == b.import) (a.addend == b.addend) h) in
-      ap (λ (n : ℕ). let e : EntryOfImport = record { import = n; addend = a.addend } in e) imports
-      ∙ ap (λ (n : ℕ). let e : EntryOfImport = record { import = b.import; addend = n } in e) addends,
-  λ e.
-      and_both (a.import == b.import) (a.addend == b.addend) (equal_is a.import b.import (ap (λ (x : EntryOfImport). x.import) e))
-      (equal_is a.addend b.addend (ap (λ (x : EntryOfImport). x.addend) e)),
-)
-
 -- an entry of a pointer's own is among them
 pub own_below : (l : Link) (s : SectionId) (f : Field) (id : ℕ) → Contains (carried_of l) s → Contains (fields_of l s) f
     → is_pointer f ≡ true
@@ -170,12 +158,12 @@ pub own_below : (l : Link) (s : SectionId) (f : Field) (id : ℕ) → Contains (
     → position_or_len (same_entry (record { import = id; addend = f.addend })) (import_entries_of l) < length (import_entries_of l)
 unfolding own_entries import_entries_of
 own_below l s f id in_l in_s points leads room =
-    place_in (same_entry e) (import_entries_of l) e
+    position_below (same_entry e) (import_entries_of l) e
     (Contains-append_right (map (λ id. record { import = id; addend = 0 }) (range_with_len 0 (length (imports_of l)))) (own_entries l) e
     (in_distinct same_entry entry-Decides
     (flat_map (λ s. filter_map (λ f. own_entry (is_pointer f) f.target f.addend) (fields_of l s)) (carried_of l)) e
-    (in_flat_map (λ s. filter_map (λ f. own_entry (is_pointer f) f.target f.addend) (fields_of l s)) (carried_of l) s e in_l
-    (in_filter_map (λ f. own_entry (is_pointer f) f.target f.addend) (fields_of l s) f e in_s own))))
+    (contains_flat_map (λ s. filter_map (λ f. own_entry (is_pointer f) f.target f.addend) (fields_of l s)) (carried_of l) s e in_l
+    (contains_filter_map (λ f. own_entry (is_pointer f) f.target f.addend) (fields_of l s) f e in_s own))))
     ((entry-Decides e e).1 refl)
   where
     e : EntryOfImport

@@ -6,28 +6,14 @@
 use Rattle.std.proofs.Common.{◌≡◌, ℕ, suc, ◌<◌, ◌≤◌, List, [], ◌∷◌, ◌++◌, map, length, get_or, refl, sym, ap, subst, ◌∙◌, arith, inl, inr}
 use Rattle.std.specs.Prelude.{All, AllPairs, Contains, IsPermutation}
 use Rattle.std.specs.List.{flat_map, swap}
-use Rattle.std.proofs.lemmas.List.{get_or-map, length-map}
-use Rattle.std.proofs.lemmas.List.Elements.{All-contains, All-append, Contains-append_left, Contains-append_right}
+use Rattle.std.proofs.lemmas.List.Elements.{All-append}
 use Rattle.std.proofs.lemmas.Bool.{cases_lt}
 use Rattle.std.proofs.lemmas.List.Edits.{length-swap}
 use Rattle.std.proofs.lemmas.List.Kept.{AllPairs-cons}
 use Rattle.std.proofs.lemmas.List.Sorted.{IsPermutation-keeps}
 use Rattle.indexmap.proofs.ReorderLemmas.{exchange, exchange-within, exchange-twice, get_or-swap}
-use Rattle.macho_linkedit.proofs.Members.{in_cons, in_first, in_rest, all_in, from_map, from_flat_map}
-
--- a first element, and pairs of the rest
-pub pairs_nil : {X : Type 0} (R : X → X → Type 0) → AllPairs R []
-pairs_nil R i j d below within = absurd (omega arith)
-
-pub pairs_tail : {X : Type 0} (R : X → X → Type 0) (x : X) (xs : List X) → AllPairs R (x ∷ xs) → AllPairs R xs
-pairs_tail R x xs h i j d below within = h (suc i) (suc j) d (omega arith) (omega arith)
-
-pub pairs_head : {X : Type 0} (R : X → X → Type 0) (x : X) (xs : List X) → AllPairs R (x ∷ xs) → All (R x) xs
-pairs_head R x xs h k d within = h 0 (suc k) d (omega arith) (omega arith)
-
--- one after the other, in their order
-pub pairs_before : {X : Type 0} (R : X → X → Type 0) (x : X) (xs : List X) (y : X) → AllPairs R (x ∷ xs) → Contains xs y → R x y
-pairs_before R x xs y h c = All-contains (R x) xs y (pairs_head R x xs h) c
+use Rattle.macho_bytes.proofs.Pairs.{pairs_tail, pairs_head, pairs_nil, pairs_before}
+use Rattle.macho_bytes.proofs.Members.{contains_first, contains_later, contains_all, flat_map_contains}
 
 -- joined
 pub pairs_append : {X : Type 0} (R : X → X → Type 0) (xs ys : List X) → AllPairs R xs → AllPairs R ys
@@ -35,44 +21,8 @@ pub pairs_append : {X : Type 0} (R : X → X → Type 0) (xs ys : List X) → Al
 pairs_append R [] ys first second cross = second
 pairs_append R (x ∷ xs) ys first second cross =
     AllPairs-cons R x (xs ++ ys)
-    (All-append (R x) xs ys (pairs_head R x xs first) (all_in (R x) ys (λ y c. cross x y (in_first x xs) c)))
-    (pairs_append R xs ys (pairs_tail R x xs first) second (λ z y c d. cross z y (in_rest x xs z c) d))
-
--- and taken apart
-pub pairs_front : {X : Type 0} (R : X → X → Type 0) (xs ys : List X) → AllPairs R (xs ++ ys) → AllPairs R xs
-pairs_front R [] ys h = pairs_nil R
-pairs_front R (x ∷ xs) ys h =
-    AllPairs-cons R x xs (all_in (R x) xs (λ y c. pairs_before R x (xs ++ ys) y h (Contains-append_left xs ys y c)))
-    (pairs_front R xs ys (pairs_tail R x (xs ++ ys) h))
-
-pub pairs_back : {X : Type 0} (R : X → X → Type 0) (xs ys : List X) → AllPairs R (xs ++ ys) → AllPairs R ys
-pairs_back R [] ys h = h
-pairs_back R (x ∷ xs) ys h = pairs_back R xs ys (pairs_tail R x (xs ++ ys) h)
-
-pub pairs_cross : {X : Type 0} (R : X → X → Type 0) (xs ys : List X) (x y : X) → AllPairs R (xs ++ ys) → Contains xs x → Contains ys y
-    → R x y
-pairs_cross R [] ys x y h c d = absurd (let z : x ≡ x = refl in omega arith)
-pairs_cross {X} R (z ∷ xs) ys x y h c d =
-    elim (in_cons z xs x c) [
-      | inl is ↦ subst (λ (w : X). R w y) is (pairs_before R z (xs ++ ys) y h (Contains-append_right xs ys y d))
-      | inr rest ↦ pairs_cross R xs ys x y (pairs_tail R z (xs ++ ys) h) rest d
-    ]
-
--- of a mapped list, and back
-pub pairs_map : {X Y : Type 0} (R : Y → Y → Type 0) (f : X → Y) (xs : List X) → AllPairs (λ a b. R (f a) (f b)) xs → AllPairs R (map f xs)
-pairs_map R f [] h = pairs_nil R
-pairs_map {X} {Y} R f (x ∷ xs) h =
-    AllPairs-cons R (f x) (map f xs)
-    (all_in (R (f x)) (map f xs) (λ y c. let z = from_map f xs y c in
-    subst (λ (w : Y). R (f x) w) z.2 (pairs_before (λ a b. R (f a) (f b)) x xs z.0 h z.1)))
-    (pairs_map R f xs (pairs_tail (λ a b. R (f a) (f b)) x xs h))
-
-pub pairs_unmap : {X Y : Type 0} (R : Y → Y → Type 0) (f : X → Y) (xs : List X) → AllPairs R (map f xs) → AllPairs (λ a b. R (f a) (f b)) xs
-pairs_unmap {X} {Y} R f xs h i j d below within =
-    let at_i : get_or (map f xs) i (f d) ≡ f (get_or xs i d) = get_or-map f xs i d (f d) (omega arith) in
-    let at_j : get_or (map f xs) j (f d) ≡ f (get_or xs j d) = get_or-map f xs j d (f d) within in
-    subst (λ (w : Y). R (f (get_or xs i d)) w) at_j
-    (subst (λ (w : Y). R w (get_or (map f xs) j (f d))) at_i (h i j (f d) below (omega (arith, length-map xs f))))
+    (All-append (R x) xs ys (pairs_head R x xs first) (contains_all (R x) ys (λ y c. cross x y (contains_first x xs) c)))
+    (pairs_append R xs ys (pairs_tail R x xs first) second (λ z y c d. cross z y (contains_later x xs z c) d))
 
 -- a relation that follows of elements of the list
 pub pairs_weaker : {X : Type 0} (R Q : X → X → Type 0) (xs : List X) → AllPairs R xs
@@ -80,8 +30,8 @@ pub pairs_weaker : {X : Type 0} (R Q : X → X → Type 0) (xs : List X) → All
 pairs_weaker R Q [] h follows = pairs_nil Q
 pairs_weaker R Q (x ∷ xs) h follows =
     AllPairs-cons Q x xs
-    (all_in (Q x) xs (λ y c. follows x y (in_first x xs) (in_rest x xs y c) (pairs_before R x xs y h c)))
-    (pairs_weaker R Q xs (pairs_tail R x xs h) (λ y z c d r. follows y z (in_rest x xs y c) (in_rest x xs z d) r))
+    (contains_all (Q x) xs (λ y c. follows x y (contains_first x xs) (contains_later x xs y c) (pairs_before R x xs y h c)))
+    (pairs_weaker R Q xs (pairs_tail R x xs h) (λ y z c d r. follows y z (contains_later x xs y c) (contains_later x xs z d) r))
 
 -- of many lists joined
 pub pairs_flat_map : {X Y : Type 0} (W : X → X → Type 0) (R : Y → Y → Type 0) (f : X → List Y) (xs : List X) → AllPairs W xs
@@ -90,11 +40,11 @@ pub pairs_flat_map : {X Y : Type 0} (W : X → X → Type 0) (R : Y → Y → Ty
     (flat_map f xs)
 pairs_flat_map W R f [] h each between = pairs_nil R
 pairs_flat_map W R f (x ∷ xs) h each between =
-    pairs_append R (f x) (flat_map f xs) (each x (in_first x xs))
-    (pairs_flat_map W R f xs (pairs_tail W x xs h) (λ z c. each z (in_rest x xs z c))
-    (λ u v y w c d. between u v y w (in_rest x xs u c) (in_rest x xs v d)))
-    (λ y w c d. let z = from_flat_map f xs w d in
-    between x z.0 y w (in_first x xs) (in_rest x xs z.0 z.1) (pairs_before W x xs z.0 h z.1) c z.2)
+    pairs_append R (f x) (flat_map f xs) (each x (contains_first x xs))
+    (pairs_flat_map W R f xs (pairs_tail W x xs h) (λ z c. each z (contains_later x xs z c))
+    (λ u v y w c d. between u v y w (contains_later x xs u c) (contains_later x xs v d)))
+    (λ y w c d. let z = flat_map_contains f xs w d in
+    between x z.0 y w (contains_first x xs) (contains_later x xs z.0 z.1) (pairs_before W x xs z.0 h z.1) c z.2)
 
 -- of a list in another order, where the relation is symmetric
 swapped : {X : Type 0} (R : X → X → Type 0) → ((x y : X) → R x y → R y x) → (xs : List X) (a b : ℕ) → a < length xs → b < length xs

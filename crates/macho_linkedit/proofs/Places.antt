@@ -55,10 +55,6 @@ position_push p xs y =
     (Some (cond (position_or_len p xs == length xs) (length xs + cond (p y) 0 1) (position_or_len p xs))) None) (length_push xs y)
     ∙ numbers (position_or_len p xs) (length xs) (p y) (prefix_len-le-length _ xs)
 
--- no library was looked at
-pub places_begin : (find : Bor (List ℕ) → Option ℕ) → ((q : Bor (List ℕ)) → find q ≡ None) → FindsPlaces [] find
-places_begin find empty = record { each = empty }
-
 -- one that is there
 pub places_kept : (xs : List (List ℕ)) (find : Bor (List ℕ) → Option ℕ) (name : Bor (List ℕ)) → FindsPlaces xs find → is_some
     (find name) ≡ true

@@ -4,14 +4,13 @@
 -- value's greatest address has no fewer bytes than any other address, and its flags one byte; a reexport keeps its own place.
 use Rattle.std.proofs.Common.{◌≡◌, ℕ, ◌+◌, ◌<◌, ◌≤◌, List, [], ◌∷◌, map, length, get_or, refl, sym, ap, subst, ◌∙◌, arith, inl, inr}
 use Rattle.std.specs.Prelude.{All}
-use Rattle.std.proofs.lemmas.Bool.{cases_lt}
-use Rattle.std.proofs.lemmas.List.{get_or_default, get_or-map, length-map}
+use Rattle.std.proofs.lemmas.List.{get_or-map, length-map}
 use Rattle.macho_trie.specs.Exports.{Exported, as_value}
 use Rattle.macho_trie.specs.Says.{symbol_of}
 use Rattle.macho_trie.specs.Symbols.{symbols_of, names_of}
 use Rattle.macho_trie.specs.Encoding.{says_of, IsExportsTrie}
 use Rattle.macho_trie.specs.Tries.{IsSizeOf, Reserves, AreReserved, IsWritten, FindsAll, FindsOnly}
-use Rattle.macho_parts.specs.TrieSays.{IsTrieText}
+use Rattle.macho_promise.specs.TrieSays.{IsTrieText}
 use Rattle.macho_trie.specs.declared.symbols.Symbol.{Symbol}
 use Rattle.macho_trie.specs.declared.symbols.Symbols.{Symbols}
 use Rattle.macho_linkedit.specs.declared.exports.ExportSays.{ExportSays}
@@ -105,22 +104,3 @@ trie_is_put t s reserved exports at n old new is same kept_is are w = record {
       (subst (λ (k : ℕ). IsSizeOf t.trie (names_of s) (symbols_of s) k) w.long w.says.size);
   is = w.is;
 }
-
--- values so far are small, and so is one more
-pub small_none : (exports : List NamedExport) → AreSmall exports 0
-small_none exports = record { each = λ k d lt. absurd (omega arith) }
-
-pub small_more : (exports : List NamedExport) (n : ℕ) (e : NamedExport) → AreSmall exports n → n < length exports → e ≡ get_or exports n e
-    → IsSmall e.says
-    → AreSmall exports (n + 1)
-small_more exports n e old lt is small = record { each = each }
-  where
-    each : (k : ℕ) (d : NamedExport) → k < n + 1 → IsSmall (get_or exports k d).says
-    each k d below =
-        elim (cases_lt k n) [
-          | inl before ↦ old.each k d before
-          | inr past ↦
-              let same : k ≡ n = omega arith in
-              subst (λ (x : NamedExport). IsSmall x.says)
-              (is ∙ get_or_default exports n e d lt ∙ ap (λ (m : ℕ). get_or exports m d) (sym same)) small
-        ]

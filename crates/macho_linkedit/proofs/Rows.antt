@@ -60,7 +60,7 @@ rows_more rows r t e has is = record {
 }
 
 -- a table with rows has an entry for each, and their names behind a NUL
-entries_many : (place : ℕ) (rows : List SymbolRow) → length (entries_from place rows) ≡ length rows
+pub entries_many : (place : ℕ) (rows : List SymbolRow) → length (entries_from place rows) ≡ length rows
 entries_many place [] = refl
 entries_many place (r ∷ rows) = omega (arith, entries_many (place + name_size r) rows)
 

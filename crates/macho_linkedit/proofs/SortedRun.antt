@@ -26,32 +26,32 @@ use Rattle.macho_model.specs.Placement.{Placed, id_of, IsPlaced}
 use Rattle.macho_model.specs.Spans.{slot_span}
 use Rattle.macho_model.specs.steps.Parts.{SectionLies, LiesInNamed}
 use Rattle.macho_model.specs.Segments.{DATA_CONST}
-use Rattle.macho_model.proofs.EachBelow.{and_left}
 use Rattle.macho_fixups.specs.declared.run.Fixup.{Fixup}
 use Rattle.macho_fixups.specs.declared.run.FixupSegment.{FixupSegment}
 use Rattle.macho_fixups.specs.declared.words.FixupKind.TheVariants.{Bind}
 use Rattle.macho_fixups.specs.Words.{FitsOrdinal}
 use Rattle.macho_fixups.specs.Runs.{AreFixups, Holds}
-use Rattle.macho_parts.specs.FixupsSay.{IsFixupOf, slot, pointer, kind_for, own_number, fixup_segments}
-use Rattle.macho_parts.specs.steps.Segments.{fixup_segment}
-use Rattle.macho_parts.specs.Asked.{slot_fixup, field_fixup, fixups_in, fixups_asked}
+use Rattle.macho_promise.specs.FixupsSay.{IsFixupOf, slot, pointer, kind_for, own_number, fixup_segments}
+use Rattle.macho_promise.specs.steps.Segments.{fixup_segment}
+use Rattle.macho_promise.specs.Asked.{slot_fixup, field_fixup, fixups_in, fixups_asked}
 use Rattle.macho_linkedit.specs.Runs.{PointersFit, IsWordPlace}
 use Rattle.macho_linkedit.specs.Laws.{SortedIsRun}
-use Rattle.macho_linkedit.proofs.Members.{in_map, from_map, in_filter, in_flat_map, from_flat_map, all_in}
 use Rattle.macho_linkedit.proofs.Pairs.{pairs_permuted}
 use Rattle.macho_linkedit.proofs.Asked.{Beside, of_section, carried, words_apart}
 use Rattle.macho_linkedit.proofs.Numbering.{field_below, slot_below, own_below, imports_first}
 use Rattle.macho_model.proofs.Parts.{aligned_of, in_segment_of}
 use Rattle.macho_fixups.specs.steps.Runs.{AreSorted}
+use Rattle.macho_bytes.proofs.Bools.{and_left}
+use Rattle.macho_bytes.proofs.Members.{contains_all, contains_map, map_contains, contains_filter, contains_flat_map, flat_map_contains}
 
 -- the same fixups are asked for
 pub asked_is : (l : Link) (p : Placed) (f : Fixup) → Contains (fixups_asked l p) f → IsFixupOf l p f
 unfolding fixups_asked
 asked_is l p f c =
     elim (Contains-append_cases (map (slot_fixup l p) p.slots) (flat_map (fixups_in l p) p.sections) f c) [
-      | inl here ↦ let s = from_map (slot_fixup l p) p.slots f here in subst (IsFixupOf l p) s.2 (slot s.0 s.1)
+      | inl here ↦ let s = map_contains (slot_fixup l p) p.slots f here in subst (IsFixupOf l p) s.2 (slot s.0 s.1)
       | inr here ↦
-          let q = from_flat_map (fixups_in l p) p.sections f here in
+          let q = flat_map_contains (fixups_in l p) p.sections f here in
           let x = of_section l p q.0 f q.2 in
           subst (IsFixupOf l p) x.3 (pointer q.0 x.0 q.1 x.1 x.2)
     ]
@@ -60,12 +60,12 @@ pub is_asked : (l : Link) (p : Placed) (f : Fixup) → IsFixupOf l p f → Conta
 unfolding fixups_asked fixups_in
 is_asked l p _ (slot s c) =
     Contains-append_left (map (slot_fixup l p) p.slots) (flat_map (fixups_in l p) p.sections) (slot_fixup l p s)
-    (in_map (slot_fixup l p) p.slots s c)
+    (contains_map (slot_fixup l p) p.slots s c)
 is_asked l p _ (pointer q f c there needs) =
     Contains-append_right (map (slot_fixup l p) p.slots) (flat_map (fixups_in l p) p.sections) (field_fixup l p q f)
-    (in_flat_map (fixups_in l p) p.sections q (field_fixup l p q f) c
-    (in_map (field_fixup l p q) (filter (needs_fixup l (id_of q)) (fields_of l (id_of q))) f
-    (in_filter (needs_fixup l (id_of q)) (fields_of l (id_of q)) f there needs)))
+    (contains_flat_map (fixups_in l p) p.sections q (field_fixup l p q f) c
+    (contains_map (field_fixup l p q) (filter (needs_fixup l (id_of q)) (fields_of l (id_of q))) f
+    (contains_filter (needs_fixup l (id_of q)) (fields_of l (id_of q)) f there needs)))
 
 -- in order, and apart: so one behind the other
 sorted : (run : List Fixup) → AllPairs (λ x y. Beside x.address y.address) run → ((i j : ℕ) (d : Fixup) → i ≤ j → j < length run
@@ -101,7 +101,8 @@ even_place : (a : ℕ) → a % 8 ≡ 0 → IsWordPlace a
 even_place a even = (omega arith, omega arith)
 
 -- a section that has bytes, of which there are some in the file, lies in a segment's file part
-in_file : (zeros : Bool) (size file memory : ℕ) → zeros ≡ false → 1 ≤ size → (if not zeros && not (size == 0) then file else memory) ≡ file
+pub in_file : (zeros : Bool) (size file memory : ℕ) → zeros ≡ false → 1 ≤ size →
+    (if not zeros && not (size == 0) then file else memory) ≡ file
 in_file zeros size file memory filled some = let none : (size == 0) ≡ false = grind (arith, nat_tests) in rw (filled, none) refl
 
 -- a slot is good
@@ -111,7 +112,7 @@ slot_good l counts p s placed fit c = record {
   place = even_place s.address even;
   held = (
     fixup_segment lies.0,
-    in_map fixup_segment p.segments lies.0 lies.1,
+    contains_map fixup_segment p.segments lies.0 lies.1,
     (omega (arith, lies.3.from), omega (arith, lies.3.to)),
   );
   ordinal = ordinal_of l p s.target 0 fit.entries (λ id is. slot_below l id (among id is)) (λ id is room. absurd (small room));
@@ -126,7 +127,7 @@ slot_good l counts p s placed fit c = record {
     among : (id : ℕ) → s.target ≡ target.Import id → Contains (slots_of l) (target.Import id)
     among id is =
         subst (λ (ts : List Target). Contains ts (target.Import id)) placed.whole_list.slots
-        (subst (λ (t : Target). Contains (map (λ t. t.target) p.slots) t) is (in_map (λ t. t.target) p.slots s c))
+        (subst (λ (t : Target). Contains (map (λ t. t.target) p.slots) t) is (contains_map (λ t. t.target) p.slots s c))
 
     small : has_room 0 ≡ false → ⊥
     small room = cc
@@ -139,7 +140,7 @@ pointer_good l counts p q f placed fit c there needs = record {
   place = fit.places q f c there needs;
   held = (
     fixup_segment lies.0,
-    in_map fixup_segment p.segments lies.0 (q.segment, lies.1.0, lies.1.1),
+    contains_map fixup_segment p.segments lies.0 (q.segment, lies.1.0, lies.1.1),
     (omega (arith, lies.3.from), omega (arith, lies.3.to, part, inside.0)),
   );
   ordinal =
@@ -172,10 +173,10 @@ pub are_fixups : (l : Link) (counts : Counts) (p : Placed) (run : List Fixup) �
     → ((f : Fixup) → Contains run f → IsFixupOf l p f) → AreFixups (fixup_segments p) run
 are_fixups l counts p run placed fit order is = record {
   sorted = order;
-  steps = all_in (λ f. f.address % 4 ≡ 0) run (λ f c. (each f c).place.0);
-  in_page = all_in (λ f. f.address % 0x4000 + 8 ≤ 0x4000) run (λ f c. (each f c).place.1);
-  in_segment = all_in (λ f. (s : FixupSegment) × Contains (fixup_segments p) s × Holds s f.address) run (λ f c. (each f c).held);
-  ordinals = all_in (λ f. FitsOrdinal f.kind) run (λ f c. (each f c).ordinal);
+  steps = contains_all (λ f. f.address % 4 ≡ 0) run (λ f c. (each f c).place.0);
+  in_page = contains_all (λ f. f.address % 0x4000 + 8 ≤ 0x4000) run (λ f c. (each f c).place.1);
+  in_segment = contains_all (λ f. (s : FixupSegment) × Contains (fixup_segments p) s × Holds s f.address) run (λ f c. (each f c).held);
+  ordinals = contains_all (λ f. FitsOrdinal f.kind) run (λ f c. (each f c).ordinal);
 }
   where
     each : (f : Fixup) → Contains run f → IsGood p f
@@ -190,7 +191,7 @@ sorted_is_run l counts p asked run placed fit moved sort =
           (sorted run (pairs_permuted (λ x y. Beside x.address y.address) (λ x y h. turn x.address y.address h)
           (fixups_asked l p) run same (words_apart l counts p placed fit)) sort.order)
           is;
-      each = all_in (IsFixupOf l p) run is;
+      each = contains_all (IsFixupOf l p) run is;
       all = λ f of. Contains-permutation (fixups_asked l p) run f same (is_asked l p f of);
     }
   where

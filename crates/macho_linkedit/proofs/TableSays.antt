@@ -15,7 +15,7 @@ use Rattle.macho_bytes.specs.Numbers.{little, le_at, le_bytes, bits}
 use Rattle.macho_bytes.specs.Texts.{Stands}
 use Rattle.macho_bytes.proofs.Numbers.{little_is_sound, number-stands, stands-front, stands-back}
 use Rattle.macho_bytes.proofs.Tables.{table-stands}
-use Rattle.macho_structs.specs.declared.fixups.ChainedFixupsHeader.{ChainedFixupsHeader}
+use Rattle.macho_wire.specs.declared.fixups.ChainedFixupsHeader.{ChainedFixupsHeader}
 use Rattle.macho_model.specs.declared.targets.Target.{Target}
 use Rattle.macho_model.specs.declared.targets.Target.TheVariants as target
 use Rattle.macho_model.specs.Links.{Link, SectionId, carried_of}
@@ -35,31 +35,19 @@ use Rattle.macho_fixups.specs.Calls.{AreEntries}
 use Rattle.macho_fixups.specs.Readings.{IsRead, entry_seen}
 use Rattle.macho_fixups.specs.Laws.{NameIsRead}
 use Rattle.macho_fixups.proofs.TableTexts.{header_long}
-use Rattle.macho_fixups.proofs.Rows.{starts_long, entry_long}
+use Rattle.macho_fixups.proofs.Rows.{starts_long}
 use Rattle.macho_fixups.proofs.NamesRead.{names_are_read}
 use Rattle.macho_linkedit.specs.Imports.{IsEntryFor, IsImportTable, AreTellable, TableStands}
 use Rattle.macho_linkedit.specs.Laws.{TableIsSaid}
-use Rattle.macho_linkedit.proofs.Members.{from_distinct, from_flat_map, from_filter_map}
 use Rattle.macho_linkedit.proofs.NamesStand.{name_stands, whole}
 use Rattle.macho_linkedit.proofs.Numbering.{field_below}
 use Rattle.macho_linkedit.proofs.LinkEntries.{plain_of_link, own_of_link, entries_long}
 use Rattle.macho_bytes.specs.Spellings.{spelling}
-use Rattle.macho_structs.specs.Spellings.{chained_fixups_header_rows}
+use Rattle.macho_wire.specs.Spellings.{chained_fixups_header_rows}
 use Rattle.macho_model.specs.steps.ImportTable.{no_entry}
-
--- an entry begins with its word
-word_first : (b : List ℕ) (p format : ℕ) (e : ImportEntry) → Stands b (record { at = p; text = entry_text format e })
-    → Stands b (record { at = p; text = le_bytes 4 (entry_word e) })
-unfolding entry_text
-word_first b p format e s = by (format == 2) s
-  where
-    by : (t : Bool) → Stands b (record {
-      at = p;
-      text = if t then le_bytes 4 (entry_word e) ++ le_bytes 4 (cast_unsigned w32 e.addend) else le_bytes 4 (entry_word e);
-    })
-        → Stands b (record { at = p; text = le_bytes 4 (entry_word e) })
-    by true x = stands-front b p (le_bytes 4 (entry_word e)) (le_bytes 4 (cast_unsigned w32 e.addend)) x
-    by false x = x
+use Rattle.macho_bytes.proofs.Members.{flat_map_contains, filter_map_contains}
+use Rattle.macho_fixups.proofs.EntryReading.{entry_long, word_stands}
+use Rattle.macho_model.proofs.Distinct.{distinct_contains}
 
 -- the entries stand behind header and starts
 entries_stand : (b : List ℕ) (at base : ℕ) (fixups : List Fixup) (segments : List FixupSegment) (format : ℕ) (entries : List ImportEntry)
@@ -87,7 +75,7 @@ word_is b t base fixups segments format entries names k d table lt small near =
     ∙ number-stands little little_is_sound 4 (entry_word (get_or entries k d)) b
     (t.at + imports_place fixups segments + import_entry_size format * k)
     (omega (arith, small, near))
-    (word_first b (t.at + imports_place fixups segments + import_entry_size format * k) format (get_or entries k d)
+    (word_stands b (t.at + imports_place fixups segments + import_entry_size format * k) format (get_or entries k d)
     (table-stands (entry_text format) (import_entry_size format) entries (t.at + imports_place fixups segments) k d b
     (record { long = λ j x inside. entry_long format (get_or entries j x) }) lt
     (entries_stand b t.at base fixups segments format entries names table.text)))
@@ -100,8 +88,8 @@ word_is b t base fixups segments format entries names k d table lt small near =
 own_import : (l : Link) (e : EntryOfImport) → Contains (own_entries l) e → e.import < length (imports_of l)
 unfolding own_entries
 own_import l e c =
-    let s = from_flat_map own_of (carried_of l) e (from_distinct same_entry (flat_map own_of (carried_of l)) e c) in
-    let f = from_filter_map field_own (fields_of l s.0) e s.2 in
+    let s = flat_map_contains own_of (carried_of l) e (distinct_contains same_entry (flat_map own_of (carried_of l)) e c) in
+    let f = filter_map_contains field_own (fields_of l s.0) e s.2 in
     field_below l s.0 f.0 e.import s.1 f.1 (by f.0.addend (is_pointer f.0) f.0.target f.2)
   where
     field_own : Field → Option EntryOfImport

@@ -25,21 +25,14 @@ use Rattle.macho_model.specs.Told as told
 use Rattle.macho_model.specs.Told.{IsToldExport}
 use Rattle.macho_trie.specs.Exports.{Exported, as_value}
 use Rattle.macho_trie.specs.Lookup.{trie_finds}
-use Rattle.macho_parts.specs.TrieSays.{ExportedAs, from_object, from_library, ValueOf, IsTrieText, table_bytes}
+use Rattle.macho_promise.specs.TrieSays.{ExportedAs, from_object, from_library, ValueOf, IsTrieText, table_bytes}
 use Rattle.macho_linkedit.specs.declared.exports.NamedExport.{NamedExport}
 use Rattle.macho_linkedit.specs.Tries.{said_of, said, names_in}
 use Rattle.macho_linkedit.specs.Laws.{TrieSizeIsKept, TrieIsSaid}
-use Rattle.macho_linkedit.proofs.Members.{in_map, from_map, from_filter, from_distinct}
 use Rattle.macho_linkedit.proofs.Unique.{one_section, one_common}
 use Rattle.macho_model.specs.steps.Exports.{weak_flag}
-use Rattle.macho_model.proofs.Uses.{imports_are}
-
--- an imported name has a library's definition
-imported : (l : Link) (name : List ℕ) → Contains (imports_of l) name → is_imported l name ≡ true
-imported l name c =
-    (from_filter (is_imported l) (filter_map (name_used l) (uses_of l)) name
-    (from_distinct bytes_eq (filter (is_imported l) (filter_map (name_used l) (uses_of l))) name
-    (subst (λ (ns : List (List ℕ)). Contains ns name) (imports_are l) c))).1
+use Rattle.macho_bytes.proofs.Members.{contains_map, map_contains}
+use Rattle.macho_model.proofs.Distinct.{imported}
 
 -- a target has one value
 one_value : (l : Link) (p : Placed) (weak : ℕ) (t : Target) (e f : Exported) → IsWholeList l p → ValueOf l p weak t e → ValueOf l p weak t f
@@ -108,7 +101,7 @@ trie_is_said l b p t tells exports bytes whole are stands = record {
         let w = is_told l p name x is in
         let named : Contains (names_in exports) name
         = subst (λ (ns : List (List ℕ)). Contains ns name) (sym are.names) (are.told_are.all name w.0 w.1) in
-        let y = from_map (λ (e : NamedExport). e.name.now) exports name named in
+        let y = map_contains (λ (e : NamedExport). e.name.now) exports name named in
         let says : ExportedAs l p name (said_of y.0.says)
         = subst (λ (n : List ℕ). ExportedAs l p n (said_of y.0.says)) y.2
         (All-contains (λ e. ExportedAs l p e.name.now (said_of e.says)) exports y.0 are.each y.1) in
@@ -116,11 +109,11 @@ trie_is_said l b p t tells exports bytes whole are stands = record {
         = ap (λ (n : List ℕ). let z : List ℕ × Exported = (n, said_of y.0.says) in z) y.2
         ∙ ap (λ (v : Exported). let z : List ℕ × Exported = (name, v) in z)
         (one_export l p name (said_of y.0.says) x whole says is) in
-        stands.all name x (subst (λ (z : List ℕ × Exported). Contains (map said exports) z) pair (in_map said exports y.0 y.1))
+        stands.all name x (subst (λ (z : List ℕ × Exported). Contains (map said exports) z) pair (contains_map said exports y.0 y.1))
 
     only : (name : List ℕ) (x : Exported) → trie_finds bytes name x → ExportedAs l p name x
     only name x is =
-        let y = from_map said exports (name, x) (stands.only name x is) in
+        let y = map_contains said exports (name, x) (stands.only name x is) in
         let says = All-contains (λ y. ExportedAs l p y.name.now (said_of y.says)) exports y.0 are.each y.1 in
         let names : y.0.name.now ≡ name = ap (λ (z : List ℕ × Exported). z.0) y.2 in
         let values : said_of y.0.says ≡ x = ap (λ (z : List ℕ × Exported). z.1) y.2 in

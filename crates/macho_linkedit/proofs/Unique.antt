@@ -16,9 +16,10 @@ use Rattle.macho_model.specs.Objects.{num_sections}
 use Rattle.macho_model.specs.Links.{Input, Object, Dylib, Stub, Link, SectionId, header_at, is_carried, sections_of_file, sections_of, carried_of}
 use Rattle.macho_model.specs.Resolution.{chosen_commons}
 use Rattle.macho_model.specs.Placement.{Placed, id_of, IsWholeList}
-use Rattle.macho_linkedit.proofs.Members.{from_map}
-use Rattle.macho_linkedit.proofs.Pairs.{pairs_nil, pairs_map, pairs_unmap, pairs_weaker, pairs_flat_map, pairs_permuted}
+use Rattle.macho_linkedit.proofs.Pairs.{pairs_weaker, pairs_flat_map, pairs_permuted}
 use Rattle.macho_model.proofs.Parts.{same_order}
+use Rattle.macho_bytes.proofs.Pairs.{pairs_nil, pairs_map, pairs_unmap}
+use Rattle.macho_model.proofs.Sections.{file_of_section}
 
 -- one of two equal keys in a list of different ones
 pub unique_in : {X Y : Type 0} (f : X → Y) (xs : List X) (x y : X) → AllPairs (λ a b. f a ≢ f b) xs → Contains xs x → Contains xs y
@@ -68,14 +69,6 @@ of_file file (Object bytes) =
 of_file file (Dylib bytes) = pairs_nil (λ s t. s ≢ t)
 of_file file (Stub text says) = pairs_nil (λ s t. s ≢ t)
 
-file_of : (file : ℕ) (x : Input) (s : SectionId) → Contains (sections_of_file file x) s → s.file ≡ file
-file_of file (Object bytes) s c =
-    let z = from_map (λ (k : ℕ). let t : SectionId = record { file = file; section = k } in t)
-    (range_with_len 0 (num_sections bytes)) s c in
-    sym (ap (λ (t : SectionId). t.file) z.2)
-file_of file (Dylib bytes) s (k, lt, is) = absurd (omega arith)
-file_of file (Stub text says) s (k, lt, is) = absurd (omega arith)
-
 sections_differ : (l : Link) → AllPairs (λ s t. s ≢ t) (sections_of l)
 unfolding sections_of
 sections_differ l =
@@ -83,7 +76,7 @@ sections_differ l =
     (enumerate_differs 0 l.inputs)
     (λ i c. of_file i.0 i.1)
     (λ i j s t in_i in_j apart in_s in_t same. apart
-    (sym (file_of i.0 i.1 s in_s) ∙ ap (λ (u : SectionId). u.file) same ∙ file_of j.0 j.1 t in_t))
+    (sym (file_of_section i.0 i.1 s in_s) ∙ ap (λ (u : SectionId). u.file) same ∙ file_of_section j.0 j.1 t in_t))
 
 carried_differ : (l : Link) → AllPairs (λ s t. s ≢ t) (carried_of l)
 unfolding carried_of

@@ -10,7 +10,7 @@ use Rattle.macho_model.specs.Resolution.{name_at}
 use Rattle.macho_model.specs.SymbolTable.{table_symbols}
 use Rattle.macho_model.specs.Fixups.{own_entries}
 use Rattle.macho_symbols.specs.Told.{ImportsAre}
-use Rattle.macho_parts.specs.Sizes.{unwind_size, text_size}
+use Rattle.macho_promise.specs.Sizes.{unwind_size, text_size}
 use Rattle.macho_linkedit.specs.Imports.{texts, name_bytes}
 use Rattle.macho_linkedit.specs.declared.counting.SizeArguments.{SizeArguments}
 use Rattle.macho_linkedit.specs.declared.counting.SizesAsked.{SizesAsked}

@@ -6,14 +6,14 @@ use Rattle.macho_model.specs.declared.placed.Counts.{Counts}
 use Rattle.macho_model.specs.Links.{Link}
 use Rattle.macho_model.specs.Placement.{Placed, IsWholeList, IsPlaced}
 use Rattle.macho_fixups.specs.declared.run.Fixup.{Fixup}
-use Rattle.macho_parts.specs.Asked.{fixups_asked}
+use Rattle.macho_promise.specs.Asked.{fixups_asked}
 use Rattle.macho_model.specs.Images.{Table}
 use Rattle.macho_model.specs.ImportTable.{ImportTableSays}
 use Rattle.macho_fixups.specs.declared.run.FixupSegment.{FixupSegment}
 use Rattle.macho_fixups.specs.declared.imports.ImportEntry.{ImportEntry}
 use Rattle.macho_fixups.specs.Calls.{AreEntries}
 use Rattle.macho_fixups.specs.Chains.{AllStand}
-use Rattle.macho_parts.specs.FixupsSay.{FixupsSay, fixup_segments}
+use Rattle.macho_promise.specs.FixupsSay.{FixupsSay, fixup_segments}
 use Rattle.macho_records.specs.Symbols.{is_weak_of}
 use Rattle.macho_model.specs.Resolution.{SymbolId, entry_at, name_at}
 use Rattle.macho_model.specs.Needs.{import_library}
@@ -23,8 +23,8 @@ use Rattle.macho_model.specs.Values.{is_absolute_target}
 use Rattle.macho_model.specs.Stands.{IsAt}
 use Rattle.macho_model.specs.Told.{ToldExport, IsReexported}
 use Rattle.macho_linkedit.specs.declared.exports.ExportSays.TheVariants.{Reexport}
-use Rattle.macho_parts.specs.TrieSays.{IsTrieText, ExportedAs, TrieSays}
-use Rattle.macho_parts.specs.Sizes.{IsTrieSize}
+use Rattle.macho_promise.specs.TrieSays.{IsTrieText, ExportedAs, TrieSays}
+use Rattle.macho_promise.specs.Sizes.{IsTrieSize}
 use Rattle.macho_linkedit.specs.declared.exports.NamedExport.{NamedExport}
 use Rattle.macho_linkedit.specs.Tries.{said_of, value_said, is_thread_local, kept, AreKept, AreSaid, TrieStands}
 use Rattle.macho_model.specs.SymbolEntries.{SymbolsSay}

@@ -12,7 +12,7 @@ use Rattle.macho_model.specs.Targets.{own_target}
 use Rattle.macho_model.specs.Placement.{Placed}
 use Rattle.macho_model.specs.Addresses.{address_of}
 use Rattle.macho_model.specs.SymbolEntries.{entry_section}
-use Rattle.macho_parts.specs.Sizes.{text_size}
+use Rattle.macho_promise.specs.Sizes.{text_size}
 use Rattle.macho_symbols.specs.Kept.{ResolvedRows, HasSymbol, symbol_id}
 use Rattle.macho_linkedit.specs.declared.listing.LinkedObject.{LinkedObject}
 use Rattle.macho_linkedit.specs.declared.listing.TableSymbol.{TableSymbol}

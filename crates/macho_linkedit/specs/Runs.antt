@@ -13,7 +13,7 @@ use Rattle.macho_model.specs.Values.{needs_fixup}
 use Rattle.macho_model.specs.Fixups.{import_entries_of}
 use Rattle.macho_fixups.specs.declared.run.Fixup.{Fixup}
 use Rattle.macho_fixups.specs.Runs.{AreFixups}
-use Rattle.macho_parts.specs.FixupsSay.{IsFixupOf, fixup_segments}
+use Rattle.macho_promise.specs.FixupsSay.{IsFixupOf, fixup_segments}
 
 -- the same fixups, by rising addresses
 pub record IsSortedRunOf (asked run : List Fixup) : Type 0 where

@@ -12,8 +12,8 @@ use Rattle.macho_model.specs.Placement.{Placed}
 use Rattle.macho_model.specs.Told.{ToldExport, ExportsAreTold}
 use Rattle.macho_trie.specs.Exports.{Exported, as_value, as_reexport, REEXPORT}
 use Rattle.macho_trie.specs.Tries.{IsTrieOf, IsReservedFor, FindsAll, FindsOnly}
-use Rattle.macho_parts.specs.TrieSays.{IsTrieText, ExportedAs}
-use Rattle.macho_parts.specs.Sizes.{kept_for}
+use Rattle.macho_promise.specs.TrieSays.{IsTrieText, ExportedAs}
+use Rattle.macho_promise.specs.Sizes.{kept_for}
 use Rattle.macho_linkedit.specs.declared.exports.ExportSays.{ExportSays}
 use Rattle.macho_linkedit.specs.declared.exports.ExportSays.TheVariants.{Value, Reexport}
 use Rattle.macho_linkedit.specs.declared.exports.NamedExport.{NamedExport}

@@ -2,7 +2,7 @@
 ghost use Rattle.std.specs.Prelude.{◌≡◌, ◌+◌, ◌<◌, ◌≤◌, ◌^◌, ◌==◌, if◌then◌else◌, sum_by, length, All};
 ghost use Rattle.macho_model.specs.Links.{Link};
 ghost use Rattle.macho_model.specs.HeadCommands.{path_command_size};
-ghost use Rattle.macho_parts.specs.Sizes.{counts_with};
+ghost use Rattle.macho_promise.specs.Sizes.{counts_with};
 ghost use Rattle.macho_linkedit.specs.Imports.{name_bytes};
 ghost use Rattle.macho_linkedit.specs.Counting.{IsPath, FitCounts, AreAsked};
 ghost use Rattle.macho_linkedit.specs.steps.Counting.{own_asked, padding_asked, commands_asked};

@@ -5,7 +5,7 @@
 ghost use Rattle.std.specs.Prelude.{◌≡◌, ℕ, ◌+◌, ◌≤◌, List, map, length, All, IfOk, OnOk, false, if◌then◌else◌};
 ghost use Rattle.macho_trie.specs.Sorting.{AreDistinct, HaveNoNul};
 ghost use Rattle.macho_trie.specs.Symbols.{symbols_of};
-ghost use Rattle.macho_parts.specs.TrieSays.{IsTrieText};
+ghost use Rattle.macho_promise.specs.TrieSays.{IsTrieText};
 ghost use Rattle.macho_linkedit.specs.Tries.{kept, said, names_in, IsReserved, IsTriePut, HasFlags, value_said};
 ghost use Rattle.macho_model.specs.Values.{is_absolute_target};
 ghost use Rattle.macho_linkedit.specs.steps.Values.{AreSmall};

@@ -1,6 +1,5 @@
 //! Laws on the tables of `__LINKEDIT`: each is the contract of a function that does nothing.
-ghost use Rattle.macho_linkedit.specs.Laws.{SortedIsRun, TableIsSaid, FixupsAreSaid, TrieSizeIsKept, TrieIsSaid, SymbolsAreSaid, NamesAreFound};
-ghost use Rattle.macho_linkedit.specs.Laws.{ValuesAreFound, ReexportsAreFound, ResolvedCanBeListed};
+ghost use Rattle.macho_linkedit.specs.Laws.{SortedIsRun, TableIsSaid, FixupsAreSaid, TrieSizeIsKept, TrieIsSaid, SymbolsAreSaid, NamesAreFound, ValuesAreFound, ReexportsAreFound, ResolvedCanBeListed};
 
 /// The fixups that the parts of a placed link ask for, sorted, are its run: apart, in segments, all of them and no other.
 pub fn sorted_is_run()

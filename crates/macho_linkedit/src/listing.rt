@@ -12,15 +12,14 @@ ghost use Rattle.macho_model.specs.Links.{Link, object_of};
 ghost use Rattle.macho_symbols.specs.Kept.{IsResolved, HasSymbol, symbol_id};
 ghost use Rattle.macho_linkedit.specs.Listing.{AreObjects, CanBeListed, AreListed, IsRowOf};
 ghost use Rattle.macho_linkedit.specs.steps.Names.{AreNames};
-ghost use Rattle.macho_linkedit.specs.steps.Listing.{is_defined_symbol, name_length, symbols_in, Lists};
-ghost use Rattle.macho_linkedit.specs.steps.Listing.{placed_type_of, placed_description_of};
+ghost use Rattle.macho_linkedit.specs.steps.Listing.{is_defined_symbol, name_length, symbols_in, Lists, placed_type_of, placed_description_of};
 ghost use Rattle.macho_model.specs.steps.SymbolTable.{is_in_table};
 
 use crate::names::Names;
 use crate::symbols::TableRow;
-use macho_names::{in_carried, is_absolute, is_common, is_global};
 use macho_object::File;
 use macho_records::{N_EXT, N_PEXT, N_SECT, SymtabEntry};
+use macho_symbol_names::{in_carried, is_absolute, is_common, is_global};
 use macho_symbols::Resolved;
 use std::alloc::{AllocError, Global};
 

@@ -3,7 +3,7 @@ ghost use Rattle.std.specs.Prelude.{◌≡◌, drop, IfOk, OnOk};
 ghost use Rattle.macho_bytes.specs.Texts.{name_of};
 ghost use Rattle.macho_linkedit.specs.steps.Names.{AreNames, AreRead};
 
-use macho_names::{block_ends, string_end};
+use macho_symbol_names::{block_ends, string_end};
 use std::alloc::{AllocError, Global};
 
 /// A string table, with the ends of the names that reach its blocks, once one of its names was asked for.

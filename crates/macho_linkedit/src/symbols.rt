@@ -12,8 +12,8 @@ ghost use Rattle.macho_records.specs.Layouts.{symtab_entry};
 ghost use Rattle.macho_linkedit.specs.TableRows.{SymbolRow};
 ghost use Rattle.macho_linkedit.specs.Symbols.{row_seen, AreRowsWritten};
 
-use macho_numbers::put_text;
 use macho_records::SymtabEntry;
+use macho_wire::put_text;
 
 /// Where the next row of a symbol table goes, in the range of the file for its entries and strings.
 #[derive(Clone, Copy)]

@@ -12,31 +12,30 @@ use Rattle.macho_model.specs.declared.placed.Counts.{Counts}
 use Rattle.macho_model.specs.declared.targets.Limit.TheVariants as limit
 use Rattle.macho_model.specs.Links.{Link}
 use Rattle.macho_model.specs.Needs.{libraries_needed}
-use Rattle.macho_model.specs.Faults.{LinkFault, FixupPlace, ImageTooLarge, RebaseTarget, RelocationRange, FaultStands, kept_placement}
-use Rattle.macho_model.specs.Faults.{bad_name}
+use Rattle.macho_model.specs.Faults.{LinkFault, FixupPlace, ImageTooLarge, RebaseTarget, RelocationRange, FaultStands, kept_placement, bad_name}
 use Rattle.macho_model.specs.Told.{imports_told}
-use Rattle.macho_placing.specs.Laws.{NonePasses}
+use Rattle.macho_layout_laws.specs.Laws.{NonePasses}
 use Rattle.macho_promise.specs.Sizes.{AreCounts}
-use Rattle.macho_faults.specs.declared.fault.LinkError.{LinkError}
-use Rattle.macho_faults.specs.declared.fault.LinkError.TheVariants as error
-use Rattle.macho_faults.specs.Standing.{IsStanding}
+use Rattle.macho_answer.specs.declared.fault.LinkError.{LinkError}
+use Rattle.macho_answer.specs.declared.fault.LinkError.TheVariants as error
+use Rattle.macho_answer.specs.Standing.{IsStanding}
 use Rattle.macho_linkedit.specs.declared.exports.NamedExport.{NamedExport}
 use Rattle.macho_sizing.specs.Sized.{IsSizedOf}
 use Rattle.macho_fields.specs.declared.fault.FillFault.TheVariants as fill
-use Rattle.macho_composed.specs.MadeFault.TheVariants as made
+use Rattle.macho_promise_laws.specs.MadeFault.TheVariants as made
 use Rattle.macho_model.specs.Grammar.{ObjectsAreRead}
-use Rattle.macho_answers.specs.Laws.{ObjectsAreBytes}
-use Rattle.macho_answers.specs.Inputs.{HasBytes}
-use Rattle.macho_answers.proofs.Inputs.{inputs_are_read, inputs_are_bytes}
-use Rattle.macho_answers.proofs.Told.{standing_is_told}
-use Rattle.macho_answers.proofs.Kept.{late_is_standing}
-use Rattle.macho_answers.proofs.Clear.{clear_is_unrefused}
-use Rattle.macho_tables.proofs.Exported.{exports_are_told}
-use Rattle.macho_linked.specs.declared.image.ImportName.{ImportName}
-use Rattle.macho_linked.specs.Linked.{import_of, IsImageOf, IsRefused}
-use Rattle.macho_linked.specs.declared.image.LinkedImage.{LinkedImage}
-use Rattle.macho_answers.specs.ReadLink.{ReadLink}
-use Rattle.macho_answers.specs.Read.{IsReadOf, AreKnown}
+use Rattle.macho_refusal_laws.specs.Valid.{ObjectsAreBytes}
+use Rattle.macho_refusal_laws.specs.Inputs.{HasBytes}
+use Rattle.macho_refusal_laws.proofs.Inputs.{inputs_are_read, inputs_are_bytes}
+use Rattle.macho_refusal_laws.proofs.Told.{standing_is_told}
+use Rattle.macho_refusal_laws.proofs.Kept.{late_is_standing}
+use Rattle.macho_refusal_laws.proofs.Clear.{clear_is_unrefused}
+use Rattle.macho_symbol_tables.proofs.Exported.{exports_are_told}
+use Rattle.macho_answer.specs.declared.image.ImportName.{ImportName}
+use Rattle.macho_answer.specs.Linked.{import_of, IsImageOf, IsRefused}
+use Rattle.macho_answer.specs.declared.image.LinkedImage.{LinkedImage}
+use Rattle.macho_refusal_laws.specs.ReadLink.{ReadLink}
+use Rattle.macho_refusal_laws.specs.Read.{IsReadOf, AreKnown}
 use Rattle.macho_sizing.specs.declared.asked.SizedLink.{SizedLink}
 use Rattle.macho_linking.specs.declared.fault.Unwritten.{Unwritten}
 use Rattle.macho_linking.specs.declared.fault.Unwritten.TheVariants.{Unfilled, Unmade, OutOfMemory}
@@ -45,8 +44,8 @@ use Rattle.macho_linking.specs.declared.write.Written.{Written}
 use Rattle.macho_linking.specs.steps.Planned.{IsPlanned, AreInputs}
 use Rattle.macho_linking.specs.steps.Unwritten.{UnwrittenStands, refusal_of}
 use Rattle.macho_linking.specs.steps.Imaged.{StandsAlways, IsToSize, HasSizes, IsToAnswer}
-use Rattle.macho_linking.specs.declared.asked.LinkAsked.{LinkAsked}
-use Rattle.macho_linking.specs.Linking.{link_asked, IsGiven}
+use Rattle.macho_linker.specs.declared.asked.LinkAsked.{LinkAsked}
+use Rattle.macho_linker.specs.Asked.{link_asked, IsGiven}
 use Rattle.macho_linking.proofs.Given.{inputs_given}
 
 -- What holds of every link that is asked for: its objects are objects, made of bytes, and its names can be written.
@@ -113,9 +112,6 @@ pub refused_memory : {X : Type 0} (l : Link) (r : Result X LinkError) → IsFine
 refused_memory l (Ok x) fine is = tt
 refused_memory l (Err e) fine is =
     standing_is_told l e fine.objects fine.bytes fine.name (subst (StandsAlways l) (sym is) (λ counts are. tt))
-
-pub refused_as : (l : Link) (e x : LinkError) → IsFine l → e ≡ x → StandsAlways l x → IsRefused l e
-refused_as l e x fine is stands = standing_is_told l e fine.objects fine.bytes fine.name (subst (StandsAlways l) (sym is) stands)
 
 -- what was sized is planned
 pub planned : (l : Link) (b : Planned) → AreInputs l b → IsReadOf l b.read.now → AreKnown b.views.now b.read.now

@@ -15,12 +15,12 @@ use Rattle.macho_model.specs.Links.{Link}
 use Rattle.macho_fixups.specs.declared.run.Fixup.{Fixup}
 use Rattle.macho_fixups.specs.Chains.{HaveRoom}
 use Rattle.macho_promise.specs.FixupsSay.{fixup_segments}
-use Rattle.macho_parts.specs.Asked.{fixups_asked}
-use Rattle.macho_composed.proofs.Segments.{words_room}
-use Rattle.macho_composed.specs.Filled.{ContentsAreFilled}
+use Rattle.macho_promise.specs.Asked.{fixups_asked}
+use Rattle.macho_promise_laws.proofs.Segments.{words_room}
+use Rattle.macho_promise_laws.specs.Filled.{ContentsAreFilled}
 use Rattle.macho_fields.specs.Faults.{NoneIsBad}
-use Rattle.macho_composed.specs.Chaining.{IsToChain, IsChained}
-use Rattle.macho_composed.specs.Written.{AreContents}
+use Rattle.macho_promise_laws.specs.Chaining.{IsToChain, IsChained}
+use Rattle.macho_promise_laws.specs.Written.{AreContents}
 use Rattle.macho_linking.specs.declared.planned.Planned.{Planned}
 use Rattle.macho_linking.specs.steps.Planned.{IsPlanned, placement_of, counts_of}
 use Rattle.macho_linking.proofs.Ready.{planned_chained}

@@ -2,18 +2,17 @@
 --
 -- What a filter keeps of a list is what it keeps of the rest where the first element fails, and begins with the first element where
 -- that passes. The segments of a link have different names, so the first one of a name is any one of it.
-use Rattle.std.proofs.Common.{◌≡◌, ℕ, ◌+◌, ◌<◌, ◌≤◌, cond, Bool, true, false, List, [], ◌∷◌, filter, length, get_or, drop, refl, sym}
-use Rattle.std.proofs.Common.{ap, subst, ◌∙◌}
+use Rattle.std.proofs.Common.{◌≡◌, ℕ, ◌+◌, ◌<◌, ◌≤◌, cond, Bool, true, false, List, [], ◌∷◌, filter, length, get_or, drop, refl, sym, ap, subst, ◌∙◌}
 use Rattle.std.specs.Prelude.{Contains}
 use Rattle.std.proofs.lemmas.List.{drop_more}
 use Rattle.std.proofs.Math.ListN.{drop_of_length-le}
-use Rattle.macho_lists.proofs.Members.{contains_filter, filter_contains, contains_first, nil_contains}
+use Rattle.macho_bytes.proofs.Members.{contains_filter, filter_contains, contains_first, nil_contains}
 use Rattle.macho_model.specs.declared.placed.PlacedSegment.{PlacedSegment}
 use Rattle.macho_model.specs.Links.{Link}
 use Rattle.macho_model.specs.Segments.{TEXT}
 use Rattle.macho_model.specs.Placement.{is_segment_named, Follows}
 use Rattle.macho_model.specs.Lists.{EachNext, of_first}
-use Rattle.macho_agreement.proofs.Entry.{one_named}
+use Rattle.macho_model.proofs.Sections.{one_named}
 
 unfoldable pub first_size : List PlacedSegment → ℕ
 first_size segments = of_first 0 (λ s. s.file_size) (filter (is_segment_named TEXT) segments)

@@ -14,14 +14,14 @@ use Rattle.macho_symbols.specs.declared.solved.OwnEntry.{OwnEntry}
 use Rattle.macho_linkedit.specs.Imports.{texts, FitTable, AreOfLink, IsImportTable, AreTellable}
 use Rattle.macho_symbols.specs.Entries.{entry_of}
 use Rattle.macho_linkedit.specs.Runs.{IsRunOf}
-use Rattle.macho_composed.specs.Writing.{FitsRange, TableIsPut, text_of_range}
-use Rattle.macho_composed.specs.FoundEntries.{AreOfSoundLink}
-use Rattle.macho_composed.proofs.FoundEntries.{entries_fit, entries_of_link}
-use Rattle.macho_composed.proofs.Heads.{tables_follow}
-use Rattle.macho_composed.proofs.Plain.{imports_tellable}
-use Rattle.macho_composed.proofs.TableRooms.{tables_room}
-use Rattle.macho_composed.proofs.FoundTables.{runs_fit}
-use Rattle.macho_answers.proofs.Refusals.{personalities_are_fit}
+use Rattle.macho_promise_laws.specs.Writing.{FitsRange, TableIsPut, text_of_range}
+use Rattle.macho_promise_laws.specs.FoundEntries.{AreOfSoundLink}
+use Rattle.macho_promise_laws.proofs.FoundEntries.{entries_fit, entries_of_link}
+use Rattle.macho_promise_laws.proofs.Heads.{tables_follow}
+use Rattle.macho_promise_laws.proofs.Plain.{imports_tellable}
+use Rattle.macho_promise_laws.proofs.TableRooms.{tables_room}
+use Rattle.macho_promise_laws.proofs.FoundTables.{runs_fit}
+use Rattle.macho_refusal_laws.proofs.Refusals.{personalities_are_fit}
 use Rattle.macho_linking.specs.declared.planned.Planned.{Planned}
 use Rattle.macho_linking.specs.steps.Planned.{IsPlanned, placement_of, counts_of}
 use Rattle.macho_linking.specs.steps.Written.{FixupsArePut}

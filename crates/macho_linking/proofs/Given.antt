@@ -1,6 +1,5 @@
 -- What is given to a link, as the passes ask for it; and answers of a link by those of its passes.
-use Rattle.std.proofs.Common.{◌≡◌, ℕ, ◌<◌, ◌^◌, ◌==◌, not, true, List, [], ◌∷◌, map, length, refl, ap, arith}
-use Rattle.std.proofs.Common.{All}
+use Rattle.std.proofs.Common.{◌≡◌, ℕ, ◌<◌, ◌^◌, ◌==◌, not, true, List, [], ◌∷◌, map, length, refl, ap, arith, All}
 use Rattle.std.specs.Prelude.{Option, Some, None, Result, Ok, Err, OnOk, IfErr}
 use Rattle.std.proofs.lemmas.Bool.{ne_eqb}
 use Rattle.std.proofs.lemmas.List.{length-map}
@@ -10,20 +9,20 @@ use Rattle.macho_model.specs.declared.targets.Limit.TheVariants as limit
 use Rattle.macho_model.specs.Links.{Link}
 use Rattle.macho_model.specs.Needs.{libraries_needed}
 use Rattle.macho_object.specs.Views.{FileBytes}
-use Rattle.macho_exports.specs.Entries.{ListEntries}
+use Rattle.macho_export_lists.specs.Entries.{ListEntries}
 use Rattle.macho_symbols.specs.Kept.{ResolvedRows, IsResolved}
 use Rattle.macho_symbols.specs.Exported.{AreLists}
-use Rattle.macho_parts.specs.Views.{object_view, views_of}
-use Rattle.macho_answers.specs.Surveys.{AreOfInputs}
+use Rattle.macho_promise.specs.Views.{object_view, views_of}
+use Rattle.macho_refusal_laws.specs.Surveys.{AreOfInputs}
 use Rattle.macho_promise.specs.Inputs.{IsInput}
 use Rattle.macho_promise.specs.Sizes.{AreCounts}
-use Rattle.macho_faults.specs.declared.fault.LinkError.{LinkError}
-use Rattle.macho_faults.specs.declared.fault.LinkError.TheVariants as error
-use Rattle.macho_faults.specs.Standing.{Stands}
-use Rattle.macho_answers.specs.Read.{IsLinkOf, entry_of}
-use Rattle.macho_inputs.specs.Owned.{input_of}
-use Rattle.macho_linking.specs.declared.asked.LinkAsked.{LinkAsked}
-use Rattle.macho_linking.specs.Linking.{link_asked, IsGiven}
+use Rattle.macho_answer.specs.declared.fault.LinkError.{LinkError}
+use Rattle.macho_answer.specs.declared.fault.LinkError.TheVariants as error
+use Rattle.macho_answer.specs.Standing.{Stands}
+use Rattle.macho_refusal_laws.specs.Read.{IsLinkOf, entry_of}
+use Rattle.macho_linker.specs.Owned.{input_of}
+use Rattle.macho_linker.specs.declared.asked.LinkAsked.{LinkAsked}
+use Rattle.macho_linker.specs.Asked.{link_asked, IsGiven}
 use Rattle.macho_linking.specs.steps.Lists.{AreListsOf}
 use Rattle.macho_linking.specs.steps.Imaged.{StandsAlways}
 
@@ -61,11 +60,6 @@ pub stands_counted : {X : Type 0} (l : Link) (r : Result X LinkError) → ((coun
     → IfErr r (StandsAlways l)
 stands_counted l (Ok x) each = tt
 stands_counted l (Err e) each = each
-
--- a link with so many libraries has too many
-pub too_many : (l : Link) (number : ℕ) → number ≡ length (libraries_needed l) → 240 < number
-    → StandsAlways l (error.TooMany limit.Libraries number None)
-too_many l number is more = λ counts are. record { stands = (is, more); kept = tt }
 
 -- inputs that are what their kinds say
 pub inputs_given : (a : LinkAsked) → IsGiven a → All IsInput (link_asked a).inputs

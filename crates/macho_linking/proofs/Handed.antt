@@ -3,19 +3,19 @@ use Rattle.std.proofs.Common.{◌≡◌, ℕ, ◌<◌, ◌^◌, false, List, map
 use Rattle.std.specs.Prelude.{Option, Result, Ok, Err, IfOk}
 use Rattle.macho_model.specs.Links.{Link}
 use Rattle.macho_object.specs.Views.{FileBytes}
-use Rattle.macho_exports.specs.Entries.{ListEntries}
-use Rattle.macho_parts.specs.Views.{ViewsObject}
+use Rattle.macho_export_lists.specs.Entries.{ListEntries}
+use Rattle.macho_promise.specs.Views.{ViewsObject}
 use Rattle.macho_linkedit.specs.declared.exports.NamedExport.{NamedExport}
 use Rattle.macho_linkedit.specs.declared.listing.LinkedObject.{LinkedObject}
 use Rattle.macho_linkedit.specs.Counting.{AreArguments}
 use Rattle.macho_linkedit.specs.Listing.{AreObjects}
 use Rattle.macho_linkedit.specs.Tries.{AreKept}
-use Rattle.macho_tables.specs.Exports.{exports_told, CanBeTrie}
-use Rattle.macho_answers.specs.ReadLink.{ReadLink}
+use Rattle.macho_symbol_tables.specs.Exports.{exports_told, CanBeTrie}
+use Rattle.macho_refusal_laws.specs.ReadLink.{ReadLink}
 use Rattle.macho_sizing.specs.declared.asked.SizesOf.{SizesOf}
 use Rattle.macho_sizing.specs.declared.asked.SizedLink.{SizedLink}
 use Rattle.macho_sizing.specs.Sized.{IsSizedOf}
-use Rattle.macho_composed.specs.Symbols.{HasPersonality}
+use Rattle.macho_promise_laws.specs.Symbols.{HasPersonality}
 use Rattle.macho_sizing.specs.Asked.{AreOf, CanBeSized}
 use Rattle.macho_linking.specs.steps.Imaged.{IsToSize, HasSizes}
 

@@ -16,13 +16,13 @@ use Rattle.macho_model.specs.Signature.{uuid_written}
 use Rattle.macho_promise.specs.Sizes.{counts_with}
 use Rattle.macho_symbols.specs.Kept.{IsResolved}
 use Rattle.macho_fields.specs.Looks.{Look, TellsAddresses}
-use Rattle.macho_sealing.specs.declared.commands.HeadParts.{HeadParts}
-use Rattle.macho_sealing.specs.Heads.{AreHeadParts, head_bytes, HeadIsPut}
-use Rattle.macho_composed.proofs.Heads.{heads_room}
-use Rattle.macho_composed.proofs.Inside.{names_have}
-use Rattle.macho_composed.proofs.FoundPlaces.{places_low}
-use Rattle.macho_composed.proofs.Plain.{libraries_whole}
-use Rattle.macho_composed.proofs.FoundSizes.{ranges_suffice}
+use Rattle.macho_head.specs.declared.commands.HeadParts.{HeadParts}
+use Rattle.macho_head.specs.Heads.{AreHeadParts, head_bytes, HeadIsPut}
+use Rattle.macho_promise_laws.proofs.Heads.{heads_room}
+use Rattle.macho_promise_laws.proofs.Inside.{names_have}
+use Rattle.macho_promise_laws.proofs.FoundPlaces.{places_low}
+use Rattle.macho_promise_laws.proofs.Plain.{libraries_whole}
+use Rattle.macho_promise_laws.proofs.FoundSizes.{ranges_suffice}
 use Rattle.macho_linking.specs.declared.planned.Planned.{Planned}
 use Rattle.macho_linking.specs.steps.Planned.{IsPlanned, IsLooked, placement_of, counts_of}
 use Rattle.macho_linking.specs.steps.Written.{HeadIsWritten}

@@ -1,4 +1,3 @@
-mod LastPart
 mod OwnEntries
 mod Ready
 mod Answering

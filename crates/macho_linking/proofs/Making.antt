@@ -2,8 +2,7 @@
 --
 -- Their ranges end in the file and have the room of the texts. The symbols of all rows are kept, so they are known. Then each text is
 -- put at the front of its range.
-use Rattle.std.proofs.Common.{◌≡◌, ℕ, ◌+◌, ◌-◌, ◌*◌, ◌≤◌, ◌++◌, List, length, drop, refl, ap, ◌∙◌}
-use Rattle.std.proofs.Common.{sym, subst, arith, All, Option, Some, None}
+use Rattle.std.proofs.Common.{◌≡◌, ℕ, ◌+◌, ◌-◌, ◌*◌, ◌≤◌, ◌++◌, List, length, drop, refl, ap, ◌∙◌, sym, subst, arith, All, Option, Some, None}
 use Rattle.std.specs.Prelude.{map, IfSome}
 use borrow.Rule.Slice.PartMut.{put_mid, mid_of}
 use Rattle.macho_bytes.specs.Texts.{put}
@@ -12,13 +11,13 @@ use Rattle.macho_model.specs.Links.{Link}
 use Rattle.macho_model.specs.Addresses.{offset_in_file}
 use Rattle.macho_model.specs.WrittenSum.{INITIALIZER_SIZE}
 use Rattle.macho_symbols.specs.Kept.{ResolvedRows, HasSymbol}
-use Rattle.macho_composed.specs.PersonalityUse.{PersonalityUse}
+use Rattle.macho_promise_laws.specs.PersonalityUse.{PersonalityUse}
 use Rattle.macho_fields.specs.Looks.{Look}
-use Rattle.macho_composed.specs.Entries.{resolved_row, MayBeBuilt, KnowsPersonality}
-use Rattle.macho_composed.specs.Made.{IsOffsetsText, IsUnwindMade}
-use Rattle.macho_composed.specs.Laws.{RangesFit}
-use Rattle.macho_composed.proofs.Fitting.{texts_fit}
-use Rattle.macho_composed.proofs.Sound.{rows_sound}
+use Rattle.macho_promise_laws.specs.Entries.{resolved_row, MayBeBuilt, KnowsPersonality}
+use Rattle.macho_promise_laws.specs.Made.{IsOffsetsText, IsUnwindMade}
+use Rattle.macho_promise_laws.specs.Laws.{RangesFit}
+use Rattle.macho_promise_laws.proofs.Fitting.{texts_fit}
+use Rattle.macho_promise_laws.proofs.Sound.{rows_sound}
 use Rattle.macho_linking.specs.declared.planned.Planned.{Planned}
 use Rattle.macho_linking.specs.steps.Planned.{IsPlanned, IsLooked, KnowsAll, placement_of, counts_of}
 use Rattle.macho_linking.specs.steps.Written.{OffsetsArePut, UnwindIsPut}

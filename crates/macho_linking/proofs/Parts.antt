@@ -11,14 +11,13 @@ use Rattle.macho_model.specs.Addresses.{offset_in_file}
 use Rattle.macho_model.specs.Limits.{LIMIT_32}
 use Rattle.macho_fixups.specs.declared.run.Fixup.{Fixup}
 use Rattle.macho_fields.specs.Faults.{NoneIsBad}
-use Rattle.macho_composed.proofs.Nothing.{nothing_passes}
-use Rattle.macho_composed.specs.Parts.{written}
-use Rattle.macho_composed.specs.Written.{AreContents, Texts, text_parts}
-use Rattle.macho_composed.specs.Meaning.{WrittenIsLinked, HeadMeans}
+use Rattle.macho_promise_laws.proofs.Nothing.{nothing_passes}
+use Rattle.macho_promise_laws.specs.Parts.{written}
+use Rattle.macho_promise_laws.specs.Written.{AreContents, Texts, text_parts}
+use Rattle.macho_promise_laws.specs.Meaning.{WrittenIsLinked, HeadMeans}
 use Rattle.macho_linking.specs.declared.planned.Planned.{Planned}
 use Rattle.macho_linking.specs.steps.Planned.{IsPlanned, placement_of, counts_of}
-use Rattle.macho_linking.specs.steps.Written.{OffsetsArePut, UnwindIsPut, FixupsArePut, TrieIsPut, SymbolsArePut, HeadIsWritten}
-use Rattle.macho_linking.specs.steps.Written.{SignatureIsPut}
+use Rattle.macho_linking.specs.steps.Written.{OffsetsArePut, UnwindIsPut, FixupsArePut, TrieIsPut, SymbolsArePut, HeadIsWritten, SignatureIsPut}
 use Rattle.macho_linking.specs.steps.Imaged.{IsImaged}
 use Rattle.macho_linking.proofs.Ready.{planned_to_make, planned_chained, planned_ready}
 

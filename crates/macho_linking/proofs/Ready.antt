@@ -10,8 +10,7 @@
 -- planned_chained       its words can be written where nothing stands against them
 -- planned_ready         an image of it can be whole
 -- planned_to_fill, planned_sections, planned_stubs, planned_symbols      its sections and stubs can be filled
-use Rattle.std.proofs.Common.{◌≡◌, ℕ, ◌<◌, ◌≤◌, ◌⊎◌, inl, inr, List, length, refl, sym, ap, subst}
-use Rattle.std.proofs.Common.{get_or, Option, Some, None}
+use Rattle.std.proofs.Common.{◌≡◌, ℕ, ◌<◌, ◌≤◌, ◌⊎◌, inl, inr, List, length, refl, sym, ap, subst, get_or, Option, Some, None}
 use Rattle.std.proofs.lemmas.Bool.{cases_lt}
 use Rattle.std.specs.Prelude.{◌^◌}
 use Rattle.macho_model.specs.declared.placed.Counts.{Counts}
@@ -20,31 +19,31 @@ use Rattle.macho_model.specs.Links.{Link}
 use Rattle.macho_model.specs.Needs.{imports_of}
 use Rattle.macho_model.specs.Targets.{target_of}
 use Rattle.macho_model.specs.Fixups.{import_entries_of}
-use Rattle.macho_placing.specs.Laws.{NonePasses}
+use Rattle.macho_layout_laws.specs.Laws.{NonePasses}
 use Rattle.macho_object.specs.Views.{FileBytes}
 use Rattle.macho_promise.specs.Sizes.{counts_with}
 use Rattle.macho_fields.specs.Looks.{Look}
-use Rattle.macho_tables.proofs.Whole.{links_lead}
-use Rattle.macho_answers.proofs.Refusals.{personalities_are_fit}
-use Rattle.macho_composed.specs.Premises.{IsSoundlyPlaced}
-use Rattle.macho_composed.proofs.Found.{things_found, laid_out, link_placed}
-use Rattle.macho_composed.proofs.Segments.{segments_rise, segments_end}
-use Rattle.macho_composed.proofs.Pointers.{pointers_stand}
-use Rattle.macho_composed.proofs.Template.{templates_tight}
-use Rattle.macho_composed.proofs.Inside.{symbols_have, names_have}
-use Rattle.macho_composed.proofs.FoundPlaces.{places_low}
-use Rattle.macho_composed.proofs.Slots.{slots_stand}
-use Rattle.macho_composed.proofs.Stubs.{stubs_stand}
-use Rattle.macho_composed.proofs.Rows.{stubs_follow}
-use Rattle.macho_composed.proofs.Files.{parts_stand}
-use Rattle.macho_composed.specs.Made.{IsToMake}
-use Rattle.macho_composed.specs.Places.{AreOfLink}
-use Rattle.macho_composed.specs.Chaining.{CanBeChained}
+use Rattle.macho_symbol_tables.proofs.Whole.{links_lead}
+use Rattle.macho_refusal_laws.proofs.Refusals.{personalities_are_fit}
+use Rattle.macho_promise_laws.specs.Premises.{IsSoundlyPlaced}
+use Rattle.macho_promise_laws.proofs.Placed.{things_found, laid_out, link_placed}
+use Rattle.macho_promise_laws.proofs.Segments.{segments_rise, segments_end}
+use Rattle.macho_promise_laws.proofs.Pointers.{pointers_stand}
+use Rattle.macho_promise_laws.proofs.Template.{templates_tight}
+use Rattle.macho_promise_laws.proofs.Inside.{symbols_have, names_have}
+use Rattle.macho_promise_laws.proofs.FoundPlaces.{places_low}
+use Rattle.macho_promise_laws.proofs.Slots.{slots_stand}
+use Rattle.macho_promise_laws.proofs.Stubs.{stubs_stand}
+use Rattle.macho_promise_laws.proofs.Rows.{stubs_follow}
+use Rattle.macho_promise_laws.proofs.Files.{parts_stand}
+use Rattle.macho_promise_laws.specs.Made.{IsToMake}
+use Rattle.macho_promise_laws.specs.Places.{AreOfLink}
+use Rattle.macho_promise_laws.specs.Chaining.{CanBeChained}
 use Rattle.macho_fields.specs.Faults.{NoneIsBad}
-use Rattle.macho_composed.specs.Fitting as fitting
-use Rattle.macho_composed.proofs.Fit.{sections_have_room, stubs_have_room, symbols_are_known}
-use Rattle.macho_tables.specs.Placed.{AddressesFit, IsToTable}
-use Rattle.macho_composed.specs.Whole.{IsReady}
+use Rattle.macho_promise_laws.specs.Fitting as fitting
+use Rattle.macho_promise_laws.proofs.Fit.{sections_have_room, stubs_have_room, symbols_are_known}
+use Rattle.macho_symbol_tables.specs.Placed.{AddressesFit, IsToTable}
+use Rattle.macho_promise_laws.specs.Whole.{IsReady}
 use Rattle.macho_linking.specs.declared.planned.Planned.{Planned}
 use Rattle.macho_linking.specs.steps.Planned.{IsPlanned, IsLooked, KnowsAll, placement_of, counts_of}
 

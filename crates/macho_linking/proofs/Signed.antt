@@ -12,19 +12,18 @@ use Rattle.macho_model.specs.Links.{Link}
 use Rattle.macho_model.specs.Faults.{last_part}
 use Rattle.macho_model.specs.Placement.{Placed}
 use Rattle.macho_model.specs.Signature.{Signed, signature_text}
-use Rattle.macho_signature.specs.Sizes.{directory_for}
+use Rattle.macho_signature.specs.Sizes.{directory_for, signature_size, signed_by}
 use Rattle.macho_signature.specs.declared.signature.Signer.{Signer}
-use Rattle.macho_signature.specs.Sizes.{signature_size, signed_by}
 use Rattle.macho_signature.proofs.Texts.{length-signature}
 use Rattle.macho_signature.proofs.Files.{AgreeBelow, signature-alike}
-use Rattle.macho_sealing.specs.Signing.{IsSignerOf}
-use Rattle.macho_composed.proofs.FoundSizes.{signatures_fill}
+use Rattle.macho_head.specs.Signing.{IsSignerOf}
+use Rattle.macho_promise_laws.proofs.FoundSizes.{signatures_fill}
 use Rattle.macho_linking.specs.declared.planned.Planned.{Planned}
 use Rattle.macho_linking.specs.steps.Planned.{IsPlanned, placement_of, counts_of}
 use Rattle.macho_linking.specs.steps.Written.{SignatureIsPut}
 use Rattle.macho_linking.specs.steps.Sealing.{IsTextSize}
 use Rattle.macho_linking.proofs.FirstText.{first_size, size_of_text}
-use Rattle.macho_structs.specs.Spellings.{code_directory_rows}
+use Rattle.macho_wire.specs.Spellings.{code_directory_rows}
 
 -- what a signer says of a planned link
 pub record Says (b : Planned) (signer : Signer) : Type 0 where

@@ -2,10 +2,10 @@
 use Rattle.std.proofs.Common.{◌≡◌, ℕ, ◌+◌, ◌-◌, ◌*◌, ◌^◌, ◌<◌, ◌≤◌, List, ◌++◌, length, take, drop, refl, sym, ap, ◌∙◌, arith, All}
 use borrow.Rule.Slice.PartMut.{put_mid}
 use Rattle.std.specs.List.{flat_map}
-use Rattle.std.proofs.lemmas.List.{append-nil, drop_all, length-append, length-drop, length-map, length-take}
+use Rattle.std.proofs.lemmas.List.{length-append, length-drop, length-map, length-take}
 use Rattle.macho_bytes.specs.Layouts.{size_of}
 use Rattle.macho_bytes.specs.Texts.{put}
-use Rattle.macho_bytes.proofs.Puts.{put-put}
+use Rattle.macho_bytes.proofs.Puts.{put-put, put_all}
 use Rattle.macho_bytes.proofs.Writes.{put_mid-whole}
 use Rattle.macho_records.specs.Layouts.{symtab_entry}
 use Rattle.macho_model.specs.Links.{Link}
@@ -19,12 +19,12 @@ use Rattle.std.specs.Option.{option_copied}
 use Rattle.macho_fields.specs.Looks.{Look}
 use Rattle.macho_linkedit.specs.Symbols.{SymbolTable, HasRows, table_text, IsTableWritten}
 use Rattle.macho_linkedit.proofs.CanList.{symbol_is_kept}
-use Rattle.macho_lists.proofs.Members.{contains_all}
-use Rattle.macho_tables.specs.Rows.{AreToList}
-use Rattle.macho_tables.proofs.Short.{sections_are_few, strings_are_short}
-use Rattle.macho_composed.specs.FoundSizes.{FillsTables}
-use Rattle.macho_composed.proofs.Heads.{tables_follow}
-use Rattle.macho_composed.proofs.FoundSizes.{ranges_suffice, symbols_fill}
+use Rattle.macho_bytes.proofs.Members.{contains_all}
+use Rattle.macho_symbol_tables.specs.Rows.{AreToList}
+use Rattle.macho_symbol_tables.proofs.Short.{sections_are_few, strings_are_short}
+use Rattle.macho_promise_laws.specs.FoundSizes.{FillsTables}
+use Rattle.macho_promise_laws.proofs.Heads.{tables_follow}
+use Rattle.macho_promise_laws.proofs.FoundSizes.{ranges_suffice, symbols_fill}
 use Rattle.macho_commands.proofs.Texts.{length-flat_map_same}
 use Rattle.macho_linking.specs.declared.planned.Planned.{Planned}
 use Rattle.macho_linking.specs.steps.Planned.{IsPlanned, IsLooked, KnowsAll, placement_of, counts_of}
@@ -87,12 +87,6 @@ has_room l b h =
       listed = omega (arith, kept.symbols, kept.behind, kept.strings, many, h.sized.listed.strings_are);
     }
 
--- a text over all of a part
-put_whole : (text bytes : List ℕ) → length text ≡ length bytes → put 0 text bytes ≡ text
-unfolding put
-put_whole text bytes same =
-    ap (λ (rest : List ℕ). text ++ rest) (drop_all (0 + length text) bytes (omega (arith, same))) ∙ append-nil text
-
 pub part_long : (at n : ℕ) (out : List ℕ) → at + n ≤ length out → length (take n (drop at out)) ≡ n
 part_long at n out fits = omega (arith, length-take n (drop at out), length-drop at out)
 
@@ -113,7 +107,7 @@ symbols_put l b old part new h long written is =
     (spelling symtab_entry_rows) (size_of symtab_entry) t.entries (λ i d lt. (written.back i d lt).long) in
     let size : length (entries ++ strings) ≡ both b = omega (arith, length-append entries strings, many, full.behind, full.strings) in
     let room : at + both b ≤ length old = omega (arith, ranges.rises, ranges.inside, long) in
-    let all : part ≡ entries ++ strings = written.is ∙ put_whole (entries ++ strings) (take (both b) (drop at old))
+    let all : part ≡ entries ++ strings = written.is ∙ put_all (entries ++ strings) (take (both b) (drop at old))
     (size ∙ sym (part_long at (both b) old room)) in
     let one : new ≡ put at (entries ++ strings) old = is
     ∙ put_mid-whole at (both b) old (entries ++ strings) part (sym size) (omega (arith, size, room)) all in

@@ -15,11 +15,11 @@ use Rattle.macho_linkedit.specs.Tries.{kept, said, AreKept, AreSaid, IsReserved,
 use Rattle.macho_promise.specs.TrieSays.{IsTrieText}
 use Rattle.macho_trie.specs.Tries.{FindsAll, FindsOnly}
 use Rattle.macho_model.specs.Placement.{Placed}
-use Rattle.macho_tables.specs.Exports.{AreExportsOf, exports_told}
-use Rattle.macho_tables.proofs.Kept.{kept_are_one}
-use Rattle.macho_composed.proofs.Heads.{tables_follow}
-use Rattle.macho_composed.proofs.FoundSizes.{ranges_suffice}
-use Rattle.macho_composed.specs.Meaning.{TrieMeans}
+use Rattle.macho_symbol_tables.specs.Exports.{AreExportsOf, exports_told}
+use Rattle.macho_symbol_tables.proofs.Kept.{kept_are_one}
+use Rattle.macho_promise_laws.proofs.Heads.{tables_follow}
+use Rattle.macho_promise_laws.proofs.FoundSizes.{ranges_suffice}
+use Rattle.macho_promise_laws.specs.Meaning.{TrieMeans}
 use Rattle.macho_linking.specs.declared.planned.Planned.{Planned}
 use Rattle.macho_linking.specs.steps.Planned.{IsPlanned, placement_of, counts_of}
 use Rattle.macho_linking.specs.steps.Written.{TrieIsPut}

@@ -1,5 +1,4 @@
 -- The steps of the link: a link that is planned, what each pass writes, and why an image isn't written.
-pub mod Paths
 pub mod Lists
 pub mod Planned
 pub mod Unwritten

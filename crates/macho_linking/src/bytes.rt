@@ -1,9 +1,9 @@
 //! That the bytes of inputs are numbers below 256: functions that read nothing, for their contracts alone.
 ghost use Rattle.std.specs.Prelude.{◌<◌, All, map};
-ghost use Rattle.macho_inputs.specs.Owned.{input_of};
-ghost use Rattle.macho_answers.specs.Inputs.{HasBytes};
+ghost use Rattle.macho_linker.specs.Owned.{input_of};
+ghost use Rattle.macho_refusal_laws.specs.Inputs.{HasBytes};
 
-use macho_inputs::OwnedInput;
+use macho_linker::OwnedInput;
 
 /// States that bytes are numbers below 256, as their type says.
 fn are_bytes(bytes: &[u8])

@@ -3,18 +3,18 @@ ghost use Rattle.std.specs.Prelude.{◌≡◌, length, IfOk, OnOk, IfErr};
 ghost use Rattle.macho_bytes.specs.Images.{zeros};
 ghost use Rattle.macho_model.specs.Links.{Link};
 ghost use Rattle.macho_fields.specs.Faults.{NoneIsBad};
-ghost use Rattle.macho_composed.specs.Written.{AreContents};
+ghost use Rattle.macho_promise_laws.specs.Written.{AreContents};
 ghost use Rattle.macho_linking.specs.steps.Planned.{IsLooked, KnowsAll, placement_of};
 ghost use Rattle.macho_linking.specs.steps.Unwritten.{UnwrittenStands};
 ghost use Rattle.macho_linking.specs.steps.Written.{OffsetsArePut, UnwindIsPut};
 
 use crate::fault::Unwritten;
 use crate::planned::Planned;
-use macho_composed::{
-    INIT_OFFSET_SIZE, file_offset, fill_contents, unwind_section, write_initializers, write_words,
-};
 use macho_fields::Places;
 use macho_fixups::Fixup;
+use macho_promise_laws::{
+    INIT_OFFSET_SIZE, file_offset, fill_contents, unwind_section, write_initializers, write_words,
+};
 use std::alloc::Global;
 
 /// Fills sections and stubs, and writes the words of the loader over them. The words are answered, by their addresses.

@@ -3,10 +3,10 @@ ghost use Rattle.std.specs.Prelude.{◌≡◌};
 ghost use Rattle.macho_linking.specs.declared.fault.Unwritten.TheVariants.{Unfilled, Unmade, OutOfMemory};
 ghost use Rattle.macho_linking.specs.steps.Unwritten.{refusal_of};
 
-use macho_composed::MadeFault;
-use macho_faults::LinkError;
+use macho_answer::LinkError;
 use macho_fields::FillFault;
 use macho_layout::Placement;
+use macho_promise_laws::MadeFault;
 use std::alloc::{AllocError, AllocFailed};
 
 /// Why an image isn't written.

@@ -7,20 +7,15 @@
 //!     tables, seal    fixups and imports, the exports trie, symbols; header and load commands; the signature
 #![tactic(auto)]
 
-mod asked;
 mod bytes;
 mod contents;
 mod fault;
 mod lists;
 mod passes;
-mod paths;
 mod planned;
 mod refused;
 mod sealing;
 mod tables;
 mod write;
 
-pub use asked::LinkAsked;
-pub use macho_inputs::{OwnedInput, StubText};
 pub use passes::link;
-pub use paths::last_part;

@@ -3,7 +3,7 @@ ghost use Rattle.std.specs.Prelude.{map, IfOk};
 ghost use Rattle.std.specs.Option.{option_copied};
 ghost use Rattle.macho_linking.specs.steps.Lists.{AreListsOf};
 
-use macho_exports::ExportList;
+use macho_export_lists::ExportList;
 use std::alloc::{AllocError, Global};
 
 /// The entries of all lists, in order; None where there are no lists.

@@ -2,34 +2,35 @@
 ghost use Rattle.std.specs.Prelude.{◌≡◌, ℕ, ◌+◌, ◌<◌, ◌^◌, false, List, map, length, All, IfOk, OnOk, IfErr};
 ghost use Rattle.std.specs.Option.{option_copied};
 ghost use Rattle.macho_model.specs.Links.{Link};
-ghost use Rattle.macho_parts.specs.Views.{views_of, ViewsObject};
+ghost use Rattle.macho_promise.specs.Views.{views_of, ViewsObject};
 ghost use Rattle.macho_symbols.specs.Exported.{AreLists};
 ghost use Rattle.macho_linkedit.specs.Counting.{AreArguments};
 ghost use Rattle.macho_linkedit.specs.Listing.{AreObjects};
-ghost use Rattle.macho_faults.specs.declared.fault.LinkError.TheVariants.{OutOfMemory};
-ghost use Rattle.macho_answers.specs.Inputs.{HasBytes};
-ghost use Rattle.macho_answers.specs.Read.{IsReadOf, AreKnown, entry_of};
-ghost use Rattle.macho_linked.specs.Linked.{IsImageOf, IsRefused};
-ghost use Rattle.macho_linking.specs.Linking.{link_asked, IsGiven};
+ghost use Rattle.macho_answer.specs.declared.fault.LinkError.TheVariants.{OutOfMemory};
+ghost use Rattle.macho_refusal_laws.specs.Inputs.{HasBytes};
+ghost use Rattle.macho_refusal_laws.specs.Read.{IsReadOf, AreKnown, entry_of};
+ghost use Rattle.macho_answer.specs.Linked.{IsImageOf, IsRefused, RefusalStands};
+ghost use Rattle.macho_model.specs.declared.placed.Counts.{Counts};
+ghost use Rattle.macho_model.specs.Valid.{IsValid};
+ghost use Rattle.macho_promise.specs.Sizes.{AreCounts};
+ghost use Rattle.macho_linker.specs.Asked.{link_asked, IsGiven};
 ghost use Rattle.macho_linking.specs.steps.Imaged.{IsSingle, StandsAlways, IsToSize, HasSizes, IsMade, IsToAnswer};
 
-use crate::asked::LinkAsked;
 use crate::bytes::hold_bytes;
 use crate::fault::refusal;
 use crate::lists::read_lists;
-use crate::paths::last_part;
 use crate::planned::Planned;
 use crate::write::{Written, write_image};
-use macho_answers::{ReadLink, read_link};
-use macho_exports::ExportList;
-use macho_faults::LinkError;
+use macho_answer::{LinkError, LinkedImage};
+use macho_export_lists::ExportList;
 use macho_inputs::{list_objects, needed_libraries, resolve_inputs, view_inputs};
-use macho_linked::LinkedImage;
 use macho_linkedit::{LinkedObject, SizeArguments};
+use macho_linker::{LinkAsked, Linker, last_part};
 use macho_model::Limit;
 use macho_object::File;
+use macho_refusal_laws::{ReadLink, read_link};
 use macho_sizing::{SizedLink, SizesOf, size_link};
-use macho_tables::{kept_exports, told_imports};
+use macho_symbol_tables::{kept_exports, told_imports};
 use std::alloc::Global;
 
 /// The name at which an executable begins, None for a dynamic library.
@@ -252,15 +253,12 @@ fn link_viewed(alloc: Global, viewed: &Viewed<'_>, uuid: [u8; 16]) -> Result<Lin
     link_read(alloc, viewed, read, libraries, uuid)
 }
 
-/// Links what is asked for, and answers its image, with `uuid` as its identifier.
-///
-/// # Errors
-///
-/// `DuplicateSymbol` where two objects define a name strongly; then a refusal of what the objects ask for (`UndefinedSymbol` to
-/// `FixupPlace` without a placement); then one of numbers and sizes (`TooMany`, `ImageTooLarge`); last, with the placement, one
-/// of a value that can't be written (`FixupPlace`, `RebaseTarget`, `RelocationRange`, `ImageTooLarge`). `OutOfMemory` may come at
-/// any time, and is the only refusal of a valid link.
-pub fn link(alloc: Global, asked: &LinkAsked<'_>, uuid: [u8; 16]) -> Result<LinkedImage, LinkError>
+/// Links what is held, pass by pass.
+fn link_given(
+    alloc: Global,
+    asked: &LinkAsked<'_>,
+    uuid: [u8; 16],
+) -> Result<LinkedImage, LinkError>
     requires { IsGiven asked.now }
     ensures done { IfOk result (IsImageOf (link_asked asked.now) uuid) }
     ensures why { IfErr result (IsRefused (link_asked asked.now)) }
@@ -277,4 +275,38 @@ pub fn link(alloc: Global, asked: &LinkAsked<'_>, uuid: [u8; 16]) -> Result<Link
         list,
     };
     link_viewed(alloc, &viewed, uuid)
+}
+
+/// The refusal of a link. No link is refused for its paths or its inputs, which were looked at when they were taken: `BadName` and
+/// `BadInput`, which don't come, would be told as `OutOfMemory`.
+fn refusal_of(error: LinkError) -> LinkError
+    ensures { (l : Link) → IsRefused l error → RefusalStands l result }
+{
+    match error {
+        LinkError::BadName => LinkError::OutOfMemory,
+        LinkError::BadInput { .. } => LinkError::OutOfMemory,
+        error => error,
+    }
+}
+
+/// Links what a linker holds, and answers its image, with `uuid` as its identifier.
+///
+/// # Errors
+///
+/// `DuplicateSymbol` where two objects define a name strongly; then a refusal of what the objects ask for (`UndefinedSymbol` to
+/// `FixupPlace` without a placement); then one of numbers and sizes (`TooMany`, `ImageTooLarge`); last, with the placement, one
+/// of a value that can't be written (`FixupPlace`, `RebaseTarget`, `RelocationRange`, `ImageTooLarge`). `OutOfMemory` may come at
+/// any time, and is the only refusal of a valid link.
+pub fn link(alloc: Global, linker: &Linker, uuid: [u8; 16]) -> Result<LinkedImage, LinkError>
+    // The image is as promised, and nothing stands that it is refused for.
+    ensures done { IfOk result (IsImageOf linker.now uuid) }
+    // A refusal stands.
+    ensures why { IfErr result (RefusalStands linker.now) }
+    // A valid link is refused for want of memory alone.
+    ensures complete { (counts : Counts) → AreCounts linker.now counts → IsValid linker.now counts → IfErr result (λ e. e ≡ OutOfMemory) }
+{
+    match link_given(alloc, &linker.asked(), uuid) {
+        Ok(image) => Ok(image),
+        Err(error) => Err(refusal_of(error)),
+    }
 }

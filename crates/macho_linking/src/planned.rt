@@ -1,9 +1,9 @@
 //! A link with its sizes and its placement: what its image is written from.
-use crate::asked::LinkAsked;
-use macho_answers::ReadLink;
-use macho_exports::ExportList;
+use macho_export_lists::ExportList;
 use macho_linkedit::LinkedObject;
+use macho_linker::LinkAsked;
 use macho_object::File;
+use macho_refusal_laws::ReadLink;
 use macho_sizing::SizedLink;
 
 /// A link that is read, sized and placed.

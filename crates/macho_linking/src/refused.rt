@@ -4,7 +4,7 @@ ghost use Rattle.std.specs.Prelude.{◌≡◌, length, IfOk, OnOk, IfErr};
 ghost use Rattle.macho_model.specs.Links.{Link};
 ghost use Rattle.macho_bytes.specs.Images.{zeros};
 ghost use Rattle.macho_fields.specs.Faults.{NoneIsBad};
-ghost use Rattle.macho_composed.specs.Written.{AreContents};
+ghost use Rattle.macho_promise_laws.specs.Written.{AreContents};
 ghost use Rattle.macho_linking.specs.steps.Planned.{IsLooked, KnowsAll, placement_of};
 ghost use Rattle.macho_linking.specs.steps.Unwritten.{UnwrittenStands};
 

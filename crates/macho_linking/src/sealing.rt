@@ -10,13 +10,13 @@ ghost use Rattle.macho_linking.specs.steps.Planned.{IsPlanned, IsLooked, placeme
 ghost use Rattle.macho_linking.specs.steps.Written.{HeadIsWritten, SignatureIsPut};
 ghost use Rattle.macho_linking.specs.steps.Sealing.{IsTextSize, entry_said};
 
-use crate::paths::last_part;
 use crate::planned::Planned;
 use macho_fields::{Places, address_of};
+use macho_head::{HeadParts, write_image_head};
 use macho_layout::PlacedSegment;
+use macho_linker::last_part;
 use macho_model::Target;
 use macho_records::name_bytes;
-use macho_sealing::{HeadParts, write_image_head};
 use macho_signature::{Signer, sign_file, stamped_uuid};
 use std::alloc::{AllocError, Global};
 

@@ -3,8 +3,7 @@
 -- Each word on the chain fits in the page of a segment, so the segment has a word there; and one segment alone has a word at an
 -- address, by its number too. So a look-up asks that segment, and the page that the address is in. A walk from the page's
 -- start that stands below the address leads there exactly where its next word does.
-use Rattle.std.proofs.Common.{◌≡◌, ℕ, ◌+◌, ◌*◌, ◌-◌, ◌/◌, ◌<◌, ◌≤◌, true, List, length, get_or, slice_index, refl, ap, subst, arith, inl}
-use Rattle.std.proofs.Common.{inr}
+use Rattle.std.proofs.Common.{◌≡◌, ℕ, ◌+◌, ◌*◌, ◌-◌, ◌/◌, ◌<◌, ◌≤◌, true, List, length, get_or, slice_index, refl, ap, subst, arith, inl, inr}
 use Rattle.std.proofs.lemmas.Bool.{cases_lt}
 use Rattle.std.proofs.lemmas.List.{get_or_default}
 use Rattle.macho_bytes.specs.Numbers.{le_at}
@@ -13,16 +12,15 @@ use Rattle.macho_model.specs.Segments.{SEGMENT_PAGE}
 use Rattle.macho_model.specs.Chain.{chain_segments, next_of, STRIDE, OnChainOf, OnPageChain}
 use Rattle.macho_model.specs.Needs.{POINTER_SIZE}
 use Rattle.macho_model.specs.Loader.{IsAccepted, WordFits, is_bind, ordinal_of}
-use Rattle.macho_memory_walks.specs.declared.walk.Listed.TheVariants as list
-use Rattle.macho_memory_walks.specs.Readings.{IsNth, HasWord, listed, segment_there, table_there, starts_of}
-use Rattle.macho_memory_walks.specs.steps.Walks.{Leads, chain_segment_at}
-use Rattle.macho_model_walks.specs.steps.WordTests.{address_in, FitFrom}
+use Rattle.macho_image_walks.specs.declared.walk.Listed.TheVariants as list
+use Rattle.macho_image_walks.specs.Readings.{IsNth, HasWord, listed, segment_there, table_there, starts_of}
+use Rattle.macho_image_walks.specs.steps.Walks.{Leads, chain_segment_at}
+use Rattle.macho_image_walks.specs.steps.WordTests.{address_in, FitFrom}
 use Rattle.macho_model.proofs.Apart.{EndsBefore, all_rise}
-use Rattle.macho_memory_walks.proofs.ChainSets.{page_has_start}
-use Rattle.macho_memory_walks.proofs.NumberedWalk.{numbered_segment, nth_number, nth_one, segment_has_word}
-use Rattle.macho_memory_walks.proofs.WordWalk.{on_some_page, starts_missing}
-use Rattle.macho_memory_walks.proofs.WordWalk.{leads_no_lower, page_chain_found, page_chain_only}
-use Rattle.macho_model_walks.proofs.RuleWalk.{import_count_found}
+use Rattle.macho_image_walks.proofs.ChainSets.{page_has_start}
+use Rattle.macho_image_walks.proofs.NumberedWalk.{numbered_segment, nth_number, nth_one, segment_has_word}
+use Rattle.macho_image_walks.proofs.WordWalk.{on_some_page, starts_missing, leads_no_lower, page_chain_found, page_chain_only}
+use Rattle.macho_image_walks.proofs.RuleWalk.{import_count_found}
 use Rattle.macho_loader.specs.steps.Words.{StandApart, IsFittingWord, IsReached}
 use Rattle.macho_loader.specs.steps.Held.{IsOnWay}
 use Rattle.macho_loader.proofs.ChainWalks.{holds_address, leads_next, reached_more}
@@ -154,11 +152,6 @@ way_ends b number place page from to offset word stride apart nth way fitting is
       | inl here ↦ omega (arith, here, below)
       | inr on ↦ let goes = on.0 in omega (arith, goes, is, none)
     ]
-
-pub way_breaks : (b : List ℕ) (number place page from to offset : ℕ) → FitFrom b number place page from
-    → IsOnWay b place page from to offset
-    → (WordFits b (segment_there b place) page (address_in b place offset) → ⊥) → ⊥
-way_breaks b number place page from to offset fit way unfit = unfit (fit (address_in b place offset) way.reached.leads)
 
 pub way_passes : (b : List ℕ) (place page from to offset : ℕ) → IsOnWay b place page from to offset → to < offset
     → Leads b (address_in b place from) (address_in b place to) → ⊥

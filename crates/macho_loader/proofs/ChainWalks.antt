@@ -4,9 +4,8 @@
 -- has a word at an address, and a word that fits has one next word. What it leads to is itself and what that next one leads
 -- to: the walk keeps that all fit where the rest fits. A step leads upwards, and a word that fits is in its page, so the
 -- walk ends.
-use Rattle.std.proofs.Common.{◌≡◌, ℕ, ◌+◌, ◌*◌, ◌-◌, ◌<◌, ◌≤◌, ◌^◌, nat_le, true, ◌&&◌, List, length, slice_index}
-use Rattle.std.proofs.Common.{refl, sym, ap, subst, ◌∙◌, arith, inl, inr, ◌⊎◌}
-use Rattle.std.proofs.lemmas.Bool.{leb-true, le-leb}
+use Rattle.std.proofs.Common.{◌≡◌, ℕ, ◌+◌, ◌*◌, ◌-◌, ◌<◌, ◌≤◌, ◌^◌, nat_le, true, ◌&&◌, List, length, slice_index, refl, sym, ap, subst, ◌∙◌, arith, inl, inr, ◌⊎◌}
+use Rattle.std.proofs.lemmas.Bool.{leb-true}
 use Rattle.macho_bytes.specs.Numbers.{le_at}
 use Rattle.macho_records.specs.declared.header.SegmentCommand.{SegmentCommand}
 use Rattle.macho_model.specs.Images.{segments_of, tables_of, fixups_header, page_start}
@@ -14,21 +13,21 @@ use Rattle.macho_model.specs.Segments.{SEGMENT_PAGE}
 use Rattle.macho_model.specs.Chain.{chain_segments, IsFileWord, next_of, STRIDE}
 use Rattle.macho_model.specs.Needs.{POINTER_SIZE}
 use Rattle.macho_model.specs.Loader.{WordFits, is_bind, ordinal_of}
-use Rattle.macho_memory_walks.specs.declared.walk.Listed.TheVariants as list
-use Rattle.macho_memory_walks.specs.Readings.{IsNth, HasWord, segment_there, table_there, starts_in, starts_of}
-use Rattle.macho_model_walks.specs.Tests.{page_holds}
-use Rattle.macho_memory_walks.specs.steps.Walks.{Leads}
-use Rattle.macho_memory_walks.specs.steps.Walks as walks
-use Rattle.macho_model_walks.specs.steps.WordTests.{address_in, FitFrom, UnfitFrom}
+use Rattle.macho_image_walks.specs.declared.walk.Listed.TheVariants as list
+use Rattle.macho_image_walks.specs.Readings.{IsNth, HasWord, segment_there, table_there, starts_in, starts_of}
+use Rattle.macho_image_walks.specs.Tests.{page_holds}
+use Rattle.macho_image_walks.specs.steps.Walks.{Leads}
+use Rattle.macho_image_walks.specs.steps.Walks as walks
+use Rattle.macho_image_walks.specs.steps.WordTests.{address_in, FitFrom, UnfitFrom}
 use Rattle.macho_model.proofs.Apart.{Holds_address, all_rise, one_holds}
-use Rattle.macho_model.proofs.EachBelow.{and_left, and_right}
-use Rattle.macho_memory_walks.proofs.NumberedWalk.{word_in_segment, segment_has_word, nth_number}
-use Rattle.macho_memory_walks.proofs.WordWalk.{leads_more, starts_found, start_is}
-use Rattle.macho_model_walks.proofs.RuleWalk.{import_count_found}
-use Rattle.macho_model_walks.proofs.UnfitWords.{kept_at}
+use Rattle.macho_image_walks.proofs.NumberedWalk.{word_in_segment, segment_has_word, nth_number}
+use Rattle.macho_image_walks.proofs.WordWalk.{leads_more, starts_found, start_is}
+use Rattle.macho_image_walks.proofs.RuleWalk.{import_count_found}
+use Rattle.macho_image_walks.proofs.UnfitWords.{kept_at}
 use Rattle.macho_loader.specs.steps.Words.{StandApart, IsFittingWord, IsReached}
 use Rattle.macho_model.specs.steps.Loader.{import_count}
 use Rattle.macho_model.specs.SegmentRules.{is_writable}
+use Rattle.macho_bytes.proofs.Bools.{and_left, and_right}
 
 -- a segment that has a word there holds its address in memory
 pub holds_address : (b : List ℕ) (number place a word : ℕ) → StandApart b → IsNth list.Segments b number place
@@ -58,27 +57,6 @@ file_word_is b number place a word v apart nth has stands =
     let same = one_segment b there.number there.place number place a v word apart there.nth nth there.has has in
     there.has.is ∙ ap (λ (s : SegmentCommand). le_at POINTER_SIZE b (s.fileoff + (a - s.vmaddr))) same ∙ sym has.is
 
--- a word that a page holds is one of the segment's
-pub page_word : (b : List ℕ) (place page a : ℕ) → page_holds (segment_there b place) page a ≡ true
-    → HasWord b (segment_there b place) a (le_at POINTER_SIZE b ((segment_there b place).fileoff + (a - (segment_there b place).vmaddr)))
-page_word b place page a holds =
-    let s = segment_there b place in
-    let from = leb-true (s.vmaddr + SEGMENT_PAGE * page) a
-    (and_right (is_writable s) (nat_le (s.vmaddr + SEGMENT_PAGE * page) a)
-    (and_left (is_writable s && nat_le (s.vmaddr + SEGMENT_PAGE * page) a) (nat_le (a + POINTER_SIZE)
-    (s.vmaddr + SEGMENT_PAGE * (page + 1)))
-    (and_left (is_writable s && nat_le (s.vmaddr + SEGMENT_PAGE * page) a && nat_le (a + POINTER_SIZE)
-    (s.vmaddr + SEGMENT_PAGE * (page + 1)))
-    (nat_le (a + POINTER_SIZE) (s.vmaddr + s.filesize)) holds))) in
-    record {
-      from = omega (arith, from);
-      to = leb-true (a + POINTER_SIZE) (s.vmaddr + s.filesize)
-          (and_right (is_writable s && nat_le (s.vmaddr + SEGMENT_PAGE * page) a && nat_le (a + POINTER_SIZE)
-          (s.vmaddr + SEGMENT_PAGE * (page + 1)))
-          (nat_le (a + POINTER_SIZE) (s.vmaddr + s.filesize)) holds);
-      is = refl;
-    }
-
 -- a word that its page holds, and whose import exists, fits; and back
 pub fits_here : (b : List ℕ) (number place page a word : ℕ) → StandApart b → IsNth list.Segments b number place
     → page_holds (segment_there b place) page a ≡ true → HasWord b (segment_there b place) a word
@@ -101,15 +79,6 @@ fits_here b number place page a word apart nth holds has import =
           let same = file_word_is b number place a word v apart nth has stands in
           subst (λ x. ordinal_of x < import_count b (tables_of b)) (sym same) (import (subst (λ x. is_bind x ≡ true) same binds));
     }
-
-pub page_holds_fitting : (b : List ℕ) (s : SegmentCommand) (page a : ℕ) → WordFits b s page a → page_holds s page a ≡ true
-page_holds_fitting b s page a fits =
-    rw (
-      fits.writable,
-      le-leb (s.vmaddr + SEGMENT_PAGE * page) a fits.page_from,
-      le-leb (a + POINTER_SIZE) (s.vmaddr + SEGMENT_PAGE * (page + 1)) fits.page_to,
-      le-leb (a + POINTER_SIZE) (s.vmaddr + s.filesize) fits.to,
-    ) refl
 
 pub import_is_there : (b : List ℕ) (number place table page a word : ℕ) → IsNth list.Tables b 0 table → IsNth list.Segments b number place
     → HasWord b (segment_there b place) a word → WordFits b (segment_there b place) page a → is_bind word ≡ true
@@ -161,12 +130,6 @@ all_fit b number place page from offset word stride apart nth reached fitting is
       | inl here ↦ subst (λ x. WordFits b (segment_there b place) page x) here fitting.fits
       | inr on ↦ let goes = on.0 in absurd (omega (arith, goes, is, none))
     ])
-
--- a word that does not fit
-pub unfit_there : (b : List ℕ) (number place page from offset : ℕ) → IsReached b place page from offset
-    → (WordFits b (segment_there b place) page (address_in b place offset) → ⊥) → UnfitFrom b number place page from offset
-unfit_there b number place page from offset reached unfit =
-    let small = reached.small in record { leads = reached.leads; unfit = unfit; small = omega (arith, small) }
 
 -- the start of a page and the number of pages, by the first table
 pub start_found : (b : List ℕ) (number table page start : ℕ) → IsNth list.Tables b 0 table → page < length (starts_of b number)

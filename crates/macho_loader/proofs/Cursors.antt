@@ -5,10 +5,10 @@
 use Rattle.std.proofs.Common.{◌≡◌, ℕ, ◌+◌, ◌<◌, ◌≤◌, true, false, List, length, arith}
 use Rattle.macho_bytes.specs.Numbers.{le_at}
 use Rattle.macho_model.specs.Commands.{command_at, header_of}
-use Rattle.macho_memory_walks.specs.declared.walk.Listed.{Listed}
-use Rattle.macho_memory_walks.specs.Readings.{is_listed, listed, IsNth}
-use Rattle.macho_memory_walks.proofs.NthWalk.{Passed, none_passed, listed_passed, other_passed, nth_here, all_passed}
-use Rattle.macho_memory_walks.proofs.NumberedWalk.{few_listed_of}
+use Rattle.macho_image_walks.specs.declared.walk.Listed.{Listed}
+use Rattle.macho_image_walks.specs.Readings.{is_listed, listed, IsNth}
+use Rattle.macho_image_walks.proofs.NthWalk.{Passed, none_passed, listed_passed, other_passed, nth_here, all_passed}
+use Rattle.macho_image_walks.proofs.NumberedWalk.{few_listed_of}
 use Rattle.macho_loader.specs.declared.cursor.Cursor.{Cursor}
 use Rattle.macho_loader.specs.steps.Cursors.{IsAt}
 

@@ -4,3 +4,8 @@ pub mod ListWalks
 pub mod ChainWalks
 pub mod Segments
 pub mod ChainLookups
+pub mod CommandLists
+pub mod FixupLists
+pub mod ChainOrder
+pub mod ListingWalks
+pub mod RowsLists

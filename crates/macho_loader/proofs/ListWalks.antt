@@ -8,13 +8,13 @@ use Rattle.std.proofs.lemmas.Bool.{cases_lt, leb-true}
 use Rattle.macho_model.specs.Commands.{command_at}
 use Rattle.macho_model.specs.Images.{Table, segments_of, starts_count, fixups_header, import_entry_size}
 use Rattle.macho_model.specs.Loader.{segment_in}
-use Rattle.macho_model_walks.specs.Tests.{parts_inside}
-use Rattle.macho_memory_walks.specs.declared.walk.Listed.TheVariants as list
-use Rattle.macho_memory_walks.specs.Readings.{IsNth}
-use Rattle.macho_model_walks.specs.steps.Asked.{NeighbourPasses}
-use Rattle.macho_model.proofs.EachBelow.{and_left, and_right}
-use Rattle.macho_memory_walks.proofs.NumberedWalk.{nth_one}
+use Rattle.macho_image_walks.specs.Tests.{parts_inside}
+use Rattle.macho_image_walks.specs.declared.walk.Listed.TheVariants as list
+use Rattle.macho_image_walks.specs.Readings.{IsNth}
+use Rattle.macho_image_walks.specs.steps.Asked.{NeighbourPasses}
+use Rattle.macho_image_walks.proofs.NumberedWalk.{nth_one}
 use Rattle.macho_model.specs.SegmentRules.{begins_behind}
+use Rattle.macho_bytes.proofs.Bools.{and_left, and_right}
 
 -- one number more
 pub more_below : {P : ℕ → Type 0} (i n : ℕ) → n ≡ i + 1 → ((k : ℕ) → k < i → P k) → P i → (k : ℕ) → k < n → P k

@@ -3,30 +3,14 @@
 -- A name that begins at or in front of a NUL ends: the part of it before its first NUL is shorter than all of it. A name
 -- behind the last NUL has none: it is all of what is left. So a name ends exactly where it begins in front of the place
 -- behind the last NUL.
-use Rattle.std.proofs.Common.{◌≡◌, ℕ, ◌+◌, ◌-◌, ◌<◌, ◌≤◌, ◌==◌, true, false, List, length, drop, slice_index, inl, inr, sym, ap, ◌∙◌}
-use Rattle.std.proofs.Common.{arith, eq-eqb, length-take, length-drop, get_or-drop}
+use Rattle.std.proofs.Common.{◌≡◌, ℕ, ◌+◌, ◌-◌, ◌<◌, ◌≤◌, ◌==◌, true, false, List, length, drop, slice_index, inl, inr, sym, ap, ◌∙◌, arith, eq-eqb, length-take, length-drop, get_or-drop}
 use Rattle.std.specs.List.{position_or_len}
-use Rattle.std.proofs.lemmas.Bool.{cases_lt, false≢true, lt-ltb, le-ltb, eqb-true}
-use Rattle.std.proofs.lemmas.List.Sums.{fails_before_first}
+use Rattle.std.proofs.lemmas.Bool.{cases_lt, lt-ltb, le-ltb, eqb-true}
 use Rattle.memchr.specs.Find.{NoneAfter, Nowhere, Passes, is_byte}
 use Rattle.macho_bytes.specs.Texts.{name_of}
-use Rattle.macho_bytes.proofs.Names.{name_of-whole}
 use Rattle.macho_model.specs.ObjectRules.{has_nul}
 use Rattle.macho_loader.specs.steps.Names.{EndsBelow}
-
--- a NUL ends a text
-nul_ends : (text : List ℕ) (k : ℕ) → k < length text → slice_index text k ≡ 0 → has_nul text ≡ true
-nul_ends text k lt is =
-    let first : position_or_len (λ b. b == 0) text ≤ k =
-    elim (cases_lt k (position_or_len (λ b. b == 0) text)) [
-      | inl before ↦ absurd (false≢true (sym (fails_before_first (λ b. b == 0) text k 0 before) ∙ eq-eqb (slice_index text k) 0 is))
-      | inr at ↦ at
-    ] in
-    lt-ltb (length (name_of text)) (length text) (omega (arith, length-take (position_or_len (λ b. b == 0) text) text))
-
--- a text without a NUL has no end
-nul_missing : (text : List ℕ) → ((i : ℕ) → i < length text → slice_index text i ≡ 0 → ⊥) → has_nul text ≡ false
-nul_missing text none = le-ltb (length (name_of text)) (length text) (omega (arith, ap length (name_of-whole text none)))
+use Rattle.macho_model.proofs.Strings.{nul_ends, nul_missing}
 
 -- a name that begins where there is no NUL any more
 begins_behind : (names : List ℕ) (from n : ℕ) → Nowhere (Passes (is_byte 0) names) from (length names) → from ≤ n

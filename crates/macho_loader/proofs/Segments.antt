@@ -2,8 +2,7 @@
 --
 -- The command is whole and stands inside the file, so the record is there. Its number in the list of segments' commands is
 -- the segment's.
-use Rattle.std.proofs.Common.{◌≡◌, ℕ, zero, suc, ◌+◌, ◌==◌, ◌≤◌, nat_le, true, ◌&&◌, List, [], ◌∷◌, length, refl, sym, ap, subst, ◌∙◌}
-use Rattle.std.proofs.Common.{arith, Some, None}
+use Rattle.std.proofs.Common.{◌≡◌, ℕ, zero, suc, ◌+◌, ◌==◌, ◌≤◌, nat_le, true, ◌&&◌, List, [], ◌∷◌, length, refl, sym, ap, subst, ◌∙◌, arith, Some, None}
 use Rattle.std.specs.List.{slice_get}
 use Rattle.std.proofs.lemmas.Bool.{leb-true, le-leb}
 use Rattle.std.proofs.lemmas.Option.{slice_get-get_or}
@@ -16,11 +15,11 @@ use Rattle.macho_model.specs.Commands.{Command, command_at, commands_of, command
 use Rattle.macho_model.specs.Images.{segments_of}
 use Rattle.macho_model.specs.LoadRules.{needed_in_image}
 use Rattle.macho_model.specs.Loader.{IsAccepted}
-use Rattle.macho_memory_walks.specs.declared.walk.Listed.TheVariants as list
-use Rattle.macho_memory_walks.specs.Readings.{is_listed, listed, IsNth, segment_there}
-use Rattle.macho_model.proofs.EachBelow.{and_left, and_right}
-use Rattle.macho_memory_walks.proofs.NumberedWalk.{nth_number}
-use Rattle.macho_memory_walks.proofs.ListedLaws.{count_of_segments}
+use Rattle.macho_image_walks.specs.declared.walk.Listed.TheVariants as list
+use Rattle.macho_image_walks.specs.Readings.{is_listed, listed, IsNth, segment_there}
+use Rattle.macho_image_walks.proofs.NumberedWalk.{nth_number}
+use Rattle.macho_image_walks.proofs.ListedLaws.{count_of_segments}
+use Rattle.macho_bytes.proofs.Bools.{and_left, and_right}
 
 -- the segment's record stands inside the file
 record_inside : (b : List ℕ) (number place : ℕ) → IsAccepted b → IsNth list.Segments b number place → place + 72 ≤ length b
@@ -44,14 +43,19 @@ record_inside b number place accepted nth =
     let inside = leb-true (commands_end b) (length b) accepted.l2.0 in
     omega (arith, ends, long, needs, inside)
 
+-- so it is read
+pub segment_read : (b : List ℕ) (number place : ℕ) → IsAccepted b → IsNth list.Segments b number place
+    → read_of segment_command b place ≡ Some (segment_there b place)
+segment_read b number place accepted nth =
+    rw (le-leb (place + size_of segment_command) (length b) (record_inside b number place accepted nth)) refl
+
 pub segment_found : (b : List ℕ) (number place : ℕ) → IsAccepted b → IsNth list.Segments b number place
     → read_of segment_command b place ≡ slice_get (segments_of b) number
 segment_found b number place accepted nth =
     let s = segment_there b place in
     let is = nth_number b number place nth in
-    let there : read_of segment_command b place ≡ Some s = rw (le-leb (place + size_of segment_command) (length b)
-    (record_inside b number place accepted nth)) refl in
-    there ∙ sym (slice_get-get_or (segments_of b) number s is.0 ∙ ap (λ (x : SegmentCommand). Some x) is.1)
+    segment_read b number place accepted nth ∙ sym (slice_get-get_or (segments_of b) number s is.0 ∙ ap
+    (λ (x : SegmentCommand). Some x) is.1)
 
 none_behind : {X : Type 0} (xs : List X) (k : ℕ) → length xs ≤ k → slice_get xs k ≡ None
 none_behind [] k past = refl

@@ -1,2 +1,3 @@
 pub mod Fixups
+pub mod Lists
 pub mod steps

@@ -3,3 +3,4 @@ pub mod Cursors
 pub mod Names
 pub mod Words
 pub mod Held
+pub mod Listing

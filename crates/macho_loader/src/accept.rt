@@ -1,16 +1,23 @@
 //! The rules of the loader, asked one after the other.
 ghost use Rattle.std.specs.Prelude.{◌≡◌, ℕ, OnOk, OnErr, IfErr, Some, None};
 ghost use Rattle.macho_model.specs.Loader.{IsAccepted, ImageBreaks};
-ghost use Rattle.macho_model_walks.specs.steps.Asked.{LoadKeeps};
+ghost use Rattle.macho_image_walks.specs.steps.Asked.{LoadKeeps};
 ghost use Rattle.macho_loader.specs.steps.Words.{ReadyFor};
 
 use crate::command_rules::{first_failing, first_overlapping};
 use crate::import_rules::first_bad_import;
 use crate::word_rules::first_unfit_word;
+use macho_image_walks::{Asked, commands_end_inside, head_fits, other_text, second_table};
 use macho_model::LoadRule;
-use macho_model_walks::{
-    Asked, LoadFault, commands_end_inside, head_fits, other_text, second_table,
-};
+
+/// A rule of the loader that an image breaks, and the file offset of what breaks it.
+#[derive(Clone, Copy, Debug, PartialEq, Eq)]
+pub struct LoadFault {
+    /// The rule.
+    pub rule: LoadRule,
+    /// The place of the command, the import entry or the word that breaks it; 0 for the file as a whole.
+    pub place: u64,
+}
 
 /// The place of the first record that breaks a rule, 0 for the file as a whole.
 fn broken_at(bytes: &[u8], rule: LoadRule) -> Option<u64>

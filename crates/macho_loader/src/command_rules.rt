@@ -5,22 +5,30 @@ ghost use Rattle.macho_model.specs.Grammar.{EachCommand};
 ghost use Rattle.macho_model.specs.Loader.{segment_in};
 ghost use Rattle.macho_model.specs.Lists.{EachNext};
 ghost use Rattle.macho_model.specs.Commands.{command_at, numbered};
-ghost use Rattle.macho_memory_walks.specs.Readings.{listed};
-ghost use Rattle.macho_model_walks.specs.Tests.{test_of, list_of};
-ghost use Rattle.macho_model_walks.specs.steps.Asked.{AskedFails, BeginsBefore};
+ghost use Rattle.macho_image_walks.specs.Readings.{listed};
+ghost use Rattle.macho_image_walks.specs.Tests.{test_of, list_of};
+ghost use Rattle.macho_image_walks.specs.steps.Asked.{AskedFails, BeginsBefore};
 ghost use Rattle.macho_model.specs.SegmentRules.{begins_behind};
 
 use crate::cursor::{first, step_from};
 use crate::table_rules::table_is_right;
-use macho_model_walks::{Asked, Listed, follows};
+use macho_image_walks::{
+    Asked, Listed, ends_below, file_bytes_are_inside, follows, holds_commands, is_paged, is_whole,
+    protections_are_right,
+};
 
 /// Whether a command passes.
 fn passes(bytes: &[u8], asked: Asked, place: u64) -> bool
     ensures { result ≡ test_of asked bytes.now (command_at bytes.now place) }
 {
     match asked {
+        Asked::Whole => is_whole(bytes, place),
+        Asked::Protections => protections_are_right(bytes, place),
+        Asked::FileBytes => file_bytes_are_inside(bytes, place),
+        Asked::Pages => is_paged(bytes, place),
+        Asked::End => ends_below(bytes, place),
+        Asked::Commands => holds_commands(bytes, place),
         Asked::Table => table_is_right(bytes, place),
-        _ => asked.passes(bytes, place),
     }
 }
 

@@ -1,11 +1,11 @@
 //! A walk over the load commands of a list, from each to the next one: all of them together pass each command once.
 ghost use Rattle.std.specs.Prelude.{◌≡◌, ◌≤◌, ℕ, List, length, Some, None};
-ghost use Rattle.macho_memory_walks.specs.Readings.{listed};
+ghost use Rattle.macho_image_walks.specs.Readings.{listed};
 ghost use Rattle.macho_loader.specs.steps.Cursors.{IsAt, IsStep};
-ghost use Rattle.macho_memory_walks.specs.declared.walk.Listed.{Listed};
+ghost use Rattle.macho_image_walks.specs.declared.walk.Listed.{Listed};
 ghost use Rattle.macho_loader.specs.declared.cursor.Step.{Step};
 
-use macho_model_walks::{Listed, count_of, is_listed, u32_from};
+use macho_image_walks::{Listed, count_of, is_listed, u32_from};
 
 /// Where a walk stands: before the command with an index.
 #[derive(Clone, Copy)]

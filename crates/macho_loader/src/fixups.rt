@@ -12,9 +12,9 @@ ghost use Rattle.macho_model.specs.Loader.{IsAccepted};
 ghost use Rattle.macho_model.specs.Memory.{rebase_target, rebase_high};
 ghost use Rattle.macho_model.specs.ReadBack.{IsLoadedFixup};
 ghost use Rattle.macho_bytes.specs.Texts.{name_of};
-ghost use Rattle.macho_memory_walks.specs.Readings.{HasWord, segment_there, table_there};
-ghost use Rattle.macho_memory_walks.specs.steps.Walks.{Leads};
-ghost use Rattle.macho_model_walks.specs.steps.WordTests.{address_in, FitFrom};
+ghost use Rattle.macho_image_walks.specs.Readings.{HasWord, segment_there, table_there};
+ghost use Rattle.macho_image_walks.specs.steps.Walks.{Leads};
+ghost use Rattle.macho_image_walks.specs.steps.WordTests.{address_in, FitFrom};
 ghost use Rattle.macho_loader.specs.Fixups.{fixup_of, found_of};
 ghost use Rattle.macho_loader.specs.steps.Words.{StandApart, IsChained};
 ghost use Rattle.macho_loader.specs.steps.Held.{IsHeld, HasNoWord, import_said};
@@ -23,11 +23,11 @@ ghost use Rattle.macho_loader.specs.declared.fixups.Held.{Held};
 use crate::cursor::{first, step_from};
 use crate::import_rules::names_of;
 use crate::word_rules::{Chained, fitting_word, stride_of};
-use macho_model::{NO_START, SEGMENT_PAGE};
-use macho_model_walks::{
+use macho_image_walks::{
     Listed, addend_in, addend_of, binds, library_of, name_offset_of, nth, ordinal, pages_in,
     place_of_import, segment_at, start_of_page, u32_from, word_of,
 };
+use macho_model::{NO_START, SEGMENT_PAGE};
 use macho_records::name_bytes;
 
 /// What the loader makes of a word on a chain, before any slide.
@@ -130,7 +130,7 @@ fn is_on_chain(bytes: &[u8], segment: Chained, address: u64, word: u64) -> bool
 }
 
 /// The value of a word that moves with the image.
-fn rebased(word: u64, base: u64) -> u64
+pub(crate) fn rebased(word: u64, base: u64) -> u64
     ensures { result ≡ (rebase_target word + rebase_high word * 2 ^ 56 + base) % 2 ^ 64 }
 {
     let target = word & 0xf_ffff_ffff;
@@ -139,7 +139,7 @@ fn rebased(word: u64, base: u64) -> u64
 }
 
 /// The name at an offset among the names of a fixup table.
-fn name_at(bytes: &[u8], table: u64, offset: u32) -> &[u8]
+pub(crate) fn name_at(bytes: &[u8], table: u64, offset: u32) -> &[u8]
     ensures { result.now ≡ name_of (drop offset (table_names bytes.now (table_there bytes.now table))) }
 {
     let names = names_of(bytes, table);

@@ -4,12 +4,12 @@ ghost use Rattle.macho_model.specs.ObjectRules.{has_nul};
 ghost use Rattle.macho_model.specs.Images.{table_names, libraries_of};
 ghost use Rattle.macho_model.specs.LoadRules.{import_fits};
 ghost use Rattle.macho_model.specs.Loader.{ImportFails};
-ghost use Rattle.macho_memory_walks.specs.Readings.{table_there};
-ghost use Rattle.macho_model_walks.specs.steps.Asked.{BadImport, ImportsFit, EachImportFits};
+ghost use Rattle.macho_image_walks.specs.Readings.{table_there};
+ghost use Rattle.macho_image_walks.specs.steps.Asked.{BadImport, ImportsFit, EachImportFits};
 ghost use Rattle.macho_loader.specs.steps.Names.{EndsBelow};
 
 use crate::cursor::{count_listed, first, step_from};
-use macho_model_walks::{
+use macho_image_walks::{
     Listed, library_of, name_offset_of, place_of_import, range_from, table_at, u32_from,
 };
 use memchr::memrchr;
@@ -37,7 +37,7 @@ pub(crate) fn names_of(bytes: &[u8], place: u64) -> &[u8]
 }
 
 /// How many libraries the image needs.
-#[tactic(auto, using(macho_memory_walks::proofs::ListedLaws::count_of_libraries))]
+#[tactic(auto, using(macho_image_walks::proofs::ListedLaws::count_of_libraries))]
 fn count_of_libraries(bytes: &[u8]) -> u32
     ensures { result ≡ length (libraries_of bytes.now) }
 {

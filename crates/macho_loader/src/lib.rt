@@ -11,15 +11,21 @@
 #![tactic(auto)]
 
 mod accept;
+mod chain_list;
 mod command_rules;
+mod commands;
 mod cursor;
 mod fixups;
 mod import_rules;
+mod imports;
 mod loaded;
 mod table_rules;
 mod word_rules;
 
+pub use accept::LoadFault;
+pub use chain_list::{FixupLine, LineKind};
+pub use commands::LinkeditRange;
 pub use fixups::LoadedFixup;
+pub use imports::LoadedImport;
 pub use loaded::Loaded;
 pub use macho_model::LoadRule;
-pub use macho_model_walks::LoadFault;

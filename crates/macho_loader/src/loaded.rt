@@ -1,16 +1,22 @@
 //! An image that the loader accepts, and what stands in it.
-ghost use Rattle.std.specs.Prelude.{◌≡◌, length, IfOk, IfErr, OnOk, OnErr};
+ghost use Rattle.std.specs.Prelude.{◌≡◌, length, map, IfOk, IfErr, OnOk, OnErr};
 ghost use Rattle.std.specs.List.{slice_get};
-ghost use Rattle.macho_model.specs.Images.{base_of, segments_of};
+ghost use Rattle.macho_model.specs.Commands.{numbered};
+ghost use Rattle.macho_model.specs.Images.{base_of, segments_of, libraries_of};
 ghost use Rattle.macho_model.specs.Loader.{IsAccepted, ImageBreaks};
 ghost use Rattle.macho_model.specs.ReadBack.{IsLoadedFixup};
 ghost use Rattle.macho_loader.specs.Fixups.{found_of};
+ghost use Rattle.macho_loader.specs.Lists.{import_of, imports_of_image, range_of, AreFixups};
 
-use crate::accept::check_rules;
+use crate::accept::{LoadFault, check_rules};
+use crate::chain_list::{FixupLine, list_fixups};
+use crate::commands::{LinkeditRange, list_ranges, list_segments};
 use crate::cursor::count_listed;
 use crate::fixups::{LoadedFixup, fixup_in};
-use macho_model_walks::{Listed, LoadFault, base_address, nth};
+use crate::imports::{LoadedImport, imports_of, libraries_of};
+use macho_image_walks::{Listed, base_address, nth};
 use macho_records::SegmentCommand;
+use std::alloc::{AllocError, Global};
 use std::marker::Model;
 
 /// A view of an image that the loader accepts. It holds no list: what is asked is looked up in the bytes.
@@ -37,7 +43,7 @@ impl<'a> Model for Loaded<'a> {
 }
 
 /// How many segments an image has.
-#[tactic(auto, using(macho_memory_walks::proofs::ListedLaws::count_of_segments))]
+#[tactic(auto, using(macho_image_walks::proofs::ListedLaws::count_of_segments))]
 fn count_of_segments(bytes: &[u8]) -> u32
     ensures { result ≡ length (segments_of bytes.now) }
 {
@@ -96,5 +102,46 @@ impl<'a> Loaded<'a> {
         ensures { IsLoadedFixup self.now address (found_of result) }
     {
         fixup_in(self.bytes, self.base, address)
+    }
+}
+
+/// Whole lists, each made by one walk. Want of memory is their only failure.
+impl<'a> Loaded<'a> {
+    /// The segments, in the order of their load commands.
+    pub fn segments(&self, alloc: Global) -> Result<Vec<SegmentCommand>, AllocError>
+        ensures { IfOk result (λ v. v.items ≡ segments_of self.now) }
+    {
+        list_segments(alloc, self.bytes)
+    }
+
+    /// The names of the libraries that the image needs, in the order of their load commands. Imports count them from 1.
+    pub fn libraries(&self, alloc: Global) -> Result<Vec<&'a [u8]>, AllocError>
+        ensures { IfOk result (λ v. map (λ n. n.now) v.items ≡ libraries_of self.now) }
+    {
+        libraries_of(alloc, self.bytes)
+    }
+
+    /// The imports, in the order of the fixup table's entries. The answer is want of memory where all names together have
+    /// more than four gigabytes: a table has fewer bytes, but entries may share names.
+    pub fn imports(&self, alloc: Global) -> Result<Vec<LoadedImport<'a>>, AllocError>
+        ensures { IfOk result (λ v. map import_of v.items ≡ imports_of_image self.now) }
+    {
+        imports_of(alloc, self.bytes)
+    }
+
+    /// The ranges of the file that the load commands of a number give, in order: for a table of `__LINKEDIT`, as an exports
+    /// trie.
+    pub fn ranges(&self, alloc: Global, number: u32) -> Result<Vec<LinkeditRange>, AllocError>
+        ensures { IfOk result (λ v. v.items ≡ map (range_of self.now) (numbered number self.now)) }
+    {
+        list_ranges(alloc, self.bytes, number)
+    }
+
+    /// What the loader makes of each word on the chains, by rising addresses: a value at the image's own address, or the
+    /// number of an import and what is added to its address.
+    pub fn fixups(&self, alloc: Global) -> Result<Vec<FixupLine>, AllocError>
+        ensures { IfOk result (λ v. AreFixups self.now v.items) }
+    {
+        list_fixups(alloc, self.bytes, self.base)
     }
 }

@@ -1,11 +1,11 @@
 //! The rule of the chained fixup table: it stands inside the file, its parts inside it, and all are known.
 ghost use Rattle.std.specs.Prelude.{◌≡◌, true};
 ghost use Rattle.macho_model.specs.LoadRules.{table_fits};
-ghost use Rattle.macho_memory_walks.specs.Readings.{table_there};
-ghost use Rattle.macho_model_walks.specs.Tests.{starts_all_fit, parts_inside};
+ghost use Rattle.macho_image_walks.specs.Readings.{table_there};
+ghost use Rattle.macho_image_walks.specs.Tests.{starts_all_fit, parts_inside};
 
 use crate::cursor::{first, step_from};
-use macho_model_walks::{
+use macho_image_walks::{
     Listed, base_address, count_of_starts, header_is_known, parts_are_inside, segment_at,
     starts_are_right, table_at,
 };

@@ -6,17 +6,17 @@
 ghost use Rattle.std.specs.Prelude.{◌≡◌, ◌+◌, ◌*◌, ◌<◌, ◌^◌, ℕ, length, Some, None};
 ghost use Rattle.macho_model.specs.Chain.{STRIDE, next_of};
 ghost use Rattle.macho_model.specs.Loader.{WordFits, WordFails};
-ghost use Rattle.macho_memory_walks.specs.Readings.{IsNth, segment_there, starts_of};
-ghost use Rattle.macho_model_walks.specs.steps.WordTests.{address_in, UnfitFrom, FitFrom, UnfitOnPage, FitOnPage, EachWordFits};
-ghost use Rattle.macho_memory_walks.specs.declared.walk.Listed.TheVariants as list;
+ghost use Rattle.macho_image_walks.specs.Readings.{IsNth, segment_there, starts_of};
+ghost use Rattle.macho_image_walks.specs.steps.WordTests.{address_in, UnfitFrom, FitFrom, UnfitOnPage, FitOnPage, EachWordFits};
+ghost use Rattle.macho_image_walks.specs.declared.walk.Listed.TheVariants as list;
 ghost use Rattle.macho_loader.specs.steps.Words.{StandApart, IsChained, IsFittingWord};
 
 use crate::cursor::{first, step_from};
-use macho_model::{NO_START, SEGMENT_PAGE};
-use macho_model_walks::{
+use macho_image_walks::{
     Listed, binds, nth, ordinal, page_has, pages_in, segment_at, start_of_page, steps_of, table_at,
     word_of,
 };
+use macho_model::{NO_START, SEGMENT_PAGE};
 
 /// A segment whose pages may have chains.
 #[derive(Clone, Copy)]

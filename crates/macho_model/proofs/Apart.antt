@@ -77,11 +77,3 @@ pub share_no_address : (b : List ℕ) (s t : SegmentCommand) (a : ℕ) → IsAcc
     → Contains (mapped_segments b) t
     → Holds_address s a → Holds_address t a → s ≡ t
 share_no_address b s t a accepted one_s one_t in_s in_t = one_holds (mapped_segments b) s t a (mapped_rise b accepted) one_s one_t in_s in_t
-
--- So a segment's byte at an address is one.
-pub one_segment_byte : (b : List ℕ) (a v w : ℕ) → IsAccepted b → IsSegmentByte b a v → IsSegmentByte b a w → v ≡ w
-one_segment_byte b a v w accepted first second =
-    let same =
-    share_no_address b first.segment second.segment a accepted first.one second.one (first.from, first.to) (second.from, second.to) in
-    first.is ∙ ap (λ (s : SegmentCommand). if nat_lt (a - s.vmaddr) s.filesize then slice_index b (s.fileoff + (a - s.vmaddr)) else 0) same
-    ∙ sym second.is

@@ -5,7 +5,7 @@ use Rattle.macho_records.specs.Sections.{should_exclude_of, segment_name_of}
 use Rattle.macho_records.specs.declared.header.SectionHeader.{SectionHeader}
 use Rattle.macho_model.specs.Links.{is_carried}
 use Rattle.macho_model.specs.Segments.{PAGEZERO, LINKEDIT}
-use Rattle.macho_model.proofs.EachBelow.{and_left}
+use Rattle.macho_bytes.proofs.Bools.{and_left}
 
 pub segment_of_carried : (h : SectionHeader) → is_carried h ≡ true
     → (bytes_eq (segment_name_of h) PAGEZERO ≡ false) × (bytes_eq (segment_name_of h) LINKEDIT ≡ false)

@@ -8,8 +8,7 @@ use Rattle.std.proofs.lemmas.List.Concat.{flat_map-cons}
 use Rattle.macho_model.specs.Links.{Input, Object, Dylib, Stub}
 use Rattle.macho_model.specs.Objects.{num_symbols}
 use Rattle.macho_model.specs.Resolution.{SymbolId, same_symbol, symbols_of_file, symbols_of, chosen_commons}
-use Rattle.macho_model.specs.LinkLaws.{is_chosen}
-use Rattle.macho_model.specs.LinkLaws.{CommonsAreCounted}
+use Rattle.macho_model.specs.LinkLaws.{is_chosen, CommonsAreCounted}
 
 -- one symbol stands before another, by file and then by number
 abbrev Before : SymbolId → SymbolId → Type 0
@@ -113,7 +112,7 @@ position_counts keep same (t ∷ before) after s kept here none = by (position_c
     by rest true is = rw (is, none.0, rest) (omega arith)
     by rest false is = rw (is, rest) refl
 
-is_same : (s : SymbolId) → same_symbol s s ≡ true
+pub is_same : (s : SymbolId) → same_symbol s s ≡ true
 is_same s = grind (arith, nat_tests)
 
 pub commons_are_counted : CommonsAreCounted

@@ -14,10 +14,10 @@ use Rattle.macho_model.specs.Placement.{Placed, id_of}
 use Rattle.macho_model.specs.Memory.{Choice, Covers, HoldsNumber}
 use Rattle.macho_model.specs.Stands.{IsAt, CallIsAt, LoadIsAt, LoadSays, SlotAt, SubtrahendIsAt, Kind, Pointer, Difference, Branch, Page, Offset, SlotPage, SlotOffset, SlotDistance, NoKind, kind_of, Denotes}
 use Rattle.macho_model.specs.SlideLaws.{subtrahend_moves, targets_move}
-use Rattle.macho_model.proofs.EachBelow.{true_or_false, and_left, and_right}
 use Rattle.macho_model.proofs.ChainMemory.{memory_moves}
 use Rattle.macho_model.proofs.Slides.{branch_slides, difference_slides, distance_slides, page_of_slides, offset_slides, adds_slides, loads_slides}
 use Rattle.macho_model.specs.steps.Stands.{StubAt, SaysOf}
+use Rattle.macho_bytes.proofs.Bools.{true_or_false, and_left, and_right}
 
 -- a target that moves with the image is at its place plus the slide
 pub defined_moves : (l : Link) (p : Placed) (c d : Choice) (t : Target) (x s : ℕ) → is_defined t ≡ true → IsAt l p 0 c t x

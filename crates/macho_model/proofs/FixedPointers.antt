@@ -14,8 +14,7 @@ use Rattle.macho_model.specs.Links.{Link, SectionId, header_at, carried_of}
 use Rattle.macho_model.specs.Targets.{is_import}
 use Rattle.macho_model.specs.Fields.{Field, fields_of}
 use Rattle.macho_model.specs.Segments.{may_hold_pointers}
-use Rattle.macho_model.specs.Stands.{Kind, Pointer, Difference, Branch, Page, Offset, SlotPage, SlotOffset, SlotDistance, NoKind, kind_of}
-use Rattle.macho_model.specs.Stands.{is_in_template, is_template_offset}
+use Rattle.macho_model.specs.Stands.{Kind, Pointer, Difference, Branch, Page, Offset, SlotPage, SlotOffset, SlotDistance, NoKind, kind_of, is_in_template, is_template_offset}
 use Rattle.macho_model.specs.Values.{fits_signed, is_pointer, is_absolute_target, needs_fixup}
 use Rattle.macho_model.specs.Valid.{stands_at_multiple, stays_inside, field_fits}
 
@@ -66,7 +65,7 @@ import_moves l target.Base h = absurd (true≢false (sym h))
 import_moves l (target.Absolute value) h = absurd (true≢false (sym h))
 import_moves l target.None h = absurd (true≢false (sym h))
 
-none_and : (b c : Bool) → c ≡ false → (b && c) ≡ false
+pub none_and : (b c : Bool) → c ≡ false → (b && c) ≡ false
 none_and true c h = h
 none_and false c h = refl
 
@@ -78,7 +77,7 @@ import_needs l s f pointer import =
     (ap not (none_and (type_of (header_at l s) == S_THREAD_LOCAL_VARIABLES) (is_in_template l f.target) m.1))
 
 -- what a pointer that the loader writes keeps
-left_true : (n b : Bool) → n ≡ true → (not n || b) ≡ true → b ≡ true
+pub left_true : (n b : Bool) → n ≡ true → (not n || b) ≡ true → b ≡ true
 left_true true b is h = h
 left_true false b is h = absurd (true≢false (sym is))
 

@@ -4,8 +4,7 @@
 -- each earlier piece. The tables are such a row of pieces, which begins with the file offset of `__LINKEDIT`, and ends with the
 -- signature, up to which its file bytes go. Of the segments' names the last alone is `__LINKEDIT`: the others are those that the linker
 -- knows, and some that it doesn't know.
-use Rattle.std.proofs.Common.{◌≡◌, ℕ, zero, suc, ◌+◌, ◌-◌, ◌^◌, ◌<◌, ◌≤◌, ◌==◌, ◌||◌, Bool, true, false, not, cond, List, [], ◌∷◌, ◌++◌, map}
-use Rattle.std.proofs.Common.{length, get_or, All, refl, sym, ap, subst, ◌∙◌, arith, inl, inr}
+use Rattle.std.proofs.Common.{◌≡◌, ℕ, zero, suc, ◌+◌, ◌-◌, ◌^◌, ◌<◌, ◌≤◌, ◌==◌, ◌||◌, Bool, true, false, not, cond, List, [], ◌∷◌, ◌++◌, map, length, get_or, All, refl, sym, ap, subst, ◌∙◌, arith, inl, inr}
 use Rattle.std.specs.Prelude.{AllPairs, filter}
 use Rattle.std.specs.Str.{bytes_eq}
 use Rattle.std.proofs.lemmas.Bool.{cases_lt}
@@ -25,8 +24,7 @@ use Rattle.macho_model.specs.Lists.{EachNext, of_first}
 use Rattle.macho_model.specs.Needs.{distinct}
 use Rattle.macho_model.specs.Resolution.{chosen_commons}
 use Rattle.macho_model.specs.Targets.{slots_of}
-use Rattle.macho_model.specs.Segments.{PAGEZERO, TEXT, DATA_CONST, DATA, LINKEDIT, is_known_segment, list_if, other_segments, segment_names_of}
-use Rattle.macho_model.specs.Segments.{has_section_in}
+use Rattle.macho_model.specs.Segments.{PAGEZERO, TEXT, DATA_CONST, DATA, LINKEDIT, is_known_segment, list_if, other_segments, segment_names_of, has_section_in}
 use Rattle.macho_model.specs.Placement.{Placed, Piece, end_of_piece, is_segment_named, linkedit_ranges}
 use Rattle.macho_model.specs.Order.{BeginsLeast, table_pieces}
 use Rattle.macho_model.specs.steps.Outputs.{pieces_of, output_sections_of}

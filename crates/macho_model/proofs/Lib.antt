@@ -21,3 +21,8 @@ pub mod Outputs
 pub mod Words
 pub mod Resolved
 pub mod Uses
+pub mod Sections
+pub mod Definitions
+pub mod SameTargets
+pub mod Distinct
+pub mod Strings

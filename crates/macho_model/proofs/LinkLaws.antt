@@ -56,7 +56,7 @@ unfolding target_of
 all_are_noted l s = refl
 
 -- the numbers of a list and one element more
-enumerate_more : {X : Type 0} (n : ℕ) (xs : List X) (x : X)
+pub enumerate_more : {X : Type 0} (n : ℕ) (xs : List X) (x : X)
     → enumerate_from n (xs ++ x ∷ []) ≡ enumerate_from n xs ++ (n + length xs, x) ∷ []
 enumerate_more n [] x = ap (λ k. (k, x) ∷ []) (omega arith)
 enumerate_more n (y ∷ xs) x =

@@ -126,18 +126,3 @@ number_is_held b s choice segment w i free one fits small inside =
         text_is_held b s choice segment i (slice_range b (segment.fileoff + i) (segment.fileoff + i + w))
         (λ k within. free k (omega (arith, within, long))) one (omega (arith, long)) small
         (record { within = omega (arith, long); same = ap (λ (e : ℕ). slice_range b (segment.fileoff + i) (segment.fileoff + i + e)) long })
-
--- the byte at an address behind the slide, and where no segment has one
-pub memory_found : (b : List ℕ) (s x v : ℕ) (choice : Choice) → s ≤ x → tables_of b ≡ [] → IsSegmentByte b (x - s) v → Holds b s choice x v
-memory_found b s x v choice behind none byte =
-    let here : x - s + s ≡ x = omega (arith, behind) in
-    subst (λ y. Holds b s choice y v) here (unfixed_byte_is_held b s choice (x - s) v (uncovered b none (x - s)) byte)
-
-pub memory_lacks : (b : List ℕ) (s x v : ℕ) (choice : Choice) → tables_of b ≡ [] → (IsSegmentByte b (x - s) v → ⊥) → Holds b s choice x v
-    → ⊥
-memory_lacks b s x v choice none lacks held =
-    let here : held.a ≡ x - s = omega (arith, held.slid) in
-    elim held.byte [
-      | inl chained ↦ uncovered b none held.a chained.word_at chained.covers
-      | inr plain ↦ lacks (subst (λ y. IsSegmentByte b y v) here plain.1)
-    ]

@@ -2,17 +2,22 @@
 --
 -- A section, a symbol, a relocation or a command that fails a test breaks its rule, at the record's place, since the commands are
 -- whole and the tables stand inside the file. Where the commands of a number aren't one, there is none or a second one.
-use Rattle.std.proofs.Common.{◌≡◌, ℕ, ◌==◌, ◌<◌, ◌⊎◌, Bool, true, List, [], ◌∷◌, length, get_or, refl, sym, ap, subst, arith, inl, inr}
+use Rattle.std.proofs.Common.{◌≡◌, ℕ, ◌==◌, ◌<◌, ◌⊎◌, Bool, true, List, [], ◌∷◌, length, get_or, refl, sym, ap, subst, arith, inl, inr, ◌+◌, ◌||◌, false}
 use Rattle.std.proofs.lemmas.List.{get_or_default}
 use Rattle.macho_records.specs.declared.constants.TheConstants.{LC_ID_DYLIB, LC_SEGMENT_64, LC_SYMTAB, MH_DYLIB, MH_OBJECT}
 use Rattle.macho_model.specs.declared.rules.ObjectRule.{ObjectRule}
 use Rattle.macho_model.specs.declared.rules.ObjectRule.TheVariants.{O1, O2, O3, O4, O5, O6, O7, O8, O9, O10, O11, O12, O13, O14}
 use Rattle.macho_model.specs.Commands.{Command, commands_of, numbered, place_of, command_fits}
 use Rattle.macho_model.specs.ObjectRules.{head_fits, commands_inside, needed_in_object, needed_in_dylib, has_one, tables_inside, section_keeps, symbol_keeps, relocation_keeps, path_ends}
-use Rattle.macho_model.specs.Objects.{section_at, symbol_at, relocation_at}
-use Rattle.macho_model.specs.Grammar.{EachCommand, AreWhole, IsObject, IsDylib, SectionFails, SymbolFails, RelocationFails, CommandFails, IsNotOne, ObjectBreaks, DylibBreaks}
+use Rattle.macho_model.specs.Objects.{section_at, symbol_at, relocation_at, num_sections, section_bytes, num_symbols}
+use Rattle.macho_model.specs.Grammar.{EachCommand, AreWhole, IsObject, IsDylib, SectionFails, SymbolFails, RelocationFails, CommandFails, IsNotOne, ObjectBreaks, DylibBreaks, IsFile}
 use Rattle.macho_model.specs.ObjectLaws.{EachSection, EachSymbol, EachRelocation, KeepsObjectRules, KeepsDylibRules}
-use Rattle.macho_model.proofs.EachBelow.{not_false, true_or_false, is_equal}
+use Rattle.macho_bytes.proofs.Bools.{not_false, true_or_false, is_equal, and_left, or_right}
+use Rattle.std.specs.Prelude.{nat_le, slice_range, nat_lt}
+use Rattle.std.proofs.lemmas.Bool.{leb-true, ltb-true}
+use Rattle.macho_records.specs.Sections.{is_zerofill}
+use Rattle.std.proofs.lemmas.List.Edits.{length-between}
+use Rattle.macho_model.specs.steps.RecordTests.{relocation_number_exists}
 
 -- where no record fails a rule's test, each one passes it
 sections_pass : (b : List ℕ) (rule : ObjectRule) → ((place : ℕ) → SectionFails b rule place → ⊥) → EachSection b rule
@@ -131,7 +136,7 @@ relocation_fails : (b : List ℕ) (place : ℕ) (rule : ObjectRule) → Relocati
 relocation_fails b place rule (k, r, within, inside, among, told, fails) each =
     true_or_false (relocation_keeps b rule (section_at b k) (relocation_at b k r)) (each k r within among) fails
 
-command_fails : (cs : List Command) (place : ℕ) (test : Command → Bool) → CommandFails cs place test → EachCommand cs test → ⊥
+pub command_fails : (cs : List Command) (place : ℕ) (test : Command → Bool) → CommandFails cs place test → EachCommand cs test → ⊥
 command_fails cs place test (k, c, (within, is), told, fails) each =
     true_or_false (test c) (subst (λ x. test x ≡ true) is (each k c within)) fails
 
@@ -206,3 +211,25 @@ kept_object {b} o = record { unbroken = λ rule place h. unbroken_object b rule 
 
 pub kept_dylib : {b : List ℕ} → KeepsDylibRules b → IsDylib b
 kept_dylib {b} d = record { unbroken = λ rule place h. unbroken_dylib b rule place d h }
+
+-- the bytes of a section that has them in the file
+pub section_long : (b : List ℕ) (k : ℕ) → KeepsObjectRules b → k < num_sections b → is_zerofill (section_at b k) ≡ false
+    → length (section_bytes b k) ≡ (section_at b k).size
+unfolding section_bytes
+section_long b k object among filled =
+    let h = section_at b k in
+    let end = h.offset + h.size in
+    let inside = leb-true end (length b) (or_right (is_zerofill h) (nat_le end (length b))
+    (and_left (is_zerofill h || nat_le end (length b)) _ (object.o6 k among)) filled) in
+    let long : length (slice_range b h.offset end) ≡ h.size = omega (arith, inside, length-between b h.offset end) in
+    rw filled long
+
+pub keeps_of : (dyn : Bool) (b : List ℕ) → dyn ≡ false → IsFile dyn b → KeepsObjectRules b
+keeps_of dyn b static kept =
+    let whole : IsFile false b = subst (λ (d : Bool). IsFile d b) static kept in object_keeps whole
+
+-- what a relocation names is there
+pub symbol_exists : (b : List ℕ) (k r : ℕ) → relocation_number_exists b k r ≡ true → (relocation_at b k r).r_extern ≡ true
+    → (relocation_at b k r).r_symbolnum < num_symbols b
+symbol_exists b k r h extern =
+    let test : nat_lt (relocation_at b k r).r_symbolnum (num_symbols b) ≡ true = rw extern at h in ltb-true _ _ test

@@ -1,8 +1,7 @@
 -- The output sections by constructors are those of the records, with the same headers, and least places of the one are those of the other.
 --
 -- Each constructor has its record, which has the same pieces. So the lists are the same one by one, and rows, pieces and sizes with them.
-use Rattle.std.proofs.Common.{◌≡◌, ℕ, ◌+◌, ◌-◌, ◌%◌, nat_lt, ◌==◌, ◌&&◌, not, Bool, true, false, List, [], ◌∷◌, ◌++◌, map, filter, length, get_or, All, refl, sym, ap, ◌∙◌, subst}
-use Rattle.std.proofs.Common.{cond}
+use Rattle.std.proofs.Common.{◌≡◌, ℕ, ◌+◌, ◌-◌, ◌%◌, nat_lt, ◌==◌, ◌&&◌, not, Bool, true, false, List, [], ◌∷◌, ◌++◌, map, filter, length, get_or, All, refl, sym, ap, ◌∙◌, subst, cond}
 use Rattle.std.specs.List.{flat_map, position_or_len}
 use Rattle.std.specs.Str.{bytes_eq}
 use Rattle.std.specs.Prelude.{codes, if◌then◌else◌}
@@ -20,16 +19,12 @@ use Rattle.macho_model.specs.Targets.{slots_of, stubs_of}
 use Rattle.macho_model.specs.Segments.{TEXT, DATA_CONST, DATA, PAGEZERO, LINKEDIT, PAGEZERO_SIZE, SEGMENT_PAGE, OutputKey, same_key, common_key, list_if, output_keys_of, segment_names_of}
 use Rattle.macho_model.specs.WrittenSum.{STUB_SIZE}
 use Rattle.macho_model.specs.Placement.{Placed, Piece, stub_piece, slot_piece, range_piece}
-use Rattle.macho_model.specs.OutputSections.{OutputSection as Section, merged, is_zeros, is_code, around, sections_of_text, sections_of_data, sections_of_other}
-use Rattle.macho_model.specs.OutputSections.{merged_in as records_in, output_sections_in as sections_of_segment, output_sections_of as all_sections}
-use Rattle.macho_model.specs.OutputSections.{extent_of as extent, output_header as header, output_sections_for as headers_for}
+use Rattle.macho_model.specs.OutputSections.{OutputSection as Section, merged, is_zeros, is_code, around, sections_of_text, sections_of_data, sections_of_other, merged_in as records_in, output_sections_in as sections_of_segment, output_sections_of as all_sections, extent_of as extent, output_header as header, output_sections_for as headers_for}
 use Rattle.macho_model.specs.Order.{BeginsLeast, used_by, row_of as row, AreLeast as StandLeast, least_size as size_of_row, least_file_size as file_size_of_row}
 use Rattle.macho_model.specs.SymbolEntries.{section_number}
-use Rattle.macho_model.specs.steps.Outputs.{OutputSection, Merged, InitOffsets, UnwindInfo, Stubs, Slots, merged_in, output_sections_in, output_sections_of, pieces_of}
-use Rattle.macho_model.specs.steps.Outputs.{sections_of_text as kinds_of_text, sections_of_data as kinds_of_data, sections_of_other as kinds_of_other}
-use Rattle.macho_model.specs.steps.Outputs.{extent_of, output_header, output_sections_for, key_of_output, is_merged}
+use Rattle.macho_model.specs.steps.Outputs.{OutputSection, Merged, InitOffsets, UnwindInfo, Stubs, Slots, merged_in, output_sections_in, output_sections_of, pieces_of, sections_of_text as kinds_of_text, sections_of_data as kinds_of_data, sections_of_other as kinds_of_other, extent_of, output_header, output_sections_for, key_of_output, is_merged}
 use Rattle.macho_model.specs.steps.Least.{front_of, row_of, sections_in, filled_in, AreLeast, least_size, least_file_size}
-use Rattle.macho_model.proofs.Parts.{all_unmap}
+use Rattle.macho_bytes.proofs.Members.{all_unmap}
 
 -- the record of a section that the linker makes
 abbrev made_one : List ℕ → List ℕ → ℕ → ℕ → (Placed → List Piece) → Section

@@ -2,11 +2,10 @@
 --
 -- The list of pieces is that of ranges, with alignments. So an alignment of each piece is one of each section, common, slot and stub; what
 -- has exponent 0 has no other. Pieces are apart where their ranges are.
-use Rattle.std.proofs.Common.{◌≡◌, ℕ, ◌+◌, ◌%◌, ◌^◌, ◌≤◌, ◌⊎◌, Bool, true, false, List, [], ◌∷◌, ◌++◌, map, length, get_or, All, refl, sym, ap, ◌∙◌}
-use Rattle.std.proofs.Common.{subst, arith, inl, inr, Some, None}
+use Rattle.std.proofs.Common.{◌≡◌, ℕ, ◌+◌, ◌%◌, ◌^◌, ◌≤◌, ◌⊎◌, Bool, true, false, List, [], ◌∷◌, ◌++◌, map, length, get_or, All, refl, sym, ap, ◌∙◌, subst, arith, inl, inr, Some, None}
 use Rattle.std.specs.Prelude.{AllPairs, Option, IsPermutation}
 use Rattle.std.proofs.lemmas.List.Sorted.{IsPermutation-refl}
-use Rattle.std.proofs.lemmas.List.{get_or_append_left, get_or-append-add, get_or-map, length-map, length-append, map-append}
+use Rattle.std.proofs.lemmas.List.{map-append}
 use Rattle.std.proofs.lemmas.List.Elements.{All-nil, All-cons, All-tail, All-append, All-map, All-weaker}
 use Rattle.macho_records.specs.Segments.{text_of, name_field}
 use Rattle.macho_model.specs.declared.placed.Counts.{Counts}
@@ -15,12 +14,12 @@ use Rattle.macho_model.specs.declared.placed.PlacedSection.{PlacedSection}
 use Rattle.macho_model.specs.declared.placed.Range64.{Range64}
 use Rattle.macho_model.specs.Links.{Link}
 use Rattle.macho_model.specs.Segments.{TEXT, DATA_CONST, DATA, LINKEDIT, segment_names_of}
-use Rattle.macho_model.specs.Placement.{Placed, Piece, section_piece, common_piece, slot_piece, stub_piece, range_piece, mapped_table, head_size, pieces_with}
-use Rattle.macho_model.specs.Placement.{linkedit_ranges, AreApart as ArePiecesApart, LiesIn as PieceLies, IsInNamed, SectionLies as SectionPieceLies}
-use Rattle.macho_model.specs.Placement.{IsInSegment as ArePiecesIn, TemplateHolds as PieceTemplate, IsWholeList, IsPlaced}
+use Rattle.macho_model.specs.Placement.{Placed, Piece, section_piece, common_piece, slot_piece, stub_piece, range_piece, mapped_table, head_size, pieces_with, linkedit_ranges, AreApart as ArePiecesApart, LiesIn as PieceLies, IsInNamed, SectionLies as SectionPieceLies, IsInSegment as ArePiecesIn, TemplateHolds as PieceTemplate, IsWholeList, IsPlaced}
 use Rattle.macho_model.specs.Zeros.{Span}
 use Rattle.macho_model.specs.Spans.{AreApart, section_span, common_span, slot_span, stub_span, range_span, head_span, spans_with, IsInOrder, StandInOrder}
 use Rattle.macho_model.specs.steps.Parts.{LiesIn, LiesInNamed, SectionLies, TableLies, RangeLies, IsAligned, IsInSegment, TemplateHolds}
+use Rattle.macho_bytes.proofs.Pairs.{pairs_map, pairs_unmap}
+use Rattle.macho_bytes.proofs.Members.{all_left, all_right, all_unmap}
 
 -- equal lists are in one order
 pub same_order : {X : Type 0} {xs ys : List X} → xs ≡ ys → IsPermutation xs ys
@@ -33,29 +32,6 @@ span c = record { start = c.start; size = c.size }
 -- an address of a piece is a multiple of its alignment
 abbrev pub IsEven : Piece → Type 0
 IsEven c = c.start % 2 ^ c.exponent ≡ 0
-
-all_left : {X : Type 0} (P : X → Type 0) (xs ys : List X) → All P (xs ++ ys) → All P xs
-all_left P xs ys h k d lt = subst P (get_or_append_left xs ys d k lt) (h k d (omega (arith, lt, length-append xs ys)))
-
-all_right : {X : Type 0} (P : X → Type 0) (xs ys : List X) → All P (xs ++ ys) → All P ys
-all_right P xs ys h k d lt = subst P (get_or-append-add xs ys k d) (h (length xs + k) d (omega (arith, lt, length-append xs ys)))
-
-pub all_unmap : {X Y : Type 0} (P : Y → Type 0) (f : X → Y) (xs : List X) → All P (map f xs) → All (λ x. P (f x)) xs
-all_unmap P f xs h k d lt = subst P (get_or-map f xs k d (f d) lt) (h k (f d) (omega (arith, lt, length-map xs f)))
-
-pairs_map : {X Y : Type 0} (R : Y → Y → Type 0) (f : X → Y) (xs : List X) → AllPairs (λ a b. R (f a) (f b)) xs → AllPairs R (map f xs)
-pairs_map R f [] h i j d before within = absurd (omega (arith, within))
-pairs_map {X} {Y} R f (x ∷ xs) h i j d before within =
-    let long = length-map (x ∷ xs) f in
-    subst (λ a. R a (get_or (map f (x ∷ xs)) j d)) (sym (get_or-map f (x ∷ xs) i x d (omega (arith, before, within, long))))
-    (subst (R (f (get_or (x ∷ xs) i x))) (sym (get_or-map f (x ∷ xs) j x d (omega (arith, within, long))))
-    (h i j x before (omega (arith, within, long))))
-
-pairs_unmap : {X Y : Type 0} (R : Y → Y → Type 0) (f : X → Y) (xs : List X) → AllPairs R (map f xs) → AllPairs (λ a b. R (f a) (f b)) xs
-pairs_unmap R f xs h i j d before within =
-    let long = length-map xs f in
-    subst (λ a. R a (f (get_or xs j d))) (get_or-map f xs i d (f d) (omega (arith, before, within)))
-    (subst (R (get_or (map f xs) i (f d))) (get_or-map f xs j d (f d) within) (h i j (f d) before (omega (arith, within, long))))
 
 map_twice : {X : Type 0} (f : X → Piece) (g : X → Span) → ((x : X) → span (f x) ≡ g x) → (xs : List X) → map span (map f xs) ≡ map g xs
 map_twice f g same [] = refl

@@ -18,8 +18,8 @@ use Rattle.macho_model.specs.Stands.{Pointer, Kind, kind_of, is_in_template, is_
 use Rattle.macho_model.specs.steps.Stands.{SaysOf}
 use Rattle.macho_model.specs.Values.{is_absolute_target}
 use Rattle.macho_model.specs.HeldLaws.{IsFree}
-use Rattle.macho_model.proofs.EachBelow.{true_or_false, and_right, or_right}
 use Rattle.macho_model.proofs.FieldSlides.{defined_moves, number_moves}
+use Rattle.macho_bytes.proofs.Bools.{true_or_false, and_right, or_right}
 
 -- an offset from the template: the target and the template's start move alike
 offset_stays : (template : Option Range64) (word x y s : ℕ) → y ≡ x + s → PointerSays true template 0 word x

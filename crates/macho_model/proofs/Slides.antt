@@ -69,13 +69,3 @@ adds_slides word input x s whole h =
 
 pub loads_slides : (word input slot s : ℕ) → s % 4096 ≡ 0 → LoadsFrom word input slot → LoadsFrom word input (slot + s)
 loads_slides word input slot s whole h = record { load = h.load; reaches = h.reaches ∙ sym (low_slides slot s whole); kept = h.kept }
-
--- a stub goes through its slot at every slide of whole pages
-pub through_slides : (place slot adrp ldr br s : ℕ) → s % 4096 ≡ 0 → GoesThrough place slot adrp ldr br
-    → GoesThrough (place + s) (slot + s) adrp ldr br
-through_slides place slot adrp ldr br s whole h =
-    record {
-      pages = page_of_slides place adrp 0x90000010 slot s whole h.pages;
-      loads = loads_slides ldr 0xf9400210 slot s whole h.loads;
-      leaves = h.leaves;
-    }

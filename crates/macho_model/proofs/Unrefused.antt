@@ -13,11 +13,10 @@ use Rattle.macho_model.specs.Needs.{initializer_sections, unwind_sections, reloc
 use Rattle.macho_model.specs.Rows.{is_supported, share_byte, are_pair}
 use Rattle.macho_model.specs.Consumed.{initializer_section_fits, initializer_slot_fits, entry_count, whole_entries, keeps}
 use Rattle.macho_model.specs.Limits.{limited}
-use Rattle.macho_model.specs.Faults.{LinkFault, BadInitializer, BadUnwind, UnsupportedRelocation, OverlappingFields, TooMany, BadName}
-use Rattle.macho_model.specs.Faults.{FaultStands, kept_placement}
+use Rattle.macho_model.specs.Faults.{LinkFault, BadInitializer, BadUnwind, UnsupportedRelocation, OverlappingFields, TooMany, BadName, FaultStands, kept_placement}
 use Rattle.macho_model.specs.Supported.{RelocationsAreSupported}
 use Rattle.macho_model.specs.Valid.{IsValid}
-use Rattle.macho_model.proofs.EachBelow.{not_false}
+use Rattle.macho_bytes.proofs.Bools.{not_false}
 
 abbrev pub is_bad_name : LinkFault → Bool
 is_bad_name BadName = true

@@ -23,11 +23,11 @@ use Rattle.macho_model.specs.Consumed.{EntryId, entries_of_link, entry_count, re
 use Rattle.macho_model.specs.Made.{initializers_of}
 use Rattle.macho_model.specs.Uses.{Use, ByRelocation, ByInitializer, ByPersonality, ByName, initializer_uses, personality_uses, uses_of, global_name, name_used, slot_of_use, stub_of_use}
 
-map_flat : {X Y Z : Type 0} (h : Y → Z) (f : X → List Y) (xs : List X) → map h (flat_map f xs) ≡ flat_map (λ x. map h (f x)) xs
+pub map_flat : {X Y Z : Type 0} (h : Y → Z) (f : X → List Y) (xs : List X) → map h (flat_map f xs) ≡ flat_map (λ x. map h (f x)) xs
 map_flat h f [] = refl
 map_flat h f (x ∷ xs) = map-append h (f x) (flat_map f xs) ∙ ap (λ zs. map h (f x) ++ zs) (map_flat h f xs)
 
-flat_alike : {X Y : Type 0} (f g : X → List Y) (xs : List X) → ((x : X) → f x ≡ g x) → flat_map f xs ≡ flat_map g xs
+pub flat_alike : {X Y : Type 0} (f g : X → List Y) (xs : List X) → ((x : X) → f x ≡ g x) → flat_map f xs ≡ flat_map g xs
 flat_alike f g [] same = refl
 flat_alike f g (x ∷ xs) same = ap (λ ys. ys ++ flat_map f xs) (same x) ∙ ap (λ ys. g x ++ ys) (flat_alike f g xs same)
 
@@ -126,7 +126,7 @@ uses_are l =
     (sym (made_of_personalities ByPersonality l))
 
 -- what is asked of lists that are made of others
-asked_map : {X Y Z : Type 0} (h : Y → Option Z) (g : X → Y) (xs : List X) → filter_map h (map g xs) ≡ filter_map (λ x. h (g x)) xs
+pub asked_map : {X Y Z : Type 0} (h : Y → Option Z) (g : X → Y) (xs : List X) → filter_map h (map g xs) ≡ filter_map (λ x. h (g x)) xs
 asked_map h g [] = refl
 asked_map h g (x ∷ xs) = ap (λ zs. cons_option (h (g x)) zs) (asked_map h g xs)
 
@@ -287,7 +287,7 @@ pub initializers_are : (l : Link)
 unfolding initializers_of
 initializers_are l = made_of_initializers (target_of_relocation l) l
 
-flat_flat : {X Y Z : Type 0} (h : Y → List Z) (f : X → List Y) (xs : List X)
+pub flat_flat : {X Y Z : Type 0} (h : Y → List Z) (f : X → List Y) (xs : List X)
     → flat_map h (flat_map f xs) ≡ flat_map (λ x. flat_map h (f x)) xs
 flat_flat h f [] = refl
 flat_flat h f (x ∷ xs) = flat_map-append h (f x) (flat_map f xs) ∙ ap (λ zs. flat_map h (f x) ++ zs) (flat_flat h f xs)

@@ -3,8 +3,7 @@
 -- These rules speak of each command, table or import, which are finitely many, so each has a test that is true exactly
 -- where the rule is kept. The last rule speaks of each word on the chain, and is shown apart. So the tests, computed,
 -- show of an example that it is accepted, or which rule it breaks, and that it keeps the others.
-use Rattle.std.proofs.Common.{◌≡◌, ◌≢◌, ℕ, ◌+◌, ◌-◌, nat_le, ◌==◌, Bool, true, false, not, ◌&&◌, List, [], ◌∷◌, length, get_or, map, refl}
-use Rattle.std.proofs.Common.{sym, ap, ◌∙◌, arith}
+use Rattle.std.proofs.Common.{◌≡◌, ◌≢◌, ℕ, ◌+◌, ◌-◌, nat_le, ◌==◌, Bool, true, false, not, ◌&&◌, List, [], ◌∷◌, length, get_or, map, refl, sym, ap, ◌∙◌, arith}
 use Rattle.std.specs.List.{list_all}
 use Rattle.std.proofs.lemmas.Bool.{leb-true, le-leb}
 use Rattle.std.proofs.lemmas.List.{get_or_default}
@@ -16,15 +15,15 @@ use Rattle.macho_model.specs.Commands.{commands_of, command_fits}
 use Rattle.macho_model.specs.ObjectRules.{commands_inside}
 use Rattle.macho_model.specs.Segments.{TEXT}
 use Rattle.macho_model.specs.Images.{segments_of, segments_named, tables_of, fixups_header}
-use Rattle.macho_model.specs.LoadRules.{image_head_fits, needed_in_image, protections_fit}
-use Rattle.macho_model.specs.LoadRules.{table_fits, import_fits}
+use Rattle.macho_model.specs.LoadRules.{image_head_fits, needed_in_image, protections_fit, table_fits, import_fits}
 use Rattle.macho_model.specs.Loader.{IsAccepted}
-use Rattle.macho_model_walks.specs.steps.WordTests.{EachWordFits}
-use Rattle.macho_model_walks.specs.steps.Asked.{LoadKeeps}
-use Rattle.macho_model.proofs.EachBelow.{each_below, true_or_false, and_left, and_right, and_both, is_equal, equal_is, same_number}
-use Rattle.macho_model.proofs.EachBelow.{other_number, all_pass, pass_all, below_pass, pass_below}
+use Rattle.macho_image_walks.specs.steps.WordTests.{EachWordFits}
+use Rattle.macho_image_walks.specs.steps.Asked.{LoadKeeps}
+use Rattle.macho_model.proofs.EachBelow.{each_below, below_pass, pass_below}
 use Rattle.macho_model.specs.Lists.{EachNext}
 use Rattle.macho_model.specs.SegmentRules.{segment_ends, begins_behind, file_part_inside, segment_is_paged, text_holds_commands}
+use Rattle.macho_bytes.proofs.Bools.{true_or_false, and_left, and_right, and_both, is_equal, equal_is, same_number, other_number}
+use Rattle.macho_bytes.proofs.Members.{all_pass, pass_all}
 
 -- an image that keeps each rule is accepted
 pub accepted_keeping : (b : List ℕ) → ((rule : LoadRule) → LoadKeeps b rule) → IsAccepted b

@@ -15,8 +15,9 @@ use Rattle.macho_model.specs.ObjectRules.{head_fits, commands_inside, needed_in_
 use Rattle.macho_model.specs.Grammar.{EachCommand, IsObject}
 use Rattle.macho_model.specs.ObjectLaws.{EachSection, EachSymbol, EachRelocation, KeepsObjectRules}
 use Rattle.macho_model.proofs.ObjectLaws.{object_keeps, kept_object}
-use Rattle.macho_model.proofs.EachBelow.{each_below, true_or_false, and_left, and_right, and_both, same_number, other_number, all_pass}
-use Rattle.macho_model.proofs.EachBelow.{pass_all, below_pass, pass_below}
+use Rattle.macho_model.proofs.EachBelow.{each_below, below_pass, pass_below}
+use Rattle.macho_bytes.proofs.Bools.{true_or_false, and_left, and_right, and_both, same_number, other_number}
+use Rattle.macho_bytes.proofs.Members.{all_pass, pass_all}
 
 -- what an object keeps, rule by rule: the fields of `KeepsObjectRules`
 abbrev pub Keeps : List ℕ → ObjectRule → Type 0

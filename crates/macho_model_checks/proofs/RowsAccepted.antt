@@ -17,26 +17,20 @@ use Rattle.macho_model.specs.Lists.{IsNumber}
 use Rattle.macho_model.specs.Chain.{ChainSegment, chain_segment, chain_segments, OnPageChain}
 use Rattle.macho_model.specs.Chain as chain
 use Rattle.macho_model.specs.Loader.{IsAccepted}
-use Rattle.macho_model_walks.specs.steps.Asked.{LoadKeeps}
-use Rattle.macho_model_walks.specs.steps.WordTests.{word_fits_test}
+use Rattle.macho_image_walks.specs.steps.Asked.{LoadKeeps}
+use Rattle.macho_image_walks.specs.steps.WordTests.{word_fits_test}
 use Rattle.macho_model_checks.proofs.Examples.{words8, words, halves, name16, changed}
 use Rattle.macho_model_checks.proofs.ExampleImages.{image_with_fixups, one_page, data_command}
-use Rattle.macho_model.proofs.EachBelow.{true_or_false, is_equal}
-use Rattle.macho_model_checks.proofs.ValidTests.{one_passes}
-use Rattle.macho_model_checks.proofs.LoaderTests.{HasTest, load_number, load_verdict, load_all_but, load_all_pass, is_accepted}
-use Rattle.macho_model_checks.proofs.LoaderTests.{load_breaks_alone, load_kept}
-use Rattle.macho_model_walks.proofs.WordFitting.{fits_word}
+use Rattle.macho_model_checks.proofs.LoaderTests.{HasTest, load_number, load_verdict, load_all_but, load_all_pass, is_accepted, load_breaks_alone, load_kept}
+use Rattle.macho_image_walks.proofs.WordFitting.{fits_word}
 use Rattle.macho_model.proofs.PageChains.{number_in_chain}
+use Rattle.macho_bytes.proofs.Bools.{true_or_false, is_equal}
+use Rattle.macho_bytes.proofs.Members.{one_passes}
+use Rattle.macho_image_walks.proofs.ChainSets.{page_has_start}
 
 -- no segment has a page start
 abbrev pub has_no_start : List ℕ → Bool
 has_no_start b = list_all (λ (s : ChainSegment). length s.starts == 0) (chain_segments b)
-
--- a page with a chain has a start
-page_has_start : (segments : List ChainSegment) (b : List ℕ) (s : ChainSegment) (page a : ℕ) → OnPageChain segments b s page a
-    → page < length s.starts
-page_has_start segments b s page _ (chain.OnPageChain.first within starts) = within
-page_has_start segments b s page _ (chain.OnPageChain.next a word on stands goes) = page_has_start segments b s page a on
 
 -- so without page starts the rule on chain words is kept
 pub no_words : (b : List ℕ) → has_no_start b ≡ true → LoadKeeps b L10

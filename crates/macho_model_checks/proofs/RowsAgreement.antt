@@ -21,8 +21,7 @@ use Rattle.macho_model.specs.Agreement.{SegmentsAgree, section_headers_at, secti
 use Rattle.macho_model.specs.Head.{HeadSays, commands_for, head_for}
 use Rattle.macho_model_checks.proofs.Examples.{words8, words, name16}
 use Rattle.macho_model_checks.proofs.ExampleImages.{smallest}
-use Rattle.macho_model_checks.proofs.ExamplePlacement.{counts_a, placed_a, placed_with, pagezero_to, text_from, header_a, section_a}
-use Rattle.macho_model_checks.proofs.ExamplePlacement.{nothing, no_tables}
+use Rattle.macho_model_checks.proofs.ExamplePlacement.{counts_a, placed_a, placed_with, pagezero_to, text_from, header_a, section_a, nothing, no_tables}
 use Rattle.macho_model_checks.proofs.LoaderTests.{load_verdict, load_all_pass}
 use Rattle.macho_bytes.specs.Spellings.{spelling}
 use Rattle.macho_model.specs.steps.Agreement.{SegmentPlace, place_by_command}

@@ -2,39 +2,35 @@
 --
 -- Each part is computed twice: from the bytes that were written out by hand, and from the link and its placement. So the
 -- definitions of header, commands, symbols, imports and section headers are those of the public headers, in this instance.
-use Rattle.std.proofs.Common.{◌≡◌, ℕ, zero, suc, ◌+◌, ◌^◌, ◌<◌, ◌==◌, ◌&&◌, if◌then◌else◌, List, Some, [], ◌∷◌, length, get_or, map, refl, ap, ◌∙◌}
-use Rattle.std.proofs.Common.{sym, arith, true}
+use Rattle.std.proofs.Common.{◌≡◌, ℕ, zero, suc, ◌+◌, ◌^◌, ◌<◌, ◌==◌, ◌&&◌, if◌then◌else◌, List, Some, [], ◌∷◌, length, get_or, map, refl, ap, ◌∙◌, sym, arith, true}
 use Rattle.std.specs.Prelude.{codes, slice_range}
 use Rattle.std.specs.List.{range_with_len}
 use Rattle.macho_records.specs.declared.symbols.SymtabEntry.{SymtabEntry}
 use Rattle.macho_bytes.specs.Numbers.{le_at, le_bytes, be_at, be_bytes, row_bytes}
 use Rattle.macho_bytes.specs.Layouts.{reading}
-use Rattle.macho_structs.specs.Layouts.{uuid_command, code_directory}
+use Rattle.macho_wire.specs.Layouts.{uuid_command, code_directory}
 use Rattle.macho_records.specs.declared.constants.TheConstants.{LC_UUID}
 use Rattle.macho_model.specs.declared.placed.Counts.{Counts}
 use Rattle.macho_model.specs.Placement.{Placed, head_size}
 use Rattle.macho_model.specs.Chain.{chain_segments}
 use Rattle.macho_model.specs.Exports.{library_number}
 use Rattle.macho_model.specs.Commands.{numbered, header_of, commands_from, commands_of, commands_end}
-use Rattle.macho_model.specs.Objects.{num_sections, section_place, section_at, section_bytes, symtab_of, num_symbols}
-use Rattle.macho_model.specs.Objects.{symbol_place, symbol_at, strings_of, symbol_name, relocation_place, relocation_at}
+use Rattle.macho_model.specs.Objects.{num_sections, section_place, section_at, section_bytes, symtab_of, num_symbols, symbol_place, symbol_at, strings_of, symbol_name, relocation_place, relocation_at}
 use Rattle.macho_model.specs.ExportLists.{plain_entries, all_entries, entries_of}
 use Rattle.macho_model.specs.Links.{Link, sections_of, carried_of, template_exponent, placed_exponent}
-use Rattle.macho_model.specs.Resolution.{symbols_of, strong_of, commons_of, greatest_of, libraries_with, definition_of}
+use Rattle.macho_model.specs.Resolution.{symbols_of, strong_of, commons_of, greatest_of, libraries_with, definition_of, chosen_commons}
 use Rattle.macho_model.specs.steps.Resolved.{weak_of}
-use Rattle.macho_model.specs.Resolution.{chosen_commons}
 use Rattle.macho_model.specs.Needs.{initializer_sections, unwind_sections, imports_of, import_library, libraries_needed, carried_relocations, initializer_relocations, personality_relocations}
 use Rattle.macho_model.specs.Targets.{target_of, target_of_relocation, slots_of, stubs_of}
 use Rattle.macho_model.specs.Fields.{fields_of}
 use Rattle.macho_model.specs.Segments.{other_segments, segment_names_of, output_keys_of, segments_for}
 use Rattle.macho_model.specs.steps.Outputs.{output_sections_of, output_sections_for, pieces_of}
-use Rattle.macho_model.specs.Images.{import_entry, segments_of, mapped_segments, base_of, libraries_of, Table, tables_of, tries_of}
-use Rattle.macho_model.specs.Images.{signatures_of, symbol_tables_of, string_tables_of, entries_of_file}
+use Rattle.macho_model.specs.Images.{import_entry, segments_of, mapped_segments, base_of, libraries_of, Table, tables_of, tries_of, signatures_of, symbol_tables_of, string_tables_of, entries_of_file}
 use Rattle.macho_model.specs.Loader.{IsAccepted}
 use Rattle.macho_model.specs.Fixups.{own_entries, import_entries_of, entries_have_addends}
 use Rattle.macho_model.specs.Addresses.{section_address, common_address, slot_address}
 use Rattle.macho_model.specs.Agreement.{SegmentsAgree, section_headers_of, section_headers_at, TablesAgree}
-use Rattle.macho_structs.specs.declared.signature.CodeDirectory.{CodeDirectory}
+use Rattle.macho_wire.specs.declared.signature.CodeDirectory.{CodeDirectory}
 use Rattle.macho_model.specs.Signature.{uuid_written, UuidSays, identifier_text}
 use Rattle.macho_model.specs.Faults.{last_part}
 use Rattle.macho_model.specs.Head as head
@@ -46,12 +42,11 @@ use Rattle.macho_model.specs.ImportTable.{fixup_count, names_text, name_of_entry
 use Rattle.macho_model_checks.proofs.RowsAgreement.{flags_byte}
 use Rattle.macho_model_checks.proofs.Examples.{words8, words, halves, name16, changed}
 use Rattle.macho_model_checks.proofs.ExampleLinks.{entry}
-use Rattle.macho_model_checks.proofs.ExampleCall.{calls_exit, calling, counts_of_call, placed_call, uuid_given, head_of_call}
-use Rattle.macho_model_checks.proofs.ExampleCall.{fixups_of_call, tables_of_call, big_words, signature_of_call, call_image}
+use Rattle.macho_model_checks.proofs.ExampleCall.{calls_exit, calling, counts_of_call, placed_call, uuid_given, head_of_call, fixups_of_call, tables_of_call, big_words, signature_of_call, call_image}
 use Rattle.macho_model_checks.proofs.LoaderTests.{load_test, load_test_shows, accepted_keeping}
 use Rattle.macho_model.specs.declared.rules.LoadRule.{LoadRule}
 use Rattle.macho_model.specs.declared.rules.LoadRule.TheVariants.{L1, L2, L3, L4, L5, L6, L7, L8, L9, L10}
-use Rattle.macho_model_walks.specs.steps.Asked.{LoadKeeps}
+use Rattle.macho_image_walks.specs.steps.Asked.{LoadKeeps}
 use Rattle.macho_model_checks.proofs.WordsBySegment.{segments_pass, words_fit_in}
 use Rattle.macho_bytes.specs.Spellings.{spelling}
 use Rattle.macho_model.specs.OutputSections.{output_sections_for as headers_for, output_sections_of as all_sections}
@@ -86,7 +81,7 @@ pub call_sections : headers_for calling counts_of_call placed_call ≡ placed_ca
 call_sections = headers_same calling counts_of_call placed_call ∙ kinds_of_call
 
 -- THE header and the thirteen commands, byte for byte: 32 and 888 bytes
-call_long : length call_image ≡ 49948
+pub call_long : length call_image ≡ 49948
 unfolding commands_end commands_of commands_from header_of reading le_at row_bytes le_bytes words8 words halves name16 entry calls_exit
     head_of_call fixups_of_call tables_of_call be_at be_bytes big_words signature_of_call call_image
 call_long = refl

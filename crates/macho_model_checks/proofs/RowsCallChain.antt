@@ -12,31 +12,27 @@ use Rattle.macho_model.specs.declared.placed.Slot.{Slot}
 use Rattle.macho_model.specs.declared.placed.PlacedSection.{PlacedSection}
 use Rattle.macho_model.specs.declared.targets.Target.TheVariants as target
 use Rattle.macho_model.specs.Commands.{header_of, commands_from, commands_of, commands_end}
-use Rattle.macho_model.specs.Objects.{num_sections, section_place, section_at, section_bytes, symtab_of, num_symbols}
-use Rattle.macho_model.specs.Objects.{symbol_place, symbol_at, strings_of, symbol_name, relocation_place, relocation_at}
+use Rattle.macho_model.specs.Objects.{num_sections, section_place, section_at, section_bytes, symtab_of, num_symbols, symbol_place, symbol_at, strings_of, symbol_name, relocation_place, relocation_at}
 use Rattle.macho_model.specs.ExportLists.{plain_entries, all_entries, entries_of}
 use Rattle.macho_model.specs.Links.{sections_of, carried_of, template_exponent, placed_exponent}
-use Rattle.macho_model.specs.Resolution.{symbols_of, strong_of, commons_of, greatest_of, libraries_with, definition_of}
-use Rattle.macho_model.specs.Resolution.{chosen_commons}
+use Rattle.macho_model.specs.Resolution.{symbols_of, strong_of, commons_of, greatest_of, libraries_with, definition_of, chosen_commons}
 use Rattle.macho_model.specs.Needs.{initializer_sections, unwind_sections, imports_of, libraries_needed, carried_relocations, initializer_relocations, personality_relocations}
 use Rattle.macho_model.specs.Targets.{target_of, target_of_relocation, slots_of, stubs_of}
 use Rattle.macho_model.specs.Fields.{Field, fields_of}
 use Rattle.macho_model.specs.Segments.{other_segments, segment_names_of, output_keys_of}
 use Rattle.macho_model.specs.Placement.{id_of}
 use Rattle.macho_model.specs.Values.{needs_fixup}
-use Rattle.macho_model.specs.Images.{segments_of, mapped_segments, base_of, libraries_of, tables_of, tries_of, signatures_of}
-use Rattle.macho_model.specs.Images.{symbol_tables_of, string_tables_of, entries_of_file}
+use Rattle.macho_model.specs.Images.{segments_of, mapped_segments, base_of, libraries_of, tables_of, tries_of, signatures_of, symbol_tables_of, string_tables_of, entries_of_file}
 use Rattle.macho_model.specs.Chain.{ChainSegment, chain_segments, OnChain, OnChainOf}
 use Rattle.macho_model.specs.Chain as chain
 use Rattle.macho_model.specs.Fixups.{IsFixupPlace, ChainIsWhole}
 use Rattle.macho_model.specs.Fixups as fixups
-use Rattle.macho_model.proofs.EachBelow.{is_equal}
-use Rattle.macho_memory_walks.proofs.ChainSets.{is_closed, among_passes, chain_within}
+use Rattle.macho_image_walks.proofs.ChainSets.{is_closed, among_passes, chain_within}
 use Rattle.macho_model_checks.proofs.Examples.{words8, words, halves, name16}
 use Rattle.macho_model_checks.proofs.ExampleLinks.{entry}
-use Rattle.macho_model_checks.proofs.ExampleCall.{calls_exit, calling, slot_placed, data_placed, placed_call, head_of_call}
-use Rattle.macho_model_checks.proofs.ExampleCall.{fixups_of_call, tables_of_call, big_words, signature_of_call, call_image}
-use Rattle.macho_model_checks.proofs.ValidTests.{one_passes}
+use Rattle.macho_model_checks.proofs.ExampleCall.{calls_exit, calling, slot_placed, data_placed, placed_call, head_of_call, fixups_of_call, tables_of_call, big_words, signature_of_call, call_image}
+use Rattle.macho_bytes.proofs.Bools.{is_equal, or_else}
+use Rattle.macho_bytes.proofs.Members.{one_passes}
 
 abbrev pub constants_in_chain : ChainSegment
 constants_in_chain = record { address = 0x100004000; file_offset = 0x4000; file_size = 0x4000; starts = 0 ∷ [] }
@@ -125,10 +121,6 @@ unfolding commands_end commands_of commands_from header_of reading le_at row_byt
     output_keys_of
 data_fields = (refl, refl)
 
-or_is : (n e : Bool) → (not n || e) ≡ true → n ≡ true → e ≡ true
-or_is true e h is = h
-or_is false e h is = absurd (let no : false ≡ true = is in cc)
-
 place_is : (a : ℕ) → IsFixupPlace calling placed_call a → (a ≡ 0x100004000) ⊎ (a ≡ 0x100008000)
 place_is _ (fixups.IsFixupPlace.slot s one) =
     inl (is_equal s.address 0x100004000 (one_passes (λ (x : Slot). x.address == 0x100004000) placed_call.slots s slots_there one))
@@ -137,7 +129,7 @@ place_is _ (fixups.IsFixupPlace.pointer q f one has needs) =
     fields_there one in
     let of_field = one_passes (is_there q) (fields_of calling (id_of q)) f of_section has in
     inr (is_equal (q.address + f.offset) 0x100008000
-    (or_is (needs_fixup calling (id_of q) f) (q.address + f.offset == 0x100008000) of_field needs))
+    (or_else (needs_fixup calling (id_of q) f) (q.address + f.offset == 0x100008000) of_field needs))
 
 pub pointer_is_asked : IsFixupPlace calling placed_call 0x100008000
 pointer_is_asked =

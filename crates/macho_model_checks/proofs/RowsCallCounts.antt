@@ -8,30 +8,25 @@ use Rattle.std.proofs.lemmas.List.Elements.{All-nil, All-cons}
 use Rattle.macho_bytes.specs.Uleb.{groups_of, uleb_of}
 use Rattle.macho_records.specs.Symbols.{is_weak_of}
 use Rattle.macho_model.specs.declared.targets.Target.TheVariants as target
-use Rattle.macho_model.specs.Resolution.{entry_at}
-use Rattle.macho_model.specs.Targets.{target_of_name}
+use Rattle.macho_model.specs.Resolution.{entry_at, symbols_of, strong_of, commons_of, greatest_of, libraries_with, definition_of, chosen_commons}
+use Rattle.macho_model.specs.Targets.{target_of_name, target_of, target_of_relocation, slots_of, stubs_of}
 use Rattle.macho_model.specs.Told.{ToldExport, IsToldExport, ExportsAreTold}
 use Rattle.macho_model.specs.Told as told
 use Rattle.macho_trie.specs.Exports.{Exported, as_value}
 use Rattle.macho_trie.specs.Encoding.{says_of, tree_bytes, place_of, terminal_size}
 use Rattle.macho_promise.specs.TrieSays.{IsTrieText}
-use Rattle.macho_promise.specs.Sizes.{AreCounts}
+use Rattle.macho_promise.specs.Sizes.{AreCounts, counts_with, commands_size}
 use Rattle.macho_model_checks.proofs.Examples.{words8, words, halves, name16}
 use Rattle.macho_model_checks.proofs.ExampleLinks.{entry}
 use Rattle.macho_model_checks.proofs.ExampleCall.{calls_exit, calling, counts_of_call}
-use Rattle.macho_model_checks.proofs.RowsCallTrie.{main_symbol, main_is_exported, named_main, main_facts, main_tree, main_edges}
-use Rattle.macho_model_checks.proofs.RowsCallTrie.{main_radix, main_with, one_byte, names_one, one_named, least_widths}
+use Rattle.macho_model_checks.proofs.RowsCallTrie.{main_symbol, main_is_exported, named_main, main_facts, main_tree, main_edges, main_radix, main_with, one_byte, names_one, one_named, least_widths}
 use Rattle.macho_bytes.specs.Numbers.{le_at, le_bytes, row_bytes}
 use Rattle.macho_bytes.specs.Layouts.{reading}
 use Rattle.macho_model.specs.Commands.{header_of, commands_from, commands_of, commands_end}
-use Rattle.macho_model.specs.Objects.{num_sections, section_place, section_at, section_bytes, symtab_of, num_symbols}
-use Rattle.macho_model.specs.Objects.{symbol_place, symbol_at, strings_of, symbol_name, relocation_place, relocation_at}
+use Rattle.macho_model.specs.Objects.{num_sections, section_place, section_at, section_bytes, symtab_of, num_symbols, symbol_place, symbol_at, strings_of, symbol_name, relocation_place, relocation_at}
 use Rattle.macho_model.specs.ExportLists.{plain_entries, all_entries, entries_of}
 use Rattle.macho_model.specs.Links.{sections_of, carried_of, template_exponent, placed_exponent}
-use Rattle.macho_model.specs.Resolution.{symbols_of, strong_of, commons_of, greatest_of, libraries_with, definition_of}
-use Rattle.macho_model.specs.Resolution.{chosen_commons}
 use Rattle.macho_model.specs.Needs.{initializer_sections, unwind_sections, imports_of, libraries_needed, carried_relocations, initializer_relocations, personality_relocations}
-use Rattle.macho_model.specs.Targets.{target_of, target_of_relocation, slots_of, stubs_of}
 use Rattle.macho_model.specs.Fields.{fields_of}
 use Rattle.macho_model.specs.Rows.{is_supported}
 use Rattle.macho_model.specs.Signature.{uuid_written}
@@ -41,7 +36,6 @@ use Rattle.macho_model.specs.Consumed.{entries_of_link}
 use Rattle.macho_model.specs.Fixups.{import_entries_of, own_entries, entries_have_addends}
 use Rattle.macho_model.specs.Made.{initializers_of}
 use Rattle.macho_model.specs.SymbolTable.{table_symbols}
-use Rattle.macho_promise.specs.Sizes.{counts_with, commands_size}
 
 -- the exported names: `_main`
 abbrev pub told_main : ToldExport

@@ -3,8 +3,7 @@
 -- The run is computed from the link and its placement: the slot, bound to the one import with no addend, and the pointer, which moves
 -- with its target. The table of that run and the words with no step are computed by the definitions, and compared with the bytes that
 -- were written out by hand.
-use Rattle.std.proofs.Common.{◌≡◌, ℕ, zero, suc, pos, ◌+◌, ◌%◌, ◌<◌, ◌≤◌, true, not, List, [], ◌∷◌, ◌++◌, length, map, get_or, refl, ap}
-use Rattle.std.proofs.Common.{sym, ◌∙◌, subst, arith, All}
+use Rattle.std.proofs.Common.{◌≡◌, ℕ, zero, suc, pos, ◌+◌, ◌%◌, ◌<◌, ◌≤◌, true, not, List, [], ◌∷◌, ◌++◌, length, map, get_or, refl, ap, sym, ◌∙◌, subst, arith, All}
 use Rattle.std.specs.Prelude.{codes, slice_range, Contains}
 use Rattle.std.specs.List.{list_all}
 use Rattle.std.proofs.lemmas.List.Elements.{All-nil, All-cons, All-contains}
@@ -14,10 +13,9 @@ use Rattle.macho_model.specs.declared.placed.Slot.{Slot}
 use Rattle.macho_model.specs.declared.placed.PlacedSection.{PlacedSection}
 use Rattle.macho_model.specs.declared.targets.Target.TheVariants as target
 use Rattle.macho_model.specs.Placement.{id_of}
-use Rattle.macho_model.specs.Fields.{Field}
+use Rattle.macho_model.specs.Fields.{Field, fields_of}
 use Rattle.macho_model.specs.Values.{needs_fixup}
 use Rattle.macho_model.specs.Chain.{STRIDE}
-use Rattle.macho_model.proofs.EachBelow.{true_or_false, not_true}
 use Rattle.macho_model.specs.Addresses.{section_address}
 use Rattle.macho_fixups.specs.declared.words.FixupKind.{FixupKind}
 use Rattle.macho_fixups.specs.declared.words.FixupKind.TheVariants.{Rebase, Bind}
@@ -27,36 +25,32 @@ use Rattle.macho_fixups.specs.declared.imports.ImportEntry.{ImportEntry}
 use Rattle.macho_fixups.specs.Words.{FitsOrdinal, word_of}
 use Rattle.macho_fixups.specs.Runs.{AreFixups, Holds, pages_of, start_of}
 use Rattle.macho_fixups.specs.Chains.{word_part, place_of, step_of}
-use Rattle.macho_fixups.specs.Tables.{table_text, entry_text, image_starts_text, image_starts_size, offsets_text, segment_text}
-use Rattle.macho_fixups.specs.Tables.{segment_size, starts_text, page_starts_text}
+use Rattle.macho_fixups.specs.Tables.{table_text, entry_text, image_starts_text, image_starts_size, offsets_text, segment_text, segment_size, starts_text, page_starts_text}
 use Rattle.macho_fixups.specs.Rows.{segment_rows, image_rows, table_rows}
 use Rattle.macho_fixups.proofs.Rows.{words_stand}
 use Rattle.macho_promise.specs.FixupsSay.{IsFixupOf, kind_for, fixup_segments, entry_row, FixupsSay}
 use Rattle.macho_promise.specs.FixupsSay as promised
-use Rattle.macho_model_checks.proofs.ExampleCall.{calls_exit, calling, code_placed, slot_placed, data_placed, placed_call, head_of_call}
-use Rattle.macho_model_checks.proofs.ExampleCall.{fixups_of_call, tables_of_call, big_words, signature_of_call, call_image}
-use Rattle.macho_model_checks.proofs.ValidTests.{one_passes}
+use Rattle.macho_model_checks.proofs.ExampleCall.{calls_exit, calling, code_placed, slot_placed, data_placed, placed_call, head_of_call, fixups_of_call, tables_of_call, big_words, signature_of_call, call_image}
 use Rattle.macho_bytes.specs.Numbers.{le_at, le_bytes, be_at, be_bytes, row_bytes}
 use Rattle.macho_bytes.specs.Layouts.{reading}
 use Rattle.macho_model.specs.Commands.{header_of, commands_from, commands_of, commands_end}
-use Rattle.macho_model.specs.Objects.{num_sections, section_place, section_at, section_bytes, symtab_of, num_symbols}
-use Rattle.macho_model.specs.Objects.{symbol_place, symbol_at, strings_of, symbol_name, relocation_place, relocation_at}
+use Rattle.macho_model.specs.Objects.{num_sections, section_place, section_at, section_bytes, symtab_of, num_symbols, symbol_place, symbol_at, strings_of, symbol_name, relocation_place, relocation_at}
 use Rattle.macho_model.specs.ExportLists.{plain_entries, all_entries, entries_of}
 use Rattle.macho_model.specs.Links.{sections_of, carried_of, template_exponent, placed_exponent}
-use Rattle.macho_model.specs.Resolution.{symbols_of, strong_of, commons_of, greatest_of, libraries_with, definition_of}
-use Rattle.macho_model.specs.Resolution.{chosen_commons}
+use Rattle.macho_model.specs.Resolution.{symbols_of, strong_of, commons_of, greatest_of, libraries_with, definition_of, chosen_commons}
 use Rattle.macho_model.specs.Needs.{initializer_sections, unwind_sections, imports_of, libraries_needed, POINTER_SIZE, carried_relocations, initializer_relocations, personality_relocations}
 use Rattle.macho_model.specs.Targets.{target_of, target_of_relocation, slots_of, stubs_of}
-use Rattle.macho_model.specs.Fields.{fields_of}
 use Rattle.macho_model.specs.Segments.{other_segments, segment_names_of, output_keys_of, SEGMENT_PAGE}
-use Rattle.macho_model.specs.Images.{segments_of, mapped_segments, base_of, libraries_of, tables_of, tries_of, signatures_of}
-use Rattle.macho_model.specs.Images.{symbol_tables_of, string_tables_of, entries_of_file}
+use Rattle.macho_model.specs.Images.{segments_of, mapped_segments, base_of, libraries_of, tables_of, tries_of, signatures_of, symbol_tables_of, string_tables_of, entries_of_file}
 use Rattle.macho_model.specs.Fixups.{own_entries, import_entries_of, entries_have_addends, import_format}
 use Rattle.macho_model.specs.ImportTable.{fixup_count, names_text}
 use Rattle.macho_model_checks.proofs.Examples.{words8, words, halves, name16}
 use Rattle.macho_model_checks.proofs.ExampleLinks.{entry}
 use Rattle.macho_model_checks.proofs.RowsCallChain.{pointer_field, data_fields}
 use Rattle.macho_bytes.specs.Spellings.{spelling}
+use Rattle.macho_bytes.proofs.Bools.{true_or_false, not_true}
+use Rattle.macho_bytes.proofs.Members.{one_passes}
+use Rattle.macho_model_checks.proofs.RowsCall.{call_long}
 
 -- the slot of import 0, with no addend; the pointer to the code, so far behind the base
 abbrev pub fixup_of_slot : Fixup
@@ -156,12 +150,6 @@ each_there _ (promised.IsFixupOf.pointer q f one has needs) = of_pointer q f one
 abbrev pub entry_of_exit : ImportEntry
 entry_of_exit = record { library = 1; name_offset = 0; addend = pos 0 }
 
-image_size : length call_image ≡ 49948
-unfolding commands_end commands_of commands_from header_of reading le_at row_bytes le_bytes words8 words halves name16 entry calls_exit
-    head_of_call fixups_of_call tables_of_call be_at be_bytes big_words signature_of_call call_image segments_of mapped_segments base_of
-    libraries_of tables_of tries_of signatures_of symbol_tables_of string_tables_of entries_of_file
-image_size = refl
-
 abbrev pub name_of_exit : List ℕ
 name_of_exit = codes "_exit" ++ 0 ∷ []
 
@@ -205,7 +193,7 @@ pub table_stands : Stands call_image (record {
       (names_text calling);
 })
 table_stands = rw (what_is_asked.0, what_is_asked.1) (record {
-  within = omega (arith, table_size, image_size);
+  within = omega (arith, table_size, call_long);
   same = ap (λ n. slice_range call_image 0xc000 (0xc000 + n)) table_size ∙ table_there;
 })
 
@@ -229,11 +217,11 @@ word_facts = (refl, refl, refl, refl)
 pub each_word : (k : ℕ) (d : Fixup) → k < length fixups_in_call
     → Stands call_image (word_part (fixup_segments placed_call) fixups_in_call k (get_or fixups_in_call k d))
 each_word zero d within = record {
-  within = omega (arith, word_facts.0, word_facts.1, image_size);
+  within = omega (arith, word_facts.0, word_facts.1, call_long);
   same = rw (word_facts.0, word_facts.1) words_there.0;
 }
 each_word (suc zero) d within = record {
-  within = omega (arith, word_facts.2, word_facts.3, image_size);
+  within = omega (arith, word_facts.2, word_facts.3, call_long);
   same = rw (word_facts.2, word_facts.3) words_there.1;
 }
 each_word (suc (suc k)) d within = absurd (omega (arith, within))
@@ -286,7 +274,7 @@ pub rows_stand : Stands call_image (record {
       (names_text calling);
 })
 rows_stand = rw (entry_is_asked, what_is_asked.0, what_is_asked.1) (record {
-  within = omega (arith, rows_size, image_size);
+  within = omega (arith, rows_size, call_long);
   same = ap (λ n. slice_range call_image 0xc000 (0xc000 + n)) rows_size ∙ rows_there;
 })
 

@@ -2,41 +2,33 @@
 --
 -- Neighbours are tested on the pieces that the link and the placement have: `__TEXT` with its head, the code and the stub,
 -- `__DATA_CONST` with the slot, and the five tables of `__LINKEDIT`. A test that passes shows what it tests.
-use Rattle.std.proofs.Common.{◌≡◌, ℕ, zero, suc, ◌+◌, ◌^◌, ◌==◌, ◌&&◌, Bool, true, List, [], ◌∷◌, get_or, refl, ap, ◌∙◌}
-use Rattle.std.proofs.Common.{subst, arith}
+use Rattle.std.proofs.Common.{◌≡◌, ℕ, zero, suc, ◌+◌, ◌^◌, ◌==◌, ◌&&◌, Bool, true, List, [], ◌∷◌, get_or, refl, ap, ◌∙◌, subst, arith}
 use Rattle.std.specs.List.{list_all}
-use Rattle.macho_bytes.specs.Numbers.{rounded_up}
+use Rattle.macho_bytes.specs.Numbers.{rounded_up, le_at, le_bytes, be_at, be_bytes, row_bytes}
 use Rattle.macho_model.specs.declared.placed.PlacedSegment.{PlacedSegment}
 use Rattle.macho_model.specs.Lists.{EachNext}
-use Rattle.macho_model.specs.steps.Outputs.{OutputSection}
+use Rattle.macho_model.specs.steps.Outputs.{OutputSection, output_sections_of, output_sections_for, pieces_of}
 use Rattle.macho_model.specs.Placement.{Piece, end_of_piece}
-use Rattle.macho_model.specs.Order.{table_pieces, BeginsLeast}
-use Rattle.macho_model.specs.steps.Least.{sections_in, row_of, AreLeast, least_size}
+use Rattle.macho_model.specs.Order.{table_pieces, BeginsLeast, HaveRoom, AreLeast as StandLeast}
+use Rattle.macho_model.specs.steps.Least.{sections_in, row_of, AreLeast, least_size, least_file_size}
 use Rattle.macho_model.specs.Spans.{StandInOrder}
-use Rattle.macho_model.specs.Order.{HaveRoom}
-use Rattle.macho_model.specs.steps.Least.{least_file_size}
-use Rattle.macho_model.proofs.EachBelow.{and_left, and_right, is_equal, all_pass}
-use Rattle.macho_model_checks.proofs.ExampleCall.{calls_exit, calling, counts_of_call, placed_call, head_of_call, fixups_of_call}
-use Rattle.macho_model_checks.proofs.ExampleCall.{tables_of_call, big_words, signature_of_call, call_image}
-use Rattle.macho_bytes.specs.Numbers.{le_at, le_bytes, be_at, be_bytes, row_bytes}
+use Rattle.macho_model_checks.proofs.ExampleCall.{calls_exit, calling, counts_of_call, placed_call, head_of_call, fixups_of_call, tables_of_call, big_words, signature_of_call, call_image}
 use Rattle.macho_bytes.specs.Layouts.{reading}
 use Rattle.macho_model.specs.Commands.{header_of, commands_from, commands_of, commands_end}
-use Rattle.macho_model.specs.Objects.{num_sections, section_place, section_at, section_bytes, symtab_of, num_symbols}
-use Rattle.macho_model.specs.Objects.{symbol_place, symbol_at, strings_of, symbol_name, relocation_place, relocation_at}
+use Rattle.macho_model.specs.Objects.{num_sections, section_place, section_at, section_bytes, symtab_of, num_symbols, symbol_place, symbol_at, strings_of, symbol_name, relocation_place, relocation_at}
 use Rattle.macho_model.specs.ExportLists.{plain_entries, all_entries, entries_of}
 use Rattle.macho_model.specs.Links.{sections_of, carried_of, template_exponent, placed_exponent}
-use Rattle.macho_model.specs.Resolution.{symbols_of, strong_of, commons_of, greatest_of, libraries_with, definition_of}
-use Rattle.macho_model.specs.Resolution.{chosen_commons}
+use Rattle.macho_model.specs.Resolution.{symbols_of, strong_of, commons_of, greatest_of, libraries_with, definition_of, chosen_commons}
 use Rattle.macho_model.specs.Needs.{initializer_sections, unwind_sections, imports_of, libraries_needed, carried_relocations, initializer_relocations, personality_relocations}
 use Rattle.macho_model.specs.Targets.{target_of, target_of_relocation, slots_of, stubs_of}
 use Rattle.macho_model.specs.Fields.{fields_of}
 use Rattle.macho_model.specs.Segments.{other_segments, segment_names_of, output_keys_of, segments_for}
-use Rattle.macho_model.specs.steps.Outputs.{output_sections_of, output_sections_for, pieces_of}
 use Rattle.macho_model.specs.SymbolTable.{table_symbols}
 use Rattle.macho_model_checks.proofs.Examples.{words8, words, halves, name16}
 use Rattle.macho_model_checks.proofs.ExampleLinks.{entry}
-use Rattle.macho_model.specs.Order.{AreLeast as StandLeast}
 use Rattle.macho_model.proofs.Outputs.{stand_least}
+use Rattle.macho_bytes.proofs.Bools.{and_left, and_right, is_equal}
+use Rattle.macho_bytes.proofs.Members.{all_pass}
 
 -- pieces that pass the tests stand one behind the other, each as low as it may
 abbrev pub is_next : Piece → Piece → Bool

@@ -7,43 +7,33 @@ use Rattle.std.proofs.Common.{◌≡◌, ℕ, ◌≤◌, ◌==◌, ◌&&◌, Boo
 use Rattle.std.specs.List.{All, AllPairs, list_all}
 use Rattle.macho_model.specs.declared.placed.PlacedSegment.{PlacedSegment}
 use Rattle.macho_model.specs.Lists.{IsNumber, EachNext}
-use Rattle.macho_model.specs.steps.Outputs.{OutputSection}
-use Rattle.macho_model.specs.Placement.{Piece}
-use Rattle.macho_model.specs.Order.{table_pieces, BeginsLeast}
-use Rattle.macho_model.specs.steps.Least.{sections_in, row_of, AreLeast, least_size}
+use Rattle.macho_model.specs.steps.Outputs.{OutputSection, output_sections_of, output_sections_for, pieces_of}
+use Rattle.macho_model.specs.Placement.{Piece, Placed, id_of, IsWholeList}
+use Rattle.macho_model.specs.Order.{table_pieces, BeginsLeast, HaveRoom, AreLeast as StandLeast}
+use Rattle.macho_model.specs.steps.Least.{sections_in, row_of, AreLeast, least_size, least_file_size}
 use Rattle.macho_model.specs.Spans.{StandInOrder}
-use Rattle.macho_model.specs.Order.{HaveRoom}
-use Rattle.macho_model.specs.steps.Least.{least_file_size}
 use Rattle.macho_model.proofs.Least.{EndsBefore, rows_in_order}
-use Rattle.macho_model.proofs.EachBelow.{and_left, and_right, is_equal, all_pass}
-use Rattle.macho_model_checks.proofs.ExampleCall.{calls_exit, calling, counts_of_call, placed_call, code_placed, data_placed, stub_placed}
-use Rattle.macho_model_checks.proofs.ExampleCall.{data_segment, stubs_header, slots_header, data_header, head_of_call, fixups_of_call}
-use Rattle.macho_model_checks.proofs.ExampleCall.{tables_of_call, big_words, signature_of_call, call_image}
+use Rattle.macho_model_checks.proofs.ExampleCall.{calls_exit, calling, counts_of_call, placed_call, code_placed, data_placed, stub_placed, data_segment, stubs_header, slots_header, data_header, head_of_call, fixups_of_call, tables_of_call, big_words, signature_of_call, call_image}
 use Rattle.macho_bytes.specs.Numbers.{le_at, le_bytes, be_at, be_bytes, row_bytes}
 use Rattle.macho_bytes.specs.Layouts.{reading}
 use Rattle.macho_model.specs.Commands.{header_of, commands_from, commands_of, commands_end}
-use Rattle.macho_model.specs.Objects.{num_sections, section_place, section_at, section_bytes, symtab_of, num_symbols}
-use Rattle.macho_model.specs.Objects.{symbol_place, symbol_at, strings_of, symbol_name, relocation_place, relocation_at}
+use Rattle.macho_model.specs.Objects.{num_sections, section_place, section_at, section_bytes, symtab_of, num_symbols, symbol_place, symbol_at, strings_of, symbol_name, relocation_place, relocation_at}
 use Rattle.macho_model.specs.ExportLists.{plain_entries, all_entries, entries_of}
-use Rattle.macho_model.specs.Links.{sections_of, carried_of, template_exponent, placed_exponent}
-use Rattle.macho_model.specs.Resolution.{symbols_of, strong_of, commons_of, greatest_of, libraries_with, definition_of}
-use Rattle.macho_model.specs.Resolution.{chosen_commons}
+use Rattle.macho_model.specs.Links.{sections_of, carried_of, template_exponent, placed_exponent, SectionId}
+use Rattle.macho_model.specs.Resolution.{symbols_of, strong_of, commons_of, greatest_of, libraries_with, definition_of, chosen_commons}
 use Rattle.macho_model.specs.Needs.{initializer_sections, unwind_sections, imports_of, libraries_needed, carried_relocations, initializer_relocations, personality_relocations}
 use Rattle.macho_model.specs.Targets.{target_of, target_of_relocation, slots_of, stubs_of}
 use Rattle.macho_model.specs.Fields.{fields_of}
 use Rattle.macho_model.specs.Segments.{other_segments, segment_names_of, output_keys_of, segments_for}
-use Rattle.macho_model.specs.steps.Outputs.{output_sections_of, output_sections_for, pieces_of}
 use Rattle.macho_model.specs.SymbolTable.{table_symbols}
 use Rattle.macho_model_checks.proofs.Examples.{words8, words, halves, name16}
 use Rattle.macho_model_checks.proofs.ExampleLinks.{entry}
 use Rattle.macho_model_checks.proofs.ExamplePlacement.{header_a, section_a, text_from}
 use Rattle.macho_model_checks.proofs.RowsCallOrder.{are_least, least_pieces, outputs_of_call, call_is_least}
-use Rattle.macho_model.specs.Links.{SectionId}
-use Rattle.macho_model.specs.Placement.{Placed, id_of}
-use Rattle.macho_model.specs.Placement.{IsWholeList}
 use Rattle.macho_model.specs.OutputSections.{output_sections_for as headers_for}
-use Rattle.macho_model.specs.Order.{AreLeast as StandLeast}
 use Rattle.macho_model.proofs.Outputs.{stand_least, least_of, headers_same}
+use Rattle.macho_bytes.proofs.Bools.{and_left, and_right, is_equal}
+use Rattle.macho_bytes.proofs.Members.{all_pass}
 
 -- what the link has with a placement
 abbrev row_with : Placed → PlacedSegment → List Piece

@@ -8,13 +8,11 @@ use Rattle.std.specs.Prelude.{codes}
 use Rattle.macho_bytes.specs.Numbers.{le_at, le_bytes, be_at, be_bytes, row_bytes}
 use Rattle.macho_bytes.specs.Layouts.{reading}
 use Rattle.macho_model.specs.Commands.{header_of, commands_from, commands_of, commands_end}
-use Rattle.macho_model.specs.Images.{segments_of, mapped_segments, base_of, libraries_of, tables_of, tries_of, signatures_of}
-use Rattle.macho_model.specs.Images.{symbol_tables_of, string_tables_of, entries_of_file, Table, fixups_header, import_entry, import_name}
+use Rattle.macho_model.specs.Images.{segments_of, mapped_segments, base_of, libraries_of, tables_of, tries_of, signatures_of, symbol_tables_of, string_tables_of, entries_of_file, Table, fixups_header, import_entry, import_name}
 use Rattle.macho_model.specs.ReadBack.{Rebase, Bind, IsLoadedFixup}
 use Rattle.macho_model_checks.proofs.Examples.{words8, words, halves, name16}
 use Rattle.macho_model_checks.proofs.ExampleLinks.{entry}
-use Rattle.macho_model_checks.proofs.ExampleCall.{calls_exit, head_of_call, fixups_of_call, tables_of_call, big_words, signature_of_call}
-use Rattle.macho_model_checks.proofs.ExampleCall.{call_image}
+use Rattle.macho_model_checks.proofs.ExampleCall.{calls_exit, head_of_call, fixups_of_call, tables_of_call, big_words, signature_of_call, call_image}
 use Rattle.macho_model_checks.proofs.RowsCallChain.{constants_in_chain, data_in_chain, call_segments, slot_on, pointer_on, only_two_on}
 
 -- the two words,

@@ -12,19 +12,16 @@ use Rattle.macho_bytes.specs.Layouts.{reading}
 use Rattle.macho_records.specs.declared.header.SectionHeader.{SectionHeader}
 use Rattle.macho_model.specs.declared.placed.Counts.{Counts}
 use Rattle.macho_model.specs.Commands.{header_of, commands_from, commands_of, commands_end}
-use Rattle.macho_model.specs.Objects.{num_sections, section_place, section_at, section_bytes, symtab_of, num_symbols}
-use Rattle.macho_model.specs.Objects.{symbol_place, symbol_at, strings_of, symbol_name, relocation_place, relocation_at}
+use Rattle.macho_model.specs.Objects.{num_sections, section_place, section_at, section_bytes, symtab_of, num_symbols, symbol_place, symbol_at, strings_of, symbol_name, relocation_place, relocation_at}
 use Rattle.macho_model.specs.ExportLists.{plain_entries, all_entries, entries_of}
 use Rattle.macho_model.specs.Links.{sections_of, carried_of, template_exponent, placed_exponent}
-use Rattle.macho_model.specs.Resolution.{symbols_of, strong_of, commons_of, greatest_of, libraries_with, definition_of}
-use Rattle.macho_model.specs.Resolution.{chosen_commons}
+use Rattle.macho_model.specs.Resolution.{symbols_of, strong_of, commons_of, greatest_of, libraries_with, definition_of, chosen_commons}
 use Rattle.macho_model.specs.Needs.{initializer_sections, unwind_sections, imports_of, libraries_needed, carried_relocations, initializer_relocations, personality_relocations}
 use Rattle.macho_model.specs.Targets.{target_of, target_of_relocation, slots_of, stubs_of}
 use Rattle.macho_model.specs.Fields.{fields_of}
 use Rattle.macho_model.specs.Segments.{other_segments, segment_names_of, output_keys_of}
 use Rattle.macho_model.specs.Placement.{Placed}
-use Rattle.macho_model.specs.Images.{segments_of, mapped_segments, base_of, libraries_of, tables_of, tries_of, signatures_of}
-use Rattle.macho_model.specs.Images.{symbol_tables_of, string_tables_of, entries_of_file, Table}
+use Rattle.macho_model.specs.Images.{segments_of, mapped_segments, base_of, libraries_of, tables_of, tries_of, signatures_of, symbol_tables_of, string_tables_of, entries_of_file, Table}
 use Rattle.macho_model.specs.Fixups.{import_entries_of, own_entries, entries_have_addends, import_format}
 use Rattle.macho_model.specs.ImportTable.{fixup_count, names_text}
 use Rattle.macho_model.specs.Told.{ToldImport, imports_told, IsTold, ExportsAreTold}
@@ -36,8 +33,7 @@ use Rattle.macho_promise.specs.Sizes.{AreCounts}
 use Rattle.macho_promise.specs.FixupsSay.{FixupsSay, fixup_segments, entry_row}
 use Rattle.macho_model_checks.proofs.Examples.{words8, words, halves, name16, changed}
 use Rattle.macho_model_checks.proofs.ExampleLinks.{entry}
-use Rattle.macho_model_checks.proofs.ExampleCall.{calls_exit, calling, counts_of_call, placed_call, head_of_call, fixups_of_call}
-use Rattle.macho_model_checks.proofs.ExampleCall.{tables_of_call, big_words, signature_of_call, call_image}
+use Rattle.macho_model_checks.proofs.ExampleCall.{calls_exit, calling, counts_of_call, placed_call, head_of_call, fixups_of_call, tables_of_call, big_words, signature_of_call, call_image}
 use Rattle.macho_model_checks.proofs.RowsCall.{call_agrees}
 use Rattle.macho_model_checks.proofs.RowsCallCounts.{main_is_told, sizes_of_call}
 use Rattle.macho_model_checks.proofs.RowsCallFixups.{entry_is_asked}

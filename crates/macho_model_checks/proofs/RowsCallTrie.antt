@@ -3,8 +3,7 @@
 -- Of the link: a name with a definition in an object is `_main`, since the object has no other definition, and there are no export
 -- lists. Of the bytes: the first node has one edge, `_main`, to a node that exports the value 0x398 and has no edge. And the
 -- fourteen bytes are the trie of that one name: its radix tree has one edge, and the place of its child one byte.
-use Rattle.std.proofs.Common.{◌≡◌, ℕ, zero, suc, ◌+◌, ◌<◌, ◌≤◌, Bool, true, false, if◌then◌else◌, List, [], ◌∷◌, ◌++◌, length, take, drop}
-use Rattle.std.proofs.Common.{map, refl, ap, sym, ◌∙◌, subst, arith, inl, inr, Option, Some, None}
+use Rattle.std.proofs.Common.{◌≡◌, ℕ, zero, suc, ◌+◌, ◌<◌, ◌≤◌, Bool, true, false, if◌then◌else◌, List, [], ◌∷◌, ◌++◌, length, take, drop, map, refl, ap, sym, ◌∙◌, subst, arith, inl, inr, Option, Some, None}
 use Rattle.std.specs.Prelude.{codes, slice_index, slice_index_or, nat_eq, unwrap_or}
 use Rattle.std.specs.List.{find, starts_with}
 use Rattle.std.specs.Str.{bytes_eq}
@@ -25,25 +24,20 @@ use Rattle.macho_trie.specs.Lookup.{Finds, trie_finds, leads}
 use Rattle.macho_trie.specs.Lookup as lookup
 use Rattle.macho_promise.specs.TrieSays.{ExportedAs, from_object, from_library, ValueOf, table_bytes, IsTrieText, TrieSays}
 use Rattle.macho_model_checks.proofs.ExamplePlacement.{section_a}
-use Rattle.macho_model_checks.proofs.ExampleCall.{calls_exit, calling, placed_call, head_of_call, fixups_of_call, tables_of_call}
-use Rattle.macho_model_checks.proofs.ExampleCall.{big_words, signature_of_call, call_image}
+use Rattle.macho_model_checks.proofs.ExampleCall.{calls_exit, calling, placed_call, head_of_call, fixups_of_call, tables_of_call, big_words, signature_of_call, call_image}
 use Rattle.macho_bytes.specs.Numbers.{le_at, le_bytes, be_at, be_bytes, row_bytes}
 use Rattle.macho_bytes.specs.Layouts.{reading}
 use Rattle.macho_model.specs.Commands.{header_of, commands_from, commands_of, commands_end}
-use Rattle.macho_model.specs.Objects.{num_sections, section_place, section_at, section_bytes, symtab_of, num_symbols}
-use Rattle.macho_model.specs.Objects.{symbol_place, symbol_at, strings_of, symbol_name, relocation_place, relocation_at}
+use Rattle.macho_model.specs.Objects.{num_sections, section_place, section_at, section_bytes, symtab_of, num_symbols, symbol_place, symbol_at, strings_of, symbol_name, relocation_place, relocation_at}
 use Rattle.macho_model.specs.ExportLists.{plain_entries, all_entries, entries_of}
 use Rattle.macho_model.specs.Links.{sections_of, carried_of, template_exponent, placed_exponent}
-use Rattle.macho_model.specs.Resolution.{SymbolId, Definition, Symbol, Library, ImageBase, symbols_of, strong_of}
-use Rattle.macho_model.specs.steps.Resolved.{DSO_HANDLE, first_or, first_definition}
-use Rattle.macho_model.specs.Resolution.{commons_of, greatest_of, libraries_with, definition_of, chosen_commons}
-use Rattle.macho_model.specs.steps.Resolved.{weak_of}
+use Rattle.macho_model.specs.Resolution.{SymbolId, Definition, Symbol, Library, ImageBase, symbols_of, strong_of, commons_of, greatest_of, libraries_with, definition_of, chosen_commons}
+use Rattle.macho_model.specs.steps.Resolved.{DSO_HANDLE, first_or, first_definition, weak_of}
 use Rattle.macho_model.specs.Needs.{initializer_sections, unwind_sections, imports_of, libraries_needed, carried_relocations, initializer_relocations, personality_relocations}
 use Rattle.macho_model.specs.Targets.{target_of_name, target_of, target_of_relocation, slots_of, stubs_of}
 use Rattle.macho_model.specs.Fields.{fields_of}
 use Rattle.macho_model.specs.Segments.{other_segments, segment_names_of, output_keys_of}
-use Rattle.macho_model.specs.Images.{Table, segments_of, mapped_segments, base_of, libraries_of, tables_of, tries_of, signatures_of}
-use Rattle.macho_model.specs.Images.{symbol_tables_of, string_tables_of, entries_of_file}
+use Rattle.macho_model.specs.Images.{Table, segments_of, mapped_segments, base_of, libraries_of, tables_of, tries_of, signatures_of, symbol_tables_of, string_tables_of, entries_of_file}
 use Rattle.macho_model.specs.Fixups.{own_entries, import_entries_of, entries_have_addends}
 use Rattle.macho_model.specs.ImportTable.{fixup_count, names_text}
 use Rattle.macho_model_checks.proofs.Examples.{words8, words, halves, name16}

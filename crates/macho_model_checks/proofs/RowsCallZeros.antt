@@ -3,36 +3,31 @@
 -- The parts are computed from the link, the placement and the file. Between them are six gaps, and each is computed to be zeros:
 -- behind the stub, behind the slot, behind the pointer, behind the fixup table, behind the exports trie, and the byte in front of the
 -- signature.
-use Rattle.std.proofs.Common.{◌≡◌, ℕ, ◌+◌, ◌-◌, ◌<◌, ◌≤◌, List, [], ◌∷◌, length, drop, get_or, replicate, refl, ap, sym, ◌∙◌, subst}
-use Rattle.std.proofs.Common.{arith, inl, inr}
+use Rattle.std.proofs.Common.{◌≡◌, ℕ, ◌+◌, ◌-◌, ◌<◌, ◌≤◌, List, [], ◌∷◌, length, drop, get_or, replicate, refl, ap, sym, ◌∙◌, subst, arith, inl, inr}
 use Rattle.std.specs.Prelude.{slice_index, slice_range}
 use Rattle.std.specs.List.{All}
 use Rattle.std.proofs.lemmas.List.{get_or-take, get_or-drop, get_or-replicate}
-use Rattle.macho_model.specs.Zeros.{Span}
+use Rattle.macho_model.specs.Zeros.{Span, contents_of, IsZeroElsewhere}
 use Rattle.macho_model.specs.Addresses.{offset_in_file}
-use Rattle.macho_model.specs.Zeros.{contents_of, IsZeroElsewhere}
-use Rattle.macho_model_checks.proofs.ExampleCall.{calls_exit, calling, placed_call, head_of_call, fixups_of_call, tables_of_call}
-use Rattle.macho_model_checks.proofs.ExampleCall.{big_words, signature_of_call, call_image}
+use Rattle.macho_model_checks.proofs.ExampleCall.{calls_exit, calling, placed_call, head_of_call, fixups_of_call, tables_of_call, big_words, signature_of_call, call_image}
 use Rattle.macho_bytes.specs.Numbers.{le_at, le_bytes, be_at, be_bytes, row_bytes}
 use Rattle.macho_bytes.specs.Layouts.{reading}
 use Rattle.macho_model.specs.Commands.{header_of, commands_from, commands_of, commands_end}
-use Rattle.macho_model.specs.Objects.{num_sections, section_place, section_at, section_bytes, symtab_of, num_symbols}
-use Rattle.macho_model.specs.Objects.{symbol_place, symbol_at, strings_of, symbol_name, relocation_place, relocation_at}
+use Rattle.macho_model.specs.Objects.{num_sections, section_place, section_at, section_bytes, symtab_of, num_symbols, symbol_place, symbol_at, strings_of, symbol_name, relocation_place, relocation_at}
 use Rattle.macho_model.specs.ExportLists.{plain_entries, all_entries, entries_of}
 use Rattle.macho_model.specs.Links.{sections_of, carried_of, template_exponent, placed_exponent}
-use Rattle.macho_model.specs.Resolution.{symbols_of, strong_of, commons_of, greatest_of, libraries_with, definition_of}
-use Rattle.macho_model.specs.Resolution.{chosen_commons}
+use Rattle.macho_model.specs.Resolution.{symbols_of, strong_of, commons_of, greatest_of, libraries_with, definition_of, chosen_commons}
 use Rattle.macho_model.specs.Needs.{initializer_sections, unwind_sections, imports_of, libraries_needed, carried_relocations, initializer_relocations, personality_relocations}
 use Rattle.macho_model.specs.Targets.{target_of, target_of_relocation, slots_of, stubs_of}
 use Rattle.macho_model.specs.Fields.{fields_of}
 use Rattle.macho_model.specs.Segments.{other_segments, segment_names_of, output_keys_of}
-use Rattle.macho_model.specs.Images.{segments_of, mapped_segments, base_of, libraries_of, tables_of, tries_of, signatures_of}
-use Rattle.macho_model.specs.Images.{symbol_tables_of, string_tables_of, entries_of_file}
+use Rattle.macho_model.specs.Images.{segments_of, mapped_segments, base_of, libraries_of, tables_of, tries_of, signatures_of, symbol_tables_of, string_tables_of, entries_of_file}
 use Rattle.macho_model.specs.Fixups.{own_entries, import_entries_of, entries_have_addends}
 use Rattle.macho_model.specs.ImportTable.{fixup_count, names_text}
 use Rattle.macho_model_checks.proofs.Examples.{words8, words, halves, name16}
 use Rattle.macho_model_checks.proofs.ExampleLinks.{entry}
 use Rattle.macho_model.specs.Spans.{IsOutsideSpan}
+use Rattle.macho_model_checks.proofs.RowsCall.{call_long}
 
 abbrev pub span : ℕ → ℕ → Span
 span start size = record { start = start; size = size }
@@ -43,7 +38,7 @@ contents_of_call =
     span 0 920 ∷ span 920 8 ∷ span 32768 8 ∷ span 16384 8 ∷ span 928 12 ∷ span 928 0 ∷ span 928 0
     ∷ span 49152 110 ∷ span 49360 14 ∷ span 49384 16 ∷ span 49400 7 ∷ span 49408 540 ∷ []
 
-contents_are : contents_of calling call_image placed_call 0 ≡ contents_of_call
+pub contents_are : contents_of calling call_image placed_call 0 ≡ contents_of_call
 unfolding commands_end commands_of commands_from header_of reading le_at row_bytes le_bytes words8 words halves name16 entry calls_exit
     head_of_call fixups_of_call tables_of_call be_at be_bytes big_words signature_of_call call_image num_sections section_place
     section_at section_bytes symtab_of num_symbols symbol_place symbol_at strings_of symbol_name relocation_place relocation_at
@@ -55,12 +50,6 @@ unfolding commands_end commands_of commands_from header_of reading le_at row_byt
     mapped_segments base_of libraries_of tables_of tries_of signatures_of symbol_tables_of string_tables_of
     entries_of_file offset_in_file contents_of
 contents_are = refl
-
-image_size : length call_image ≡ 49948
-unfolding commands_end commands_of commands_from header_of reading le_at row_bytes le_bytes words8 words halves name16 entry calls_exit
-    head_of_call fixups_of_call tables_of_call be_at be_bytes big_words signature_of_call call_image segments_of mapped_segments base_of
-    libraries_of tables_of tries_of signatures_of symbol_tables_of string_tables_of entries_of_file
-image_size = refl
 
 gaps : (slice_range call_image 940 16384 ≡ replicate 15444 0)
     × (slice_range call_image 16392 32768 ≡ replicate 16376 0)
@@ -122,7 +111,7 @@ outside_parts i within (inr head) (inr code) (inr stub) (inr slot) (inr pointer)
 pub call_zeros : IsZeroElsewhere calling call_image placed_call 0
 call_zeros i within out =
     let h : All (IsOutsideSpan i) contents_of_call = subst (λ (spans : List Span). All (IsOutsideSpan i) spans) contents_are out in
-    outside_parts i (omega (arith, within, image_size))
+    outside_parts i (omega (arith, within, call_long))
     (h 0 (span 0 0) (omega arith))
     (h 1 (span 0 0) (omega arith))
     (h 4 (span 0 0) (omega arith))

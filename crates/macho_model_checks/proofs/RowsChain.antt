@@ -15,8 +15,8 @@ use Rattle.macho_model_checks.proofs.Examples.{words8, words, halves, name16}
 use Rattle.macho_model_checks.proofs.ExampleImages.{image_with_fixups, two_pages, rebase, bind}
 use Rattle.macho_model_checks.proofs.LoaderTests.{is_accepted}
 use Rattle.macho_model_checks.proofs.RowsLoader.{verdict_of_two_pages, chain_segments_of_two_pages}
-use Rattle.macho_memory_walks.proofs.ChainSets.{is_closed, is_among, chain_within}
-use Rattle.macho_model_walks.proofs.WordFitting.{pages_pass, words_fit}
+use Rattle.macho_image_walks.proofs.ChainSets.{is_closed, is_among, chain_within}
+use Rattle.macho_image_walks.proofs.WordFitting.{pages_pass, words_fit}
 
 -- the number of eight bytes
 abbrev pub word8_of : List ℕ → ℕ

@@ -16,9 +16,10 @@ use Rattle.macho_model.specs.ObjectRules.{head_fits, commands_inside, needed_in_
 use Rattle.macho_model.specs.Grammar.{IsDylib}
 use Rattle.macho_model.specs.ObjectLaws.{KeepsDylibRules}
 use Rattle.macho_model.proofs.ObjectLaws.{dylib_keeps, kept_dylib}
-use Rattle.macho_model.proofs.EachBelow.{each_below, true_or_false, and_left, and_right, and_both, all_pass, pass_all, below_pass}
-use Rattle.macho_model.proofs.EachBelow.{pass_below}
+use Rattle.macho_model.proofs.EachBelow.{each_below, below_pass, pass_below}
 use Rattle.macho_model_checks.proofs.Examples.{words8, words, halves, changed}
+use Rattle.macho_bytes.proofs.Bools.{true_or_false, and_left, and_right, and_both}
+use Rattle.macho_bytes.proofs.Members.{all_pass, pass_all}
 
 -- Header 32 bytes; the install name `/a` 32, symbol table 24, UUID 24; at 112 the global `_f`, at 128 its name.
 unfoldable pub dylib_c : List ℕ

@@ -3,7 +3,7 @@
 use Rattle.std.proofs.Common.{◌≡◌, ℕ, ◌+◌, ◌-◌, ◌^◌, ◌⊎◌, true, false, [], ◌∷◌, refl, arith, inl, inr}
 use Rattle.macho_bytes.specs.Numbers.{le_at, signed}
 use Rattle.macho_bytes.specs.Layouts.{reading}
-use Rattle.macho_structs.specs.Relocations.{relocation_info}
+use Rattle.macho_wire.specs.Relocations.{relocation_info}
 use Rattle.macho_model.specs.declared.targets.Target.TheVariants as target
 use Rattle.macho_model.specs.Links.{Link, SectionId}
 use Rattle.macho_model.specs.Fields.{Field}

@@ -14,8 +14,7 @@ use Rattle.macho_model.specs.Chain.{chain_segments}
 use Rattle.macho_model.specs.Loader.{IsAccepted}
 use Rattle.macho_model_checks.proofs.Examples.{words8, words, halves, name16, changed}
 use Rattle.macho_model_checks.proofs.ExampleImages.{smallest, image_with_fixups, one_page, two_pages}
-use Rattle.macho_model_checks.proofs.LoaderTests.{load_verdict, load_all_but, load_all_pass, is_accepted, LoadBreaksAlone}
-use Rattle.macho_model_checks.proofs.LoaderTests.{load_breaks_alone}
+use Rattle.macho_model_checks.proofs.LoaderTests.{load_verdict, load_all_but, load_all_pass, is_accepted, LoadBreaksAlone, load_breaks_alone}
 use Rattle.macho_model.proofs.PageChains.{no_page_of}
 
 -- the commands of the smallest image, its base, and the addresses of what is mapped

@@ -13,16 +13,14 @@ use Rattle.std.specs.FinMap.{empty, insert, get-insert}
 use Rattle.macho_bytes.specs.Numbers.{le_at, le_bytes, row_bytes}
 use Rattle.macho_bytes.specs.Layouts.{reading}
 use Rattle.macho_model.specs.Commands.{header_of, commands_from, commands_of}
-use Rattle.macho_model.specs.Images.{segments_of, mapped_segments, base_of, libraries_of, tables_of, fixups_header, import_entry}
-use Rattle.macho_model.specs.Images.{import_name, import_library_name, Table}
+use Rattle.macho_model.specs.Images.{segments_of, mapped_segments, base_of, libraries_of, tables_of, fixups_header, import_entry, import_name, import_library_name, Table}
 use Rattle.macho_model.specs.Chain.{chain_segments, IsFileWord, OnChainOf}
 use Rattle.macho_model.specs.Memory.{Choice, chosen, pair_cmp, IsFixed, HoldsNumber}
 use Rattle.macho_model_checks.proofs.Examples.{words8, words, halves, name16}
 use Rattle.macho_model_checks.proofs.ExampleImages.{image_with_fixups, two_pages, rebase, bind}
 use Rattle.macho_model.proofs.ChainMemory.{fixed_word_is_held}
 use Rattle.macho_model_checks.proofs.RowsLoader.{chain_segments_of_two_pages}
-use Rattle.macho_model_checks.proofs.RowsChain.{segments_of_two_pages, first_word, second_word, third_word, words_on_the_chain}
-use Rattle.macho_model_checks.proofs.RowsChain.{only_these_on_the_chain}
+use Rattle.macho_model_checks.proofs.RowsChain.{segments_of_two_pages, first_word, second_word, third_word, words_on_the_chain, only_these_on_the_chain}
 
 base : base_of two_pages ≡ 0x100000000
 unfolding mapped_segments tables_of base_of segments_of commands_of commands_from header_of libraries_of reading le_at row_bytes le_bytes

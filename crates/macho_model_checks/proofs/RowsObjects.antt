@@ -12,12 +12,6 @@ commands_of_object : commands_of object_a ≡ record { at = 32; number = 0x19; s
 unfolding commands_of commands_from header_of reading le_at row_bytes le_bytes words8 words name16 object_a
 commands_of_object = refl
 
--- the section's bytes
-bytes_of_text : section_bytes object_a 0 ≡ 0x00 ∷ 0x00 ∷ 0x80 ∷ 0x52 ∷ 0xc0 ∷ 0x03 ∷ 0x5f ∷ 0xd6 ∷ []
-unfolding section_bytes section_at section_place commands_of commands_from header_of reading le_at row_bytes le_bytes words8 words name16
-    object_a
-bytes_of_text = refl
-
 -- the symbol's name
 name_of_symbol : symbol_name object_a 0 ≡ codes "_main"
 unfolding symbol_name symbol_at symbol_place strings_of symtab_of commands_of commands_from header_of reading le_at row_bytes le_bytes

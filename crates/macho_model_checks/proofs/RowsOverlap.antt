@@ -15,14 +15,13 @@ use Rattle.macho_model.specs.Chain as chain
 use Rattle.macho_model.specs.Loader.{IsAccepted}
 use Rattle.macho_model.specs.Memory.{Choice, IsFixed, HoldsText, HoldsNumber}
 use Rattle.macho_model_checks.proofs.Examples.{words8, words, halves, name16, changed}
-use Rattle.macho_model_checks.proofs.ExampleImages.{image_with_fixups, one_page, two_pages, overlapping, rebase, bind, data_of_size}
-use Rattle.macho_model_checks.proofs.ExampleImages.{data_command, text_command}
-use Rattle.macho_model.proofs.EachBelow.{true_or_false}
+use Rattle.macho_model_checks.proofs.ExampleImages.{image_with_fixups, one_page, two_pages, overlapping, rebase, bind, data_of_size, data_command, text_command}
 use Rattle.macho_model_checks.proofs.LoaderTests.{load_verdict, load_all_pass}
-use Rattle.macho_memory_walks.proofs.ChainSets.{is_closed, is_among, chain_within}
+use Rattle.macho_image_walks.proofs.ChainSets.{is_closed, is_among, chain_within}
 use Rattle.macho_model.proofs.ChainMemory.{fixed_text_is_held, fixed_word_is_held}
-use Rattle.macho_model_walks.specs.steps.WordTests.{word_fits_test}
-use Rattle.macho_model_walks.proofs.WordFitting.{fits_word}
+use Rattle.macho_image_walks.specs.steps.WordTests.{word_fits_test}
+use Rattle.macho_image_walks.proofs.WordFitting.{fits_word}
+use Rattle.macho_bytes.proofs.Bools.{true_or_false}
 
 abbrev pub data_of_page : ChainSegment
 data_of_page = record { address = 0x100004000; file_offset = 0x4000; file_size = 32; starts = 0x10 ∷ [] }

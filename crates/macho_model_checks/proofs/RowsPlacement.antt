@@ -3,8 +3,7 @@
 -- The section stands behind the 312 bytes of header and commands, at 0x100000138; all other parts are empty. Each part
 -- of the relation is shown of every placement of this shape as far as it asks something of the shape's numbers; so a
 -- change of these numbers breaks the part that asks, and keeps the others by the same lemmas.
-use Rattle.std.proofs.Common.{◌≡◌, ℕ, zero, suc, ◌+◌, ◌%◌, ◌≤◌, ◌⊎◌, ◌==◌, nat_le, ◌^◌, ◌&&◌, ◌||◌, not, Bool, false, ◌≢◌, List, [], ◌∷◌}
-use Rattle.std.proofs.Common.{length, get_or, map, refl, sym, ap, ◌∙◌, arith, inl, inr, None, Some, All, true}
+use Rattle.std.proofs.Common.{◌≡◌, ℕ, zero, suc, ◌+◌, ◌%◌, ◌≤◌, ◌⊎◌, ◌==◌, nat_le, ◌^◌, ◌&&◌, ◌||◌, not, Bool, false, ◌≢◌, List, [], ◌∷◌, length, get_or, map, refl, sym, ap, ◌∙◌, arith, inl, inr, None, Some, All, true}
 use Rattle.std.specs.Prelude.{Option, is_some, AllPairs}
 use Rattle.std.specs.List.{AllByRecursion}
 use Rattle.std.proofs.lemmas.Bool.{leb-true, le-leb}
@@ -17,25 +16,17 @@ use Rattle.macho_model.specs.declared.placed.PlacedSection.{PlacedSection}
 use Rattle.macho_model.specs.Links.{SectionId, header_at, placed_exponent}
 use Rattle.macho_model.specs.Segments.{TEXT, base_of_link, segment_rank}
 use Rattle.macho_model.specs.WrittenSum.{written_sum_of}
-use Rattle.macho_model.specs.Placement.{Placed, IsWholeList}
+use Rattle.macho_model.specs.Placement.{Placed, IsWholeList, IsPaged, Follows, is_segment_named, template_sections, IsPlaced, id_of, linkedit_ranges, pieces_with, AreApart as ArePiecesApart, IsInSegment as ArePiecesIn, TemplateHolds as PieceTemplate}
 use Rattle.macho_model.specs.Zeros.{Span}
-use Rattle.macho_model.specs.Spans.{AreApart, spans_with}
-use Rattle.macho_model.specs.steps.Parts.{SectionLies, TableLies, IsAligned, IsInSegment}
-use Rattle.macho_model.specs.Placement.{IsPaged, Follows, is_segment_named, template_sections}
-use Rattle.macho_model.specs.Spans.{IsInOrder, TextBegins}
-use Rattle.macho_model.specs.steps.Parts.{TemplateHolds}
-use Rattle.macho_model.specs.Placement.{IsPlaced, id_of, linkedit_ranges}
-use Rattle.macho_model.specs.steps.Parts.{LiesIn}
-use Rattle.macho_model.specs.Spans.{section_span, head_span, range_span, linkedit_span}
-use Rattle.macho_model.proofs.EachBelow.{true_or_false, and_left, and_right, and_both, either, or_first, or_second, is_equal, equal_is}
-use Rattle.macho_model.proofs.EachBelow.{same_number, other_number}
+use Rattle.macho_model.specs.Spans.{AreApart, spans_with, IsInOrder, TextBegins, section_span, head_span, range_span, linkedit_span}
+use Rattle.macho_model.specs.steps.Parts.{SectionLies, TableLies, IsAligned, IsInSegment, TemplateHolds, LiesIn}
 use Rattle.macho_model.specs.Lists.{EachNext}
 use Rattle.macho_model_checks.proofs.Examples.{name16}
 use Rattle.macho_model_checks.proofs.ExampleLinks.{section}
 use Rattle.macho_model_checks.proofs.ExamplePlacement.{link_a, counts_a, nothing, pagezero_to, text_from, section_a, placed_with, placed_a}
 use Rattle.macho_model_checks.proofs.FactsA.{section_of_a, carried_a, exponent_a, commons_a, slots_a, stubs_a, sum_a}
-use Rattle.macho_model.specs.Placement.{pieces_with, AreApart as ArePiecesApart, IsInSegment as ArePiecesIn, TemplateHolds as PieceTemplate}
 use Rattle.macho_model.proofs.Parts.{IsEven, even_parts, even_pieces, parts_in, pieces_in, apart_parts, apart_pieces, template_pieces}
+use Rattle.macho_bytes.proofs.Bools.{true_or_false, and_left, and_right, and_both, either, or_first, or_second, is_equal, equal_is, same_number, other_number}
 
 -- The parts of the relation.
 pub data PlacementPart : Type 0 where

@@ -9,8 +9,7 @@ use Rattle.macho_bytes.specs.Numbers.{le_at, le_bytes, row_bytes}
 use Rattle.macho_bytes.specs.Layouts.{reading}
 use Rattle.macho_model.specs.declared.rules.ObjectRule.TheVariants.{O1, O2, O3, O4, O5, O6, O7, O8, O9, O10, O11, O12, O13, O14}
 use Rattle.macho_model.specs.Commands.{header_of, commands_from, commands_of, commands_end}
-use Rattle.macho_model.specs.Objects.{num_sections, section_place, section_at, symtab_of, num_symbols, symbol_place}
-use Rattle.macho_model.specs.Objects.{symbol_at, strings_of, relocation_place, relocation_at}
+use Rattle.macho_model.specs.Objects.{num_sections, section_place, section_at, symtab_of, num_symbols, symbol_place, symbol_at, strings_of, relocation_place, relocation_at}
 use Rattle.macho_model.specs.Grammar.{IsObject}
 use Rattle.macho_model_checks.proofs.Examples.{words8, words, halves, name16, object_a, object_b, changed, header_b, relocation_b, symbol_b}
 use Rattle.macho_model_checks.proofs.ObjectTests.{verdict, all_but, is_object, BreaksAlone, breaks_alone}

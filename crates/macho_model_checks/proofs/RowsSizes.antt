@@ -4,21 +4,18 @@ use Rattle.std.proofs.Common.{◌≡◌, ℕ, ◌+◌, ◌*◌, true, false, Lis
 use Rattle.std.specs.Prelude.{codes}
 use Rattle.macho_bytes.specs.Numbers.{le_at, le_bytes, row_bytes}
 use Rattle.macho_bytes.specs.Layouts.{reading, size_of}
-use Rattle.macho_structs.specs.Layouts.{chained_fixups_header, chained_starts_in_segment}
+use Rattle.macho_wire.specs.Layouts.{chained_fixups_header, chained_starts_in_segment}
 use Rattle.macho_model.specs.Commands.{header_of, commands_from, commands_of, commands_end}
-use Rattle.macho_model.specs.Objects.{num_sections, section_place, section_at, section_bytes, symtab_of, num_symbols}
-use Rattle.macho_model.specs.Objects.{symbol_place, symbol_at, strings_of, symbol_name, relocation_place, relocation_at}
+use Rattle.macho_model.specs.Objects.{num_sections, section_place, section_at, section_bytes, symtab_of, num_symbols, symbol_place, symbol_at, strings_of, symbol_name, relocation_place, relocation_at}
 use Rattle.macho_model.specs.ExportLists.{plain_entries, all_entries, entries_of}
 use Rattle.macho_model.specs.Links.{Link, Object, sections_of, carried_of, template_exponent, placed_exponent}
-use Rattle.macho_model.specs.Resolution.{symbols_of, strong_of, commons_of, greatest_of, libraries_with, definition_of}
-use Rattle.macho_model.specs.Resolution.{chosen_commons}
+use Rattle.macho_model.specs.Resolution.{symbols_of, strong_of, commons_of, greatest_of, libraries_with, definition_of, chosen_commons}
 use Rattle.macho_model.specs.Needs.{initializer_sections, unwind_sections, imports_of, libraries_needed, carried_relocations, initializer_relocations, personality_relocations}
 use Rattle.macho_model.specs.Targets.{target_of, target_of_relocation, slots_of, stubs_of}
 use Rattle.macho_model.specs.Fields.{fields_of}
 use Rattle.macho_model.specs.Rows.{is_supported}
 use Rattle.macho_model.specs.Signature.{uuid_written}
-use Rattle.macho_model.specs.Segments.{TEXT, DATA_CONST, LINKEDIT, PAGEZERO, other_segments, segment_rank, segment_names_of, segments_for}
-use Rattle.macho_model.specs.Segments.{output_keys_of, output_count}
+use Rattle.macho_model.specs.Segments.{TEXT, DATA_CONST, LINKEDIT, PAGEZERO, other_segments, segment_rank, segment_names_of, segments_for, output_keys_of, output_count}
 use Rattle.macho_model.specs.WrittenSum.{FIXUP_RECORDS}
 use Rattle.macho_model.specs.OutputSections.{output_sections_of}
 use Rattle.macho_model.specs.Consumed.{entries_of_link}

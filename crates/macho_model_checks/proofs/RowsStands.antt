@@ -3,8 +3,7 @@
 -- Its one section stands in the file at 0x138, in the file part of `__TEXT`, which has no chain word; so memory holds
 -- the section's bytes at its placed address plus the slide. There are no fields, commons, slots or stubs. Memory has one
 -- byte at an address of the one mapped segment, so another byte there is not held.
-use Rattle.std.proofs.Common.{◌≡◌, ℕ, zero, suc, ◌++◌, ◌+◌, ◌-◌, ◌<◌, ◌≤◌, nat_le, nat_lt, ◌||◌, if◌then◌else◌, Bool, true, List, length}
-use Rattle.std.proofs.Common.{[], ◌∷◌, slice_index, refl, subst, arith, inl, inr, All}
+use Rattle.std.proofs.Common.{◌≡◌, ℕ, zero, suc, ◌++◌, ◌+◌, ◌-◌, ◌<◌, ◌≤◌, nat_le, nat_lt, ◌||◌, if◌then◌else◌, Bool, true, List, length, [], ◌∷◌, slice_index, refl, subst, arith, inl, inr, All}
 use Rattle.std.specs.Prelude.{Contains, codes}
 use Rattle.std.proofs.lemmas.Bool.{lt-ltb, leb-true, or_cases}
 use Rattle.std.proofs.lemmas.List.Elements.{All-nil, All-cons, All-contains, All-head, All-weaker}
@@ -15,23 +14,17 @@ use Rattle.macho_records.specs.declared.header.SegmentCommand.{SegmentCommand}
 use Rattle.macho_model.specs.declared.targets.Target.TheVariants as target
 use Rattle.macho_records.specs.Symbols.{common_size_of}
 use Rattle.macho_model.specs.Commands.{header_of, commands_from, commands_of, commands_end}
-use Rattle.macho_model.specs.Objects.{num_sections, section_place, section_at, section_bytes, symtab_of, num_symbols}
-use Rattle.macho_model.specs.Objects.{symbol_place, symbol_at, strings_of, symbol_name, relocation_place, relocation_at}
+use Rattle.macho_model.specs.Objects.{num_sections, section_place, section_at, section_bytes, symtab_of, num_symbols, symbol_place, symbol_at, strings_of, symbol_name, relocation_place, relocation_at}
 use Rattle.macho_model.specs.Links.{Link, Object, object_of, header_at, sections_of, carried_of, template_exponent, placed_exponent}
 use Rattle.macho_model.specs.Targets.{target_of, target_of_relocation, slots_of, stubs_of}
-use Rattle.macho_model.specs.Resolution.{entry_at, symbols_of, strong_of, commons_of, greatest_of, libraries_with, definition_of}
-use Rattle.macho_model.specs.Resolution.{chosen_commons}
+use Rattle.macho_model.specs.Resolution.{entry_at, symbols_of, strong_of, commons_of, greatest_of, libraries_with, definition_of, chosen_commons}
 use Rattle.macho_model.specs.Fields.{fields_of}
-use Rattle.macho_model.specs.Images.{segments_of, mapped_segments, tables_of, base_of, libraries_of, tries_of, signatures_of}
-use Rattle.macho_model.specs.Images.{symbol_tables_of, string_tables_of, entries_of_file}
+use Rattle.macho_model.specs.Images.{segments_of, mapped_segments, tables_of, base_of, libraries_of, tries_of, signatures_of, symbol_tables_of, string_tables_of, entries_of_file}
 use Rattle.macho_model.specs.Memory.{Choice, Holds, HoldsText}
 use Rattle.macho_model.specs.Placement.{Placed, id_of, common_of}
-use Rattle.macho_model.specs.Zeros.{Span}
-use Rattle.macho_model.specs.Zeros.{contents_of, IsZeroElsewhere}
-use Rattle.macho_model.proofs.EachBelow.{all_pass}
+use Rattle.macho_model.specs.Zeros.{Span, contents_of, IsZeroElsewhere}
 use Rattle.std.specs.List.{list_all}
-use Rattle.macho_model.specs.Stands.{Denotes, SectionStands, SlotStands, StubStands}
-use Rattle.macho_model.specs.Stands.{ImageStands, IsLoadable}
+use Rattle.macho_model.specs.Stands.{Denotes, SectionStands, SlotStands, StubStands, ImageStands, IsLoadable}
 use Rattle.macho_model.specs.Needs.{initializer_sections, unwind_sections, imports_of, libraries_needed, carried_relocations, initializer_relocations, personality_relocations}
 use Rattle.macho_model.specs.ExportLists.{plain_entries, all_entries, entries_of}
 use Rattle.macho_model.specs.Segments.{other_segments, segment_names_of, output_keys_of}
@@ -49,6 +42,7 @@ use Rattle.macho_model_checks.proofs.RowsLoader.{no_tables, smallest_is_accepted
 use Rattle.macho_model_checks.proofs.RowsPlacement.{a_is_placed}
 use Rattle.macho_model.specs.steps.Stands.{CommonStands}
 use Rattle.macho_model.specs.Spans.{IsOutsideField, IsOutsideSpan}
+use Rattle.macho_bytes.proofs.Members.{all_pass}
 
 -- `__TEXT` of the smallest image
 text_segment : SegmentCommand

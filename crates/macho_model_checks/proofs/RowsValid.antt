@@ -8,12 +8,10 @@ use Rattle.macho_bytes.specs.Numbers.{le_at, le_bytes, row_bytes}
 use Rattle.macho_bytes.specs.Layouts.{reading}
 use Rattle.macho_model.specs.declared.placed.Counts.{Counts}
 use Rattle.macho_model.specs.Commands.{header_of, commands_from, commands_of, commands_end}
-use Rattle.macho_model.specs.Objects.{num_sections, section_place, section_at, section_bytes, symtab_of, num_symbols}
-use Rattle.macho_model.specs.Objects.{symbol_place, symbol_at, strings_of, symbol_name, relocation_place, relocation_at}
+use Rattle.macho_model.specs.Objects.{num_sections, section_place, section_at, section_bytes, symtab_of, num_symbols, symbol_place, symbol_at, strings_of, symbol_name, relocation_place, relocation_at}
 use Rattle.macho_model.specs.ExportLists.{plain_entries, all_entries, entries_of}
 use Rattle.macho_model.specs.Links.{Link, Object, sections_of, carried_of, template_exponent, placed_exponent}
-use Rattle.macho_model.specs.Resolution.{symbols_of, strong_of, commons_of, greatest_of, libraries_with, definition_of}
-use Rattle.macho_model.specs.Resolution.{chosen_commons}
+use Rattle.macho_model.specs.Resolution.{symbols_of, strong_of, commons_of, greatest_of, libraries_with, definition_of, chosen_commons}
 use Rattle.macho_model.specs.Needs.{initializer_sections, unwind_sections, imports_of, libraries_needed, carried_relocations, initializer_relocations, personality_relocations}
 use Rattle.macho_model.specs.Targets.{target_of, target_of_relocation, slots_of, stubs_of}
 use Rattle.macho_model.specs.Fields.{fields_of}
@@ -22,15 +20,12 @@ use Rattle.macho_model.specs.Segments.{other_segments, segment_rank, segment_nam
 use Rattle.macho_model.specs.WrittenSum.{content_sum, command_sum, unsigned_sum, written_sum_of}
 use Rattle.macho_model.specs.Consumed.{personality_targets, entries_of_link}
 use Rattle.macho_model.specs.Valid.{IsValid}
-use Rattle.macho_model.proofs.EachBelow.{true_or_false}
 use Rattle.macho_model_checks.proofs.Examples.{words8, words, halves, name16, object_a}
 use Rattle.macho_model_checks.proofs.ExampleLinks.{entry, text_object, executable_of}
 use Rattle.macho_model_checks.proofs.ExamplePlacement.{link_a, counts_a}
-use Rattle.macho_model_checks.specs.ValidParts.{ValidPart, Single, Used, Listed, Begun, Supported, NonOverlapping, Fitting, Initializers}
-use Rattle.macho_model_checks.specs.ValidParts.{Slots, AtSlots, Whole, Unwind, Limits, Sum, ValidKeeps}
-use Rattle.macho_model_checks.proofs.ValidTests.{valid_verdict, verdict_but}
-use Rattle.macho_model_checks.proofs.ValidTests.{is_part, valid_answer, shows_valid_test, is_valid_by_tests, ValidBreaksAlone}
-use Rattle.macho_model_checks.proofs.ValidTests.{valid_breaks_alone}
+use Rattle.macho_model_checks.specs.ValidParts.{ValidPart, Single, Used, Listed, Begun, Supported, NonOverlapping, Fitting, Initializers, Slots, AtSlots, Whole, Unwind, Limits, Sum, ValidKeeps}
+use Rattle.macho_model_checks.proofs.ValidTests.{valid_verdict, verdict_but, is_part, valid_answer, shows_valid_test, is_valid_by_tests, ValidBreaksAlone, valid_breaks_alone}
+use Rattle.macho_bytes.proofs.Bools.{true_or_false}
 
 -- a global symbol at the start of the first section, and its name
 abbrev pub main_entry : List ℕ

@@ -4,8 +4,7 @@
 -- A part speaks of each symbol, use, section, relocation, slot or limit, and of these a link has finitely many: so it has a
 -- test that is true exactly where the part holds. Of names there are more, but one with two definitions is that of a symbol.
 -- So the tests, computed, show of a small link that it is valid, or which part it breaks, and that it keeps the others.
-use Rattle.std.proofs.Common.{◌≡◌, ◌≢◌, ℕ, ◌/◌, ◌%◌, ◌<◌, ◌≤◌, ◌==◌, ◌⊎◌, inl, inr, nat_le, Bool, true, false, not, ◌&&◌, ◌||◌}
-use Rattle.std.proofs.Common.{List, [], ◌∷◌, length, get_or, map, refl, sym, ap, ◌∙◌, arith, Some, None}
+use Rattle.std.proofs.Common.{◌≡◌, ◌≢◌, ℕ, ◌/◌, ◌%◌, ◌<◌, ◌≤◌, ◌==◌, ◌⊎◌, inl, inr, nat_le, Bool, true, false, not, ◌&&◌, ◌||◌, List, [], ◌∷◌, length, get_or, map, refl, sym, ap, ◌∙◌, arith, Some, None}
 use Rattle.std.specs.Prelude.{Option, Contains, IsNone, is_some, filter}
 use Rattle.std.specs.List.{list_all}
 use Rattle.std.proofs.lemmas.Bool.{leb-true, le-leb, cases_lt}
@@ -31,19 +30,14 @@ use Rattle.macho_model.specs.Stands.{kind_of}
 use Rattle.macho_model.specs.Rows.{is_supported, share_byte, are_pair}
 use Rattle.macho_model.specs.Consumed.{initializer_section_fits, initializer_slot_fits, entry_count, whole_entries, keeps}
 use Rattle.macho_model.specs.Limits.{limited}
-use Rattle.macho_model.specs.Faults.{LinkFault, DuplicateSymbol, UndefinedSymbol, EntryNotDefined, ExportListMissing, BadInitializer}
-use Rattle.macho_model.specs.Faults.{BadUnwind, UnsupportedRelocation, OverlappingFields, BindAddend, FixupPlace, TooMany, ImageTooLarge}
-use Rattle.macho_model.specs.Faults.{RebaseTarget, RelocationRange, BadName, entry_is_defined, IsBadEntry, IsBadInitializer}
-use Rattle.macho_model.specs.Faults.{FaultStands, kept_placement}
+use Rattle.macho_model.specs.Faults.{LinkFault, DuplicateSymbol, UndefinedSymbol, EntryNotDefined, ExportListMissing, BadInitializer, BadUnwind, UnsupportedRelocation, OverlappingFields, BindAddend, FixupPlace, TooMany, ImageTooLarge, RebaseTarget, RelocationRange, BadName, entry_is_defined, IsBadEntry, IsBadInitializer, FaultStands, kept_placement}
 use Rattle.macho_model.specs.Valid.{field_fits, IsValid}
-use Rattle.macho_model_checks.specs.ValidParts.{VALID_SUM, ValidPart, ValidKeeps, symbols_read}
-use Rattle.macho_model_checks.specs.ValidParts.{Single, Used, Listed, Begun, Supported, NonOverlapping, Fitting, Initializers, Slots, AtSlots}
-use Rattle.macho_model_checks.specs.ValidParts.{Whole, Unwind, Limits, Sum}
-use Rattle.macho_model.proofs.EachBelow.{each_below, not_false, true_or_false, and_right, or_second, same_number, other_number, all_pass, pass_all}
+use Rattle.macho_model_checks.specs.ValidParts.{VALID_SUM, ValidPart, ValidKeeps, symbols_read, Single, Used, Listed, Begun, Supported, NonOverlapping, Fitting, Initializers, Slots, AtSlots, Whole, Unwind, Limits, Sum}
+use Rattle.macho_model.proofs.EachBelow.{each_below, below_pass, pass_below}
 use Rattle.macho_model.proofs.FixedPointers.{import_needs, pointer_keeps, import_stays}
-use Rattle.macho_model.proofs.Unrefused.{never, valid_relocations, valid_initializers, valid_slot, valid_at_slot, valid_whole, valid_entry}
-use Rattle.macho_model.proofs.Unrefused.{valid_limit}
-use Rattle.macho_model.proofs.EachBelow.{below_pass, pass_below}
+use Rattle.macho_model.proofs.Unrefused.{never, valid_relocations, valid_initializers, valid_slot, valid_at_slot, valid_whole, valid_entry, valid_limit}
+use Rattle.macho_bytes.proofs.Bools.{not_false, true_or_false, and_right, or_second, same_number, other_number}
+use Rattle.macho_bytes.proofs.Members.{passes_each, one_passes, all_pass, pass_all}
 
 -- Of a link that keeps each part no refusal stands: each shows a part that is broken.
 none_some : {X : Type 0} (o : Option X) → IsNone o → is_some o ≡ true → ⊥
@@ -201,13 +195,6 @@ valid_test l counts Whole = list_all (whole_entries l) (unwind_sections l)
 valid_test l counts Unwind = list_all (λ s. each_below (entry_count l s) (λ e. list_all (keeps l s e) unwind_rules)) (unwind_sections l)
 valid_test l counts Limits = list_all (is_in_limit l counts) all_limits
 valid_test l counts Sum = nat_le (written_sum_of l counts) VALID_SUM
-
--- what passes for all of a list passes for one of it, and back
-pub one_passes : {X : Type 0} (test : X → Bool) (xs : List X) (x : X) → list_all test xs ≡ true → Contains xs x → test x ≡ true
-one_passes test xs x h one = All-contains (λ y. test y ≡ true) xs x (all_pass test xs h) one
-
-pub passes_each : {X : Type 0} (test : X → Bool) (xs : List X) → ((x : X) → Contains xs x → test x ≡ true) → list_all test xs ≡ true
-passes_each test xs h = pass_all test xs (λ k d lt. h (get_or xs k d) (Contains-get_or xs k d lt))
 
 -- a name with two strong definitions is that of a symbol
 single_shows : (l : Link) → list_all (λ s. nat_le (length (strong_of l (name_at l s))) 1) (symbols_of l) ≡ true → (name : List ℕ)

@@ -1,17 +1,19 @@
 -- The words of each page's chain fit, where a list of addresses for each page of each segment passes.
 --
--- As for an image with one segment of words (`WordFitting` of `macho_model_walks`), with a list for each segment and page.
+-- As for an image with one segment of words (`WordFitting` of `macho_image_walks`), with a list for each segment and page.
 use Rattle.std.proofs.Common.{◌≡◌, ℕ, Bool, true, List, length, refl}
 use Rattle.std.specs.List.{list_all, enumerate_from}
 use Rattle.std.proofs.lemmas.List.Elements.{All-contains}
 use Rattle.macho_records.specs.declared.header.SegmentCommand.{SegmentCommand}
 use Rattle.macho_model.specs.Images.{segments_of}
 use Rattle.macho_model.specs.Chain.{chain_segment, chain_segments}
-use Rattle.macho_model_walks.specs.steps.WordTests.{word_fits_test, EachWordFits}
-use Rattle.macho_model.proofs.EachBelow.{each_below, below_pass, and_left, and_right, all_pass}
+use Rattle.macho_image_walks.specs.steps.WordTests.{word_fits_test, EachWordFits}
+use Rattle.macho_model.proofs.EachBelow.{each_below, below_pass}
 use Rattle.macho_model.proofs.PageChains.{with_number}
-use Rattle.macho_memory_walks.proofs.ChainSets.{among_passes, is_page_closed, page_within, page_has_start}
-use Rattle.macho_model_walks.proofs.WordFitting.{starts_in_chain, page_passes, word_fits}
+use Rattle.macho_image_walks.proofs.ChainSets.{among_passes, is_page_closed, page_within, page_has_start}
+use Rattle.macho_image_walks.proofs.WordFitting.{starts_in_chain, page_passes, word_fits}
+use Rattle.macho_bytes.proofs.Bools.{and_left, and_right}
+use Rattle.macho_bytes.proofs.Members.{all_pass}
 
 -- the pages of a segment, by its number, pass with the lists of that segment
 abbrev pub segment_passes : List ℕ → (ℕ → ℕ → List ℕ) → ℕ × SegmentCommand → Bool

@@ -1,7 +1,8 @@
 //! The plain functions on two images written out by hand: the smallest one, and one whose chain has three words.
+use macho_image_walks::{is_on_chain, memory_byte, segment_byte};
+use macho_loader::{LoadFault, Loaded};
 use macho_model::LoadRule;
 use macho_model::LoadRule::{L1, L2, L3, L4, L5, L6, L7, L8, L9, L10};
-use macho_model_walks::{LoadFault, first_broken_rule, is_on_chain, memory_byte, segment_byte};
 use macho_samples::{chained_image, smallest_image};
 
 /// Each byte of the chained image that breaks a rule: its place, the byte, the rule, the place that is told.
@@ -32,25 +33,30 @@ const BREAKS: [(usize, u8, LoadRule, u64); 14] = [
     (0x4018, 1, L10, 0x4018),
 ];
 
+/// What the loader's view tells of an image that breaks a rule.
+fn fault_of(image: &[u8]) -> Option<LoadFault> {
+    Loaded::accept(image).err()
+}
+
 /// What is told of the chained image with one byte changed.
 fn fault_with(at: usize, byte: u8) -> Option<LoadFault> {
     let mut image = chained_image();
     if let Some(changed) = image.get_mut(at) {
         *changed = byte;
     }
-    first_broken_rule(&image).err()
+    fault_of(&image)
 }
 
 /// What is told of the first bytes of the smallest image.
 fn fault_of_first(count: usize) -> Option<LoadFault> {
     let image = smallest_image();
-    first_broken_rule(image.get(..count)?).err()
+    fault_of(image.get(..count)?)
 }
 
 #[test]
 fn the_two_images_break_no_rule(rt: HostRuntime) {
-    assert!(rt; first_broken_rule(&smallest_image()).is_ok());
-    assert!(rt; first_broken_rule(&chained_image()).is_ok());
+    assert!(rt; fault_of(&smallest_image()).is_none());
+    assert!(rt; fault_of(&chained_image()).is_none());
 }
 
 #[test]
@@ -148,7 +154,7 @@ fn first_other_byte() -> u64 {
             *changed = byte;
         }
     }
-    if first_broken_rule(&image).is_err() {
+    if fault_of(&image).is_some() {
         return 9;
     }
     let wanted = 0x1_7fff_fffdu64.to_le_bytes();

@@ -5,24 +5,13 @@ use Rattle.macho_model.specs.declared.targets.Target.{Target}
 use Rattle.macho_model.specs.declared.targets.Target.TheVariants as target
 use Rattle.macho_model.specs.Targets.{same_target}
 use Rattle.macho_model.specs.Fixups.{EntryOfImport, same_entry}
-
-left : (a b : Bool) → (a && b) ≡ true → a ≡ true
-left true b t = refl
-left false b t = t
-
-right : (a b : Bool) → (a && b) ≡ true → b ≡ true
-right true b t = t
-right false b t = cc
-
-both : (a b : Bool) → a ≡ true → b ≡ true → (a && b) ≡ true
-both true b t u = u
-both false b t u = t
+use Rattle.macho_bytes.proofs.Bools.{and_left, and_right, and_both as both}
 
 pub targets_decide : (a b : Target) → Decides (same_target a b) (a ≡ b)
 targets_decide (target.Section f s o) (target.Section g t p) = (
-  λ e. let x : f ≡ g = (Decides-eqb f g).0 (left (f == g) (s == t) (left ((f == g) && (s == t)) (o == p) e)) in
-      let y : s ≡ t = (Decides-eqb s t).0 (right (f == g) (s == t) (left ((f == g) && (s == t)) (o == p) e)) in
-      let z : o ≡ p = (Decides-eqb o p).0 (right ((f == g) && (s == t)) (o == p) e) in cc,
+  λ e. let x : f ≡ g = (Decides-eqb f g).0 (and_left (f == g) (s == t) (and_left ((f == g) && (s == t)) (o == p) e)) in
+      let y : s ≡ t = (Decides-eqb s t).0 (and_right (f == g) (s == t) (and_left ((f == g) && (s == t)) (o == p) e)) in
+      let z : o ≡ p = (Decides-eqb o p).0 (and_right ((f == g) && (s == t)) (o == p) e) in cc,
   λ e. let x : f ≡ g = cc in let y : s ≡ t = cc in let z : o ≡ p = cc in
       both ((f == g) && (s == t)) (o == p) (both (f == g) (s == t) ((Decides-eqb f g).1 x) ((Decides-eqb s t).1 y)) ((Decides-eqb o p).1 z),
 )
@@ -32,12 +21,3 @@ targets_decide target.Base target.Base = (λ e. refl, λ e. refl)
 targets_decide (target.Absolute v) (target.Absolute w) = (λ e. ap target.Absolute ((Decides-eqb v w).0 e), λ e. (Decides-eqb v w).1 cc)
 targets_decide target.None target.None = (λ e. refl, λ e. refl)
 targets_decide a b = (λ e. cc, λ e. cc)
-
-pub entries_decide : (a b : EntryOfImport) → Decides (same_entry a b) (a ≡ b)
-entries_decide a b = (
-  λ e. let x : a.import ≡ b.import = (Decides-eqb a.import b.import).0 (left (a.import == b.import) (a.addend == b.addend) e) in
-      let y : a.addend ≡ b.addend = (Decides-eqb a.addend b.addend).0 (right (a.import == b.import) (a.addend == b.addend) e) in
-      λ i. record { import = x i; addend = y i },
-  λ e. both (a.import == b.import) (a.addend == b.addend) ((Decides-eqb a.import b.import).1 (ap (λ (n : EntryOfImport). n.import) e))
-      ((Decides-eqb a.addend b.addend).1 (ap (λ (n : EntryOfImport). n.addend) e)),
-)

@@ -10,16 +10,16 @@ use Rattle.indexmap.specs.IndexSet.{insert_key}
 use Rattle.macho_model.specs.Links.{Link}
 use Rattle.macho_model.specs.Resolution.{SymbolId, entry_at, name_at}
 use Rattle.macho_model.specs.Needs.{is_imported, distinct}
-use Rattle.macho_model.specs.Uses.{Use, name_used, global_name}
+use Rattle.macho_model.specs.Uses.{Use, name_used, global_name, slot_of_use, stub_of_use}
 use Rattle.macho_model.specs.Targets.{same_target}
-use Rattle.macho_model.specs.Uses.{slot_of_use, stub_of_use}
 use Rattle.macho_model.specs.Fixups.{same_entry}
 use Rattle.macho_layout.proofs.Distinct.{distinct_push}
 use Rattle.macho_symbols.specs.Told.{noting}
-use Rattle.macho_parts.specs.Noted.{imports_in, slots_in, stubs_in}
+use Rattle.macho_promise.specs.Noted.{imports_in, slots_in, stubs_in}
 use Rattle.macho_needs.specs.Tables.{with_some}
 use Rattle.macho_needs.specs.Noted.{own_of_use, own_in}
-use Rattle.macho_needs.proofs.Deciding.{targets_decide, entries_decide}
+use Rattle.macho_needs.proofs.Deciding.{targets_decide}
+use Rattle.macho_model.proofs.Sections.{entry-Decides}
 
 -- of any need
 list_more : {X : Type 0} (same : X → X → Bool) → ((a b : X) → Decides (same a b) (a ≡ b)) → (h : Use → Option X) (us : List Use) (u : Use)
@@ -40,7 +40,7 @@ stubs_more l us u = list_more same_target targets_decide (stub_of_use l) us u
 
 pub own_more : (l : Link) (us : List Use) (u : Use) → own_in l (us ++ u ∷ []) ≡ with_some same_entry (own_in l us) (own_of_use l u)
 unfolding own_in
-own_more l us u = list_more same_entry entries_decide (own_of_use l) us u
+own_more l us u = list_more same_entry entry-Decides (own_of_use l) us u
 
 -- the imports, with a name that may be imported
 unfoldable pub with_name : Link → List (List ℕ) → Option (List ℕ) → List (List ℕ)

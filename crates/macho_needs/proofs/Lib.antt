@@ -5,5 +5,4 @@ pub mod Staying
 pub mod Using
 pub mod Pointers
 pub mod Whole
-pub mod Members
 pub mod Undefined

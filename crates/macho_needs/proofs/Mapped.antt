@@ -14,6 +14,7 @@ use Rattle.macho_needs.specs.Tables.{target_of}
 use Rattle.macho_symbols.specs.Entries.{entry_of}
 use Rattle.macho_needs.specs.contracts.keys.SlotKeyPartialEq.TheImpl as slot_keys
 use Rattle.macho_symbols.specs.contracts.solved.OwnEntryPartialEq.TheImpl as own_entries
+use Rattle.macho_bytes.proofs.Bools.{and_group}
 
 any_mapped : {K X : Type 0} (p : K → Bool) (q : X → Bool) (f : K → X) → ((k : K) → p k ≡ q (f k)) → (ks : List K)
     → list_any p ks ≡ list_any q (map f ks)
@@ -42,13 +43,8 @@ put_mapped eq same f alike ks k =
     by true = refl
     by false = map-append f ks (k ∷ [])
 
--- the tests of keys
-all_three : (a b c : Bool) → (a && (b && c)) ≡ (a && b && c)
-all_three true b c = refl
-all_three false b c = refl
-
 pub slots_alike : (a b : SlotKey) → slot_keys.eq-value.it a b ≡ same_target (target_of a) (target_of b)
-slots_alike (Section f s o) (Section g t p) = all_three (f == g) (s == t) (o == p)
+slots_alike (Section f s o) (Section g t p) = and_group (f == g) (s == t) (o == p)
 slots_alike (Common i) (Common j) = refl
 slots_alike (Import i) (Import j) = refl
 slots_alike Base Base = refl

@@ -1,29 +1,28 @@
 -- Uses by plain pointers of consumed sections: an initializer's asks for its name alone, a personality's for a slot too.
 use Rattle.std.proofs.Common.{◌≡◌, ℕ, Bool, true, false, ◌&&◌, ◌==◌, not, List, [], ◌∷◌, ◌++◌, Some, None, Result, Ok, Err, OnOk, OnErr, IfOk, IfErr, refl, sym, ap, ◌∙◌, subst, if◌then◌else◌}
-use Rattle.std.proofs.lemmas.Bool.{eqb-true}
 use Rattle.std.proofs.lemmas.List.Elements.{All-push}
 pub use Rattle.std.proofs.lemmas.Result.{on_ok_weaker as on_ok}
-use Rattle.macho_structs.specs.declared.relocations.RelocationInfo.{RelocationInfo}
+use Rattle.macho_wire.specs.declared.relocations.RelocationInfo.{RelocationInfo}
 use Rattle.macho_records.specs.declared.constants.TheConstants.{ARM64_RELOC_ADDEND, ARM64_RELOC_UNSIGNED}
 use Rattle.macho_model.specs.Links.{Input, Link, SectionId}
 use Rattle.macho_model.specs.Resolution.{SymbolId}
 use Rattle.macho_model.specs.Needs.{relocation_in, section_named, symbol_of_relocation}
-use Rattle.macho_model.specs.Uses.{Use, symbol_used, name_used, global_name}
+use Rattle.macho_model.specs.Uses.{Use, symbol_used, name_used, global_name, slot_of_use, stub_of_use, target_with}
 use Rattle.macho_model.specs.Targets.{same_target, target_of_relocation}
-use Rattle.macho_model.specs.Uses.{slot_of_use, stub_of_use, target_with}
 use Rattle.macho_model.specs.Fixups.{same_entry}
 use Rattle.macho_model.specs.Consumed.{is_plain_pointer}
 use Rattle.macho_model.proofs.Words.{target_of_symbol, target_of_section}
-use Rattle.macho_names.specs.Kept.{Keeps}
+use Rattle.macho_symbol_names.specs.Kept.{Keeps}
 use Rattle.macho_symbols.specs.Kept.{ResolvedRows, IsResolved, symbol_id}
 use Rattle.macho_symbols.specs.Told.{IsDefined, noting}
-use Rattle.macho_parts.specs.Noted.{imports_in, stubs_in}
+use Rattle.macho_promise.specs.Noted.{imports_in, stubs_in}
 use Rattle.macho_needs.specs.declared.needs.Needs.{Needs}
 use Rattle.macho_needs.specs.Tables.{with_some}
 use Rattle.macho_needs.specs.Noted.{IsNoted, IsNext, IsFound, own_in, own_of_use}
 use Rattle.macho_needs.proofs.Growing.{with_name, imports_more, slots_more, stubs_more, own_more, noting_is}
 use Rattle.macho_needs.proofs.Staying.{target_stays}
 use Rattle.macho_needs.proofs.Using.{link_with, names_it}
+use Rattle.macho_model.proofs.Sections.{no_addend}
 
 pub symbol_noted : (l : Link) (us : List Use) (u : Use) (id : SymbolId) (old new : Needs) → IsNoted l us old → symbol_used l u ≡ Some id
     → name_used l u ≡ global_name l (Some id)
@@ -41,16 +40,6 @@ symbol_noted l us u id old new is used named resolved found slots stubs own no_s
   found = All-push (IsFound l) us u is.found (λ t h. let same : id ≡ t = let e : Some id ≡ Some t = sym used ∙ h in cc in
       subst (IsDefined l) same found);
 }
-
--- a plain pointer is no addend
-pub no_addend : (rel : RelocationInfo) → is_plain_pointer rel ≡ true → (rel.r_type == ARM64_RELOC_ADDEND) ≡ false
-no_addend rel plain =
-    ap (λ n. n == ARM64_RELOC_ADDEND)
-    (eqb-true rel.r_type ARM64_RELOC_UNSIGNED (first (rel.r_type == ARM64_RELOC_UNSIGNED) (rel.r_length == 3) (not rel.r_pcrel) plain))
-  where
-    first : (a b c : Bool) → (a && b && c) ≡ true → a ≡ true
-    first true b c t = refl
-    first false b c t = t
 
 -- where a pointer to a symbol leads
 pub pointer_leads : (l : Link) (us : List Use) (u : Use) (s : SectionId) (r : ℕ) (rel : RelocationInfo) (file : ℕ) → IsNext l us u
@@ -73,10 +62,6 @@ on_ok_both (Err e) f p q = tt
 pub if_ok : {X E : Type 0} (P Q : X → Type 0) (r : Result X E) → ((x : X) → P x → Q x) → IfOk r P → IfOk r Q
 if_ok P Q (Ok x) f p = f x p
 if_ok P Q (Err e) f p = tt
-
-pub if_err : {X E : Type 0} (P Q : E → Type 0) (r : Result X E) → ((e : E) → P e → Q e) → IfErr r P → IfErr r Q
-if_err P Q (Ok x) f p = tt
-if_err P Q (Err e) f p = f e p
 
 -- the files are kept, whatever is answered
 pub files_stay : {X E : Type 0} (r : Result X E) (inputs : List Input) (old new : ResolvedRows) (id : SymbolId) → Keeps inputs old.files

@@ -14,23 +14,14 @@ use Rattle.macho_model.specs.Links.{Link}
 use Rattle.macho_model.specs.Resolution.{SymbolId, Definition, Symbol, Library, ImageBase, entry_at, name_at, definition_of}
 use Rattle.macho_model.specs.Needs.{is_imported, imports_of, distinct}
 use Rattle.macho_model.specs.steps.Resolved.{is_library}
-use Rattle.macho_model.specs.Uses.{Use, uses_of, name_used, global_name}
+use Rattle.macho_model.specs.Uses.{Use, uses_of, name_used, global_name, target_with}
 use Rattle.macho_model.specs.Targets.{target_of, definition_target}
-use Rattle.macho_model.specs.Uses.{target_with}
 use Rattle.macho_layout.proofs.Distinct.{distinct_push, place_put, place_new, longer_put}
-use Rattle.macho_parts.specs.Noted.{imports_in}
+use Rattle.macho_promise.specs.Noted.{imports_in}
 use Rattle.macho_needs.specs.Noted.{IsNext}
 use Rattle.macho_needs.proofs.Growing.{with_name, imports_more}
 use Rattle.macho_model.proofs.Uses.{imports_are}
-
--- an element that passes a test is inside
-one_inside : (b rest : Bool) (n long : ℕ) → (b || rest) ≡ true → (rest ≡ true → n < long) → cond (not b) (1 + n) 0 < suc long
-one_inside true rest n long t inside = omega arith
-one_inside false rest n long t inside = omega (arith, inside t)
-
-any_inside : {X : Type 0} (p : X → Bool) (xs : List X) → list_any p xs ≡ true → position_or_len p xs < length xs
-any_inside p [] t = cc
-any_inside p (x ∷ xs) t = one_inside (p x) (list_any p xs) (position_or_len p xs) (length xs) t (any_inside p xs)
+use Rattle.macho_bytes.proofs.Members.{place_inside}
 
 put_inside : {X : Type 0} (same : X → X → Bool) → ((a b : X) → Decides (same a b) (a ≡ b)) → (xs : List X) (x : X)
     → position_or_len (same x) (insert_key same xs x) < length (insert_key same xs x)
@@ -41,8 +32,8 @@ put_inside same d xs x = by (list_any (same x) xs) refl
     last false = ap (λ c. c || false) ((d x x).1 refl)
 
     by : (b : Bool) → list_any (same x) xs ≡ b → position_or_len (same x) (cond b xs (xs ++ x ∷ [])) < length (cond b xs (xs ++ x ∷ []))
-    by true e = any_inside (same x) xs e
-    by false e = any_inside (same x) (xs ++ x ∷ []) (list_any-append (same x) xs (x ∷ []) ∙ last (list_any (same x) xs))
+    by true e = place_inside (same x) xs e
+    by false e = place_inside (same x) (xs ++ x ∷ []) (list_any-append (same x) xs (x ∷ []) ∙ last (list_any (same x) xs))
 
 -- what is inside stays where it is
 stays : {X : Type 0} (same : X → X → Bool) → ((a b : X) → Decides (same a b) (a ≡ b)) → (p : X → Bool) (xs ys : List X)

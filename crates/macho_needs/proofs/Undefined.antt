@@ -11,7 +11,7 @@ use Rattle.macho_model.specs.Consumed.{is_plain_pointer}
 use Rattle.macho_model.specs.Faults.{IsUndefined}
 use Rattle.macho_model.specs.Uses.{Use, ByName, uses_of, symbol_used, names_symbol}
 use Rattle.macho_model.proofs.Uses.{by_relocation, by_initializer, by_personality, names_listed, uses_are}
-use Rattle.macho_needs.proofs.Members.{contains_map, map_contains, contains_filter, filter_contains, contains_filter_map, filter_map_contains}
+use Rattle.macho_bytes.proofs.Members.{contains_filter_map, filter_map_contains, contains_map, map_contains, contains_filter, filter_contains}
 
 abbrev symbol_at_use : Link → RelocationId → Option SymbolId
 symbol_at_use l u = symbol_of_relocation l u.0 u.1

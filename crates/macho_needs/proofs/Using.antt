@@ -3,7 +3,7 @@
 use Rattle.std.proofs.Common.{◌≡◌, ℕ, ◌-◌, ◌<◌, Bool, true, false, ◌&&◌, ◌||◌, not, nat_le, nat_lt, List, [], ◌∷◌, ◌++◌, Option, Some, None, is_none, IsNone, Contains, refl, sym, ap, ◌∙◌, subst, arith, if◌then◌else◌, ◌==◌}
 use Rattle.std.proofs.lemmas.Bool.Decides.{nat_tests}
 use Rattle.std.proofs.lemmas.List.Elements.{All-push}
-use Rattle.macho_structs.specs.declared.relocations.RelocationInfo.{RelocationInfo}
+use Rattle.macho_wire.specs.declared.relocations.RelocationInfo.{RelocationInfo}
 use Rattle.macho_records.specs.declared.constants.TheConstants.{ARM64_RELOC_ADDEND}
 use Rattle.macho_model.specs.declared.placed.Counts.{Counts}
 use Rattle.macho_model.specs.declared.targets.Target.{Target}
@@ -13,24 +13,23 @@ use Rattle.macho_model.proofs.ObjectLaws.{object_keeps}
 use Rattle.macho_model.specs.Links.{Input, Link, SectionId, object_of}
 use Rattle.macho_model.specs.Resolution.{SymbolId, definition_of}
 use Rattle.macho_model.specs.Needs.{relocation_in, section_named, symbol_of_relocation}
-use Rattle.macho_model.specs.Uses.{Use, ByRelocation, uses_of, symbol_used, global_name}
+use Rattle.macho_model.specs.Uses.{Use, ByRelocation, uses_of, symbol_used, global_name, slot_of_use, stub_of_use, slot_of_relocation, stub_of_relocation, target_with}
 use Rattle.macho_model.specs.Targets.{same_target, target_of, target_of_relocation}
-use Rattle.macho_model.specs.Uses.{slot_of_use, stub_of_use, slot_of_relocation, stub_of_relocation, target_with}
 use Rattle.macho_model.specs.Fields.{field_of, width_of, addend_of}
 use Rattle.macho_model.specs.Fixups.{same_entry, own_entry}
 use Rattle.macho_model.specs.Values.{is_pointer}
 use Rattle.macho_model.specs.Uses as model
 use Rattle.macho_model.proofs.Words.{target_of_symbol, target_of_section, subtrahend_of}
 use Rattle.macho_object.specs.Views.{FileBytes}
-use Rattle.macho_names.specs.declared.fault.SymbolFault.{SymbolFault}
-use Rattle.macho_names.specs.declared.fault.SymbolFault.TheVariants.{DuplicateSymbol, UndefinedSymbol, ExportListMissing, OutOfMemory}
-use Rattle.macho_names.specs.Kept.{Keeps}
+use Rattle.macho_symbol_names.specs.declared.fault.SymbolFault.{SymbolFault}
+use Rattle.macho_symbol_names.specs.declared.fault.SymbolFault.TheVariants.{DuplicateSymbol, UndefinedSymbol, ExportListMissing, OutOfMemory}
+use Rattle.macho_symbol_names.specs.Kept.{Keeps}
 use Rattle.macho_symbols.specs.Kept.{ResolvedRows, IsResolved, symbol_id}
 use Rattle.macho_symbols.specs.Told.{IsDefined, IsUndefined, noting}
-use Rattle.macho_faults.specs.declared.fault.LinkError.{LinkError}
-use Rattle.macho_faults.specs.Errors.{error_of}
-use Rattle.macho_faults.specs.Standing.{Stands}
-use Rattle.macho_parts.specs.Noted.{imports_in, slots_in, stubs_in}
+use Rattle.macho_answer.specs.declared.fault.LinkError.{LinkError}
+use Rattle.macho_answer.specs.Errors.{error_of}
+use Rattle.macho_answer.specs.Standing.{Stands}
+use Rattle.macho_promise.specs.Noted.{imports_in, slots_in, stubs_in}
 use Rattle.macho_needs.specs.declared.needs.Needs.{Needs}
 use Rattle.macho_needs.specs.Tables.{Numbered, with_some, own_of_pointer}
 use Rattle.macho_needs.specs.Noted.{IsNoted, IsNext, IsFound, IsRelocationOf, own_in, own_of_use, pointer_of, referent}
@@ -38,10 +37,6 @@ use Rattle.macho_needs.specs.steps.Leads.{carried_start, noting_by, lead_by, Fou
 use Rattle.macho_needs.proofs.Growing.{with_name, imports_more, slots_more, stubs_more, own_more, noting_is, nothing_is}
 use Rattle.macho_needs.proofs.Staying.{target_stays}
 use Rattle.macho_needs.proofs.Undefined.{use_is_undefined}
-
--- the symbol that a relocation names
-symbol_by : Bool → SectionId → RelocationInfo → Option SymbolId
-symbol_by b s rel = if b then Some (symbol_id s.file rel.r_symbolnum) else None
 
 pub names : (l : Link) (s : SectionId) (r : ℕ) → (relocation_in l s r).r_extern ≡ true
     → ((relocation_in l s r).r_type == ARM64_RELOC_ADDEND) ≡ false

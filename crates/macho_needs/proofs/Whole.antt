@@ -11,21 +11,20 @@ use Rattle.macho_model.specs.Links.{Link, SectionId, header_at, carried_of}
 use Rattle.macho_model.specs.Resolution.{definition_of, name_at}
 use Rattle.macho_model.specs.ExportLists.{plain_entries}
 use Rattle.macho_model.specs.Needs.{initializer_sections, unwind_sections, is_imported, relocation_in, relocations_of, relocations_at, distinct, POINTER_SIZE, UNWIND_ENTRY_SIZE, PERSONALITY_PLACE}
-use Rattle.macho_model.specs.Uses.{Use, ByRelocation, ByInitializer, ByPersonality, ByName, uses_of, carried_uses, initializer_uses, personality_uses}
+use Rattle.macho_model.specs.Uses.{Use, ByRelocation, ByInitializer, ByPersonality, ByName, uses_of, carried_uses, initializer_uses, personality_uses, slot_of_use, stub_of_use}
 use Rattle.macho_model.specs.Targets.{same_target, target_of_relocation}
-use Rattle.macho_model.specs.Uses.{slot_of_use, stub_of_use}
 use Rattle.macho_model.specs.Fields.{Field, field_of, fields_of, is_prefix_type, addend_of, width_of}
 use Rattle.macho_model.specs.Fixups.{same_entry, own_entry, own_entries}
 use Rattle.macho_model.specs.Values.{is_pointer}
 use Rattle.macho_model.proofs.Words.{subtrahend_of}
 use Rattle.macho_symbols.specs.Kept.{IsResolved}
-use Rattle.macho_parts.specs.Noted.{imports_in, slots_in, stubs_in}
+use Rattle.macho_promise.specs.Noted.{imports_in, slots_in, stubs_in}
 use Rattle.macho_needs.specs.declared.needs.Needs.{Needs}
 use Rattle.macho_needs.specs.Tables.{Numbered}
 use Rattle.macho_needs.specs.Noted.{IsNoted, IsFound, own_of_use, own_in}
 use Rattle.macho_needs.specs.Laws.{NeedsAreWhole, NamesAreFoundThen, NamesAreNoted, NameIsNoted}
 use Rattle.macho_needs.proofs.Growing.{imports_more, with_name}
-use Rattle.macho_model.proofs.Uses.{imports_are, slots_are, stubs_are}
+use Rattle.macho_model.proofs.Uses.{imports_are, slots_are, stubs_are, flat_alike, asked_map}
 use Rattle.macho_needs.proofs.Undefined.{undefined_has_use}
 
 -- what is asked for in lists that are made of others
@@ -33,10 +32,6 @@ asked_flat : {X Y Z : Type 0} (h : Y → Option Z) (f : X → List Y) (xs : List
     → filter_map h (flat_map f xs) ≡ flat_map (λ x. filter_map h (f x)) xs
 asked_flat h f [] = refl
 asked_flat h f (x ∷ xs) = filter_map-append h (f x) (flat_map f xs) ∙ ap (λ zs. filter_map h (f x) ++ zs) (asked_flat h f xs)
-
-asked_map : {X Y Z : Type 0} (h : Y → Option Z) (g : X → Y) (xs : List X) → filter_map h (map g xs) ≡ filter_map (λ x. h (g x)) xs
-asked_map h g [] = refl
-asked_map h g (x ∷ xs) = ap (λ zs. cons_option (h (g x)) zs) (asked_map h g xs)
 
 asked_none : {X Z : Type 0} (h : X → Option Z) (xs : List X) → ((x : X) → h x ≡ None) → filter_map h xs ≡ []
 asked_none h [] none = refl
@@ -65,10 +60,6 @@ named_same : {Z : Type 0} (h : Use → Option Z) (us : List Use) (names : List (
     → filter_map h (us ++ map ByName names) ≡ filter_map h us
 named_same h us names none =
     filter_map-append h us (map ByName names) ∙ ap (λ zs. filter_map h us ++ zs) (named_none h names none) ∙ append-nil (filter_map h us)
-
-flat_same : {X Y : Type 0} (f g : X → List Y) (xs : List X) → ((x : X) → f x ≡ g x) → flat_map f xs ≡ flat_map g xs
-flat_same f g [] same = refl
-flat_same f g (x ∷ xs) same = (λ i. same x i ++ flat_same f g xs same i)
 
 asked_kept : {X Z : Type 0} (h : X → Option Z) (p : X → Bool) (xs : List X) → ((x : X) → p x ≡ false → h x ≡ None)
     → filter_map h (filter p xs) ≡ filter_map h xs
@@ -154,7 +145,7 @@ all_entries l =
     ∙ append-nil _
     ∙ filter_map-append (own_of_use l) first second ∙ ap (λ zs. filter_map (own_of_use l) first ++ zs) none_second ∙ append-nil _ in
     ap (distinct same_entry)
-    (split ∙ asked_flat (own_of_use l) (carried_uses l) (carried_of l) ∙ flat_same _ _ (carried_of l) (section_entries l))
+    (split ∙ asked_flat (own_of_use l) (carried_uses l) (carried_of l) ∙ flat_alike _ _ (carried_of l) (section_entries l))
 
 pub needs_are : NeedsAreWhole
 unfolding imports_in slots_in stubs_in

@@ -6,8 +6,8 @@ use Rattle.macho_model.specs.Links.{Link}
 use Rattle.macho_model.specs.Needs.{is_imported}
 use Rattle.macho_model.specs.Uses.{Use, ByName, uses_of}
 use Rattle.macho_symbols.specs.Kept.{IsResolved}
-use Rattle.macho_parts.specs.Noted.{AreNeeds, imports_in}
-use Rattle.macho_parts.specs.Sound.{NamesAreFound}
+use Rattle.macho_promise.specs.Noted.{AreNeeds, imports_in}
+use Rattle.macho_promise.specs.Sound.{NamesAreFound}
 use Rattle.macho_needs.specs.declared.needs.Needs.{Needs}
 use Rattle.macho_needs.specs.Noted.{IsNoted, needed_of}
 

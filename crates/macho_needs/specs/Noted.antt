@@ -2,7 +2,7 @@
 -- definition.
 use Rattle.std.specs.Prelude.{◌≡◌, ℕ, ◌<◌, ◌==◌, ◌&&◌, not, if◌then◌else◌, Bool, true, List, [], ◌∷◌, ◌++◌, Option, Some, None, All}
 use Rattle.std.specs.List.{filter_map}
-use Rattle.macho_structs.specs.declared.relocations.RelocationInfo.{RelocationInfo}
+use Rattle.macho_wire.specs.declared.relocations.RelocationInfo.{RelocationInfo}
 use Rattle.macho_records.specs.declared.constants.TheConstants.{ARM64_RELOC_ADDEND}
 use Rattle.macho_model.specs.declared.targets.Target.{Target}
 use Rattle.macho_model.specs.declared.targets.Target.TheVariants as target
@@ -18,7 +18,7 @@ use Rattle.macho_model.specs.Values.{is_pointer}
 use Rattle.macho_symbols.specs.Kept.{ResolvedRows, IsResolved, HasSymbol}
 use Rattle.macho_symbols.specs.Told.{IsDefined}
 use Rattle.macho_object.specs.Views.{FileBytes}
-use Rattle.macho_parts.specs.Noted.{BeginsWith, Needed, imports_in, slots_in, stubs_in}
+use Rattle.macho_promise.specs.Noted.{BeginsWith, Needed, imports_in, slots_in, stubs_in}
 use Rattle.macho_needs.specs.declared.needs.Needs.{Needs}
 
 -- what a relocation leads to; an addend leads nowhere

@@ -6,34 +6,12 @@
 use Rattle.std.proofs.Common.{◌≡◌, ℕ, ◌+◌, ◌-◌, ◌<◌, ◌≤◌, ◌==◌, ltb, true, false, List, length, drop, slice_index, Option, Some, None, inl, inr, sym, ap, ◌∙◌, arith, eq-eqb, length-take, length-drop, get_or-drop}
 use Rattle.std.specs.List.{position_or_len}
 use Rattle.std.specs.Option.{SomeIff, is_some}
-use Rattle.std.proofs.lemmas.Bool.{cases_lt, false≢true}
-use Rattle.std.proofs.lemmas.Bool.Decides.{nat_tests}
-use Rattle.std.proofs.lemmas.List.Sums.{fails_before_first}
+use Rattle.std.proofs.lemmas.Bool.{cases_lt}
 use Rattle.macho_bytes.specs.Texts.{name_of}
-use Rattle.macho_bytes.proofs.Names.{name_of-whole}
 use Rattle.macho_model.specs.ObjectRules.{has_nul}
 use Rattle.macho_object.specs.steps.Checks.{NamesEnd}
-
--- the tests of an order
-below : (m n : ℕ) → m < n → ltb m n ≡ true
-below m n h = grind (arith, nat_tests)
-
-not_below : (m n : ℕ) → n ≤ m → ltb m n ≡ false
-not_below m n h = grind (arith, nat_tests)
-
--- a NUL ends a text
-nul_ends : (text : List ℕ) (k : ℕ) → k < length text → slice_index text k ≡ 0 → has_nul text ≡ true
-nul_ends text k lt is =
-    let first : position_or_len (λ b. b == 0) text ≤ k =
-    elim (cases_lt k (position_or_len (λ b. b == 0) text)) [
-      | inl before ↦ absurd (false≢true (sym (fails_before_first (λ b. b == 0) text k 0 before) ∙ eq-eqb (slice_index text k) 0 is))
-      | inr at ↦ at
-    ] in
-    below (length (name_of text)) (length text) (omega (arith, length-take (position_or_len (λ b. b == 0) text) text))
-
--- a text without a NUL has no end
-nul_missing : (text : List ℕ) → ((i : ℕ) → i < length text → slice_index text i ≡ 0 → ⊥) → has_nul text ≡ false
-nul_missing text none = not_below (length (name_of text)) (length text) (omega (arith, ap length (name_of-whole text none)))
+use Rattle.macho_bytes.proofs.Comparing.{not_less}
+use Rattle.macho_model.proofs.Strings.{nul_ends, nul_missing, below}
 
 -- behind a place there is no NUL
 abbrev pub NoneFrom : List ℕ → ℕ → Type 0
@@ -56,20 +34,20 @@ names_end_at strings last lt is none =
             let here : slice_index (drop n strings) (last - n) ≡ 0 = get_or-drop n strings (last - n) 0 ∙ ap (slice_index strings) place
             ∙ is in
             nul_ends (drop n strings) (last - n) (omega (arith, length-drop n strings)) here ∙ sym (below n (last + 1) before)
-        | inr behind ↦ begins_behind strings (last + 1) n none behind ∙ sym (not_below n (last + 1) behind)
+        | inr behind ↦ begins_behind strings (last + 1) n none behind ∙ sym (not_less n (last + 1) behind)
       ];
     }
 
 -- no NUL at all
 pub names_end_never : (strings : List ℕ) → NoneFrom strings 0 → NamesEnd strings 0
 names_end_never strings none =
-    record { test = λ n. begins_behind strings 0 n none (omega arith) ∙ sym (not_below n 0 (omega arith)) }
+    record { test = λ n. begins_behind strings 0 n none (omega arith) ∙ sym (not_less n 0 (omega arith)) }
 
 -- an answer that is there exactly where a number is below another
 pub there_if_below : (r : Option ℕ) (to x n y : ℕ) → SomeIff r ((0 < to) × (x < n)) x → 0 < to → x ≡ y → is_some r ≡ ltb y n
 there_if_below None to x n y h some is =
     elim (cases_lt y n) [
       | inl lt ↦ absurd (h (some, omega (arith, is)))
-      | inr le ↦ sym (not_below y n le)
+      | inr le ↦ sym (not_less y n le)
     ]
 there_if_below (Some z) to x n y h some is = sym (below y n (omega (arith, is, h.0.1)))

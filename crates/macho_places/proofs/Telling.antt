@@ -3,8 +3,7 @@
 -- Addresses of commons, slots and stubs stand at the numbers of what they belong to, since the placement lists these as the link
 -- does. Symbols lead where the link's do, since the rows are kept of its inputs. A placed section is one of an object of the
 -- link, whose view shows its header. Entries are numbered as the link's are.
-use Rattle.std.proofs.Common.{◌≡◌, ℕ, suc, ◌+◌, ◌<◌, ◌==◌, not, cond, Bool, true, false, List, [], ◌∷◌, ◌++◌, map, filter, length, get_or}
-use Rattle.std.proofs.Common.{refl, sym, ap, subst, ◌∙◌, arith, inl, inr, if◌then◌else◌, Option, Some, None}
+use Rattle.std.proofs.Common.{◌≡◌, ℕ, suc, ◌+◌, ◌<◌, ◌==◌, not, cond, Bool, true, false, List, [], ◌∷◌, ◌++◌, map, filter, length, get_or, refl, sym, ap, subst, ◌∙◌, arith, inl, inr, if◌then◌else◌, Option, Some, None}
 use Rattle.std.specs.Prelude.{nat_lt, position, is_none, Contains}
 use Rattle.std.specs.List.{position_or_len, range_with_len}
 use Rattle.std.proofs.lemmas.Bool.{cases_lt}
@@ -21,8 +20,7 @@ use Rattle.macho_model.specs.declared.targets.Target.{Target}
 use Rattle.macho_model.specs.declared.targets.Target.TheVariants as target
 use Rattle.macho_model.specs.Commands.{commands_of, commands_from, header_of}
 use Rattle.macho_model.specs.Objects.{num_sections, num_symbols, symtab_of, section_at}
-use Rattle.macho_model.specs.Links.{Input, Object, Dylib, Stub as StubInput, Link, SectionId, object_of, object_bytes, no_input, header_at}
-use Rattle.macho_model.specs.Links.{is_template, sections_of, carried_of, is_carried}
+use Rattle.macho_model.specs.Links.{Input, Object, Dylib, Stub as StubInput, Link, SectionId, object_of, object_bytes, no_input, header_at, is_template, sections_of, carried_of, is_carried}
 use Rattle.macho_model.specs.Needs.{imports_of}
 use Rattle.macho_model.specs.Targets.{same_target, target_of}
 use Rattle.macho_model.specs.Placement.{Placed, id_of}
@@ -30,12 +28,12 @@ use Rattle.macho_model.specs.Lists.{of_first}
 use Rattle.macho_model.specs.Addresses.{slot_address}
 use Rattle.macho_model.specs.Fixups.{same_entry, import_entries_of}
 use Rattle.macho_object.specs.Views.{FileBytes}
-use Rattle.macho_lists.proofs.Members.{contains_map, filter_contains}
-use Rattle.macho_targets.proofs.OfLink.{IsSectionOf, section_of}
-use Rattle.macho_parts.specs.Views.{object_view, views_of}
-use Rattle.macho_placing.proofs.ByNumber.{commons_by_number, slots_by_number}
-use Rattle.macho_placing.proofs.Places.{place_agree}
-use Rattle.macho_names.specs.Kept.{FileRows, kept_of, no_file, row_of_symbol, rows_of_object}
+use Rattle.macho_bytes.proofs.Members.{contains_map, filter_contains}
+use Rattle.macho_placed_laws.proofs.OfLink.{IsSectionOf, section_of}
+use Rattle.macho_promise.specs.Views.{object_view, views_of}
+use Rattle.macho_layout_laws.proofs.ByNumber.{commons_by_number, slots_by_number, first_kept}
+use Rattle.macho_layout_laws.proofs.Places.{place_agree}
+use Rattle.macho_symbol_names.specs.Kept.{FileRows, kept_of, no_file, row_of_symbol, rows_of_object}
 use Rattle.macho_symbols.specs.Kept.{ResolvedRows, IsResolved, HasSymbol}
 use Rattle.macho_symbols.proofs.Targeted.{target_here}
 use Rattle.macho_needs.specs.declared.needs.Needs.{Needs}
@@ -43,28 +41,8 @@ use Rattle.macho_fields.specs.Looks.{stub_address, Tells}
 use Rattle.macho_places.specs.Places.{AreOfLink}
 use Rattle.macho_places.specs.Looked.{look_of, template_in, numbered}
 use Rattle.macho_places.proofs.Numbers.{numbered_is, entry_is, plain}
-
--- the first number that a filter keeps stands where the test first passes
-first_kept : {X : Type 0} (f : X → ℕ) (t : X → Bool) (xs : List X)
-    → of_first 0 f (filter t xs) ≡ get_or (map f xs) (position_or_len t xs) 0
-first_kept f t [] = refl
-first_kept {X} f t (x ∷ xs) = by (first_kept f t xs) (t x)
-  where
-    by : of_first 0 f (filter t xs) ≡ get_or (map f xs) (position_or_len t xs) 0 → (b : Bool)
-        → of_first 0 f (cond b (x ∷ filter t xs) (filter t xs)) ≡ get_or (f x ∷ map f xs) (cond (not b)
-        (1 + position_or_len t xs) 0) 0
-    by rest true = refl
-    by rest false =
-        let e : suc (position_or_len t xs) ≡ 1 + position_or_len t xs = omega arith in
-        rest ∙ ap (λ (n : ℕ). get_or (f x ∷ map f xs) n 0) e
-
--- the place of what a map tells
-place_told : {X Y : Type 0} (t : Y → Bool) (f : X → Y) (xs : List X) → position_or_len (λ x. t (f x)) xs ≡ position_or_len t (map f xs)
-place_told t f [] = refl
-place_told t f (x ∷ xs) = ap (λ (n : ℕ). cond (not (t (f x))) (1 + n) 0) (place_told t f xs)
-
-eq_turn : (a b : ℕ) → (a == b) ≡ (b == a)
-eq_turn a b = grind (arith, nat_tests)
+use Rattle.macho_bytes.proofs.Comparing.{eq_turn}
+use Rattle.macho_bytes.proofs.Maps.{place_told}
 
 -- the address of a slot, and of a stub
 slot_told : (l : Link) (counts : Counts) (p : Placed) (needs : Needs) (views : List (Option FileBytes)) (t : Target)

@@ -1,3 +1,4 @@
 pub mod Looked
 pub mod Places
 pub mod steps
+pub mod Lookups

@@ -7,7 +7,7 @@ use Rattle.macho_model.specs.Targets.{same_target}
 use Rattle.macho_model.specs.Fixups.{EntryOfImport, same_entry}
 use Rattle.macho_model.specs.Addresses.{section_address}
 use Rattle.macho_object.specs.Views.{FileBytes, section_count}
-use Rattle.macho_names.specs.Events.{event_at}
+use Rattle.macho_symbol_names.specs.Events.{event_at}
 use Rattle.macho_symbols.specs.Targets.{target_in}
 use Rattle.macho_needs.specs.Tables.{number_of}
 use Rattle.macho_fields.specs.Looks.{Look}

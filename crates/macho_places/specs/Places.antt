@@ -5,9 +5,9 @@ use Rattle.macho_model.specs.Links.{Link}
 use Rattle.macho_model.specs.Needs.{imports_of}
 use Rattle.macho_model.specs.Placement.{Placed}
 use Rattle.macho_object.specs.Views.{FileBytes}
-use Rattle.macho_parts.specs.Views.{views_of}
-use Rattle.macho_parts.specs.Noted.{AreNeeds}
-use Rattle.macho_placing.specs.Laws.{IsWhollyPlaced}
+use Rattle.macho_promise.specs.Views.{views_of}
+use Rattle.macho_promise.specs.Noted.{AreNeeds}
+use Rattle.macho_layout_laws.specs.Laws.{IsWhollyPlaced}
 use Rattle.macho_symbols.specs.Kept.{ResolvedRows, IsResolved, HasSymbol}
 use Rattle.macho_needs.specs.declared.needs.Needs.{Needs}
 use Rattle.macho_needs.specs.Noted.{needed_of}

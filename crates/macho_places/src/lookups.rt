@@ -8,7 +8,7 @@ ghost use Rattle.macho_fields.specs.Looks.{Tells};
 ghost use Rattle.macho_places.specs.Places.{AreOfLink};
 ghost use Rattle.macho_places.specs.Looked.{template_in, numbered, entry_number};
 
-use macho_addresses::Addresses;
+use crate::addresses::Addresses;
 use macho_fields::Places;
 use macho_layout::{Placement, Slot, Stub};
 use macho_model::{Range64, Target};

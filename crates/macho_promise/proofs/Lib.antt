@@ -1,1 +1,4 @@
 pub mod Stubs
+pub mod Counted
+pub mod FixupCounts
+pub mod Plain

@@ -8,3 +8,10 @@ pub mod Promise
 pub use Rattle.macho_fixups.specs.declared.run.Fixup
 pub use Rattle.macho_fixups.specs.declared.run.FixupSegment
 pub mod steps
+pub mod Views
+pub mod Noted
+pub mod Sound
+pub mod Filled
+pub mod Asked
+
+-- what a fixup is of, in the crate below

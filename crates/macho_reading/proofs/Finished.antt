@@ -6,17 +6,17 @@ use Rattle.macho_model.specs.ExportLists.{plain_entries}
 use Rattle.macho_model.specs.Links.{Link}
 use Rattle.macho_model.specs.Needs.{imports_of}
 use Rattle.macho_model.specs.Uses.{uses_of}
-use Rattle.macho_exports.specs.Entries.{ListEntries}
+use Rattle.macho_export_lists.specs.Entries.{ListEntries}
 use Rattle.macho_symbols.specs.Exported.{AreExports}
-use Rattle.macho_names.specs.Kept.{FileRows}
+use Rattle.macho_symbol_names.specs.Kept.{FileRows}
 use Rattle.macho_symbols.specs.Kept.{ResolvedRows, IsResolved, HasSymbol}
 use Rattle.macho_symbols.specs.Told.{AreDefined}
-use Rattle.macho_parts.specs.Noted.{imports_in, uses_of_carried}
-use Rattle.macho_parts.specs.Sound.{IsSound}
+use Rattle.macho_promise.specs.Noted.{imports_in, uses_of_carried}
+use Rattle.macho_promise.specs.Sound.{IsSound}
 use Rattle.macho_needs.specs.declared.needs.Needs.{Needs}
 use Rattle.macho_needs.specs.Noted.{IsNoted}
 use Rattle.macho_needs.proofs.Whole.{needs_are, names_are_found}
-use Rattle.macho_survey.specs.Surveys.{AreOfInputs}
+use Rattle.macho_relocation_scan.specs.Surveys.{AreOfInputs}
 use Rattle.macho_consumed.specs.declared.rows.Initializer.{Initializer}
 use Rattle.macho_consumed.specs.declared.rows.PersonalityUse.{PersonalityUse}
 use Rattle.macho_consumed.specs.Symbols.{HasPointer, HasPersonality}
@@ -25,7 +25,6 @@ use Rattle.macho_reading.specs.declared.rows.Rows.{Rows}
 use Rattle.macho_reading.specs.Read.{IsLinkOf, IsReadOf, AreKnown}
 use Rattle.macho_reading.specs.steps.Rows.{IsUsable, IsUsableIf, IsUsableEntry, AreUsable, AreRows, KeepRules, AreOfSome}
 use Rattle.macho_reading.specs.steps.Steps.{IsSurveyed, IsHalfRead, IsNotedWith}
-use Rattle.macho_reading.proofs.Following.{symbol_stays}
 use Rattle.macho_model.proofs.Uses.{imports_are}
 
 -- the imports that are noted are all
@@ -71,29 +70,6 @@ are_known views r rows same of usable =
       entries = All-weaker (IsUsableEntry symbols) (HasPersonality symbols)
           (λ e it. has_personality symbols e.file e.personality it) r.entries.items here.entries;
     }
-
--- and stays so
-pointer_stays : (old new : ResolvedRows) → old.files ≡ new.files → (row : Initializer) → IsUsable old row → IsUsable new row
-pointer_stays old new same row it =
-    record { form = it.form; named = it.named; symbol = symbol_stays old new row.file row.relocation.r_symbolnum same it.symbol }
-
-personality_stays : (old new : ResolvedRows) (file : ℕ) → old.files ≡ new.files → (o : Option PersonalityUse) → IsUsableIf old file o
-    → IsUsableIf new file o
-personality_stays old new file same None it = tt
-personality_stays old new file same (Some p) it =
-    record { form = it.form; named = it.named; symbol = symbol_stays old new file p.relocation.r_symbolnum same it.symbol }
-
-pub usable_stays : (old new : ResolvedRows) (rows : Rows) → old.files ≡ new.files → AreUsable old rows → AreUsable new rows
-usable_stays old new rows same usable = record {
-  initializers = All-weaker (IsUsable old) (IsUsable new) (pointer_stays old new same) rows.initializers.items usable.initializers;
-  entries =
-      All-weaker (IsUsableEntry old) (IsUsableEntry new)
-      (λ e it. personality_stays old new e.file same e.personality it) rows.entries.items usable.entries;
-}
-
--- the inputs that are viewed are those that are kept
-pub of_some : (views : List (Option FileBytes)) (files : List FileRows) → AreOfInputs views files → AreOfSome files
-of_some views files of = record { inputs = of.inputs; keeps = of.keeps }
 
 -- a link on the way
 pub surveyed : (l : Link) (views : List (Option FileBytes)) (symbols : ResolvedRows) (entry : Option (List ℕ)) (list : Option ListEntries)

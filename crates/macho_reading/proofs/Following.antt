@@ -5,27 +5,27 @@
 use Rattle.std.proofs.Common.{◌≡◌, ℕ, ◌+◌, ◌<◌, ◌≤◌, List, [], ◌∷◌, ◌++◌, length, take, drop, get_or, Option, Some, sym, ap, ◌∙◌, subst, append-nil, append_assoc}
 use Rattle.std.specs.Prelude.{Contains, option_map, option_to_list}
 use Rattle.std.specs.List.{flat_map}
-use Rattle.std.proofs.lemmas.List.{take_more, take-append-drop, take_all}
+use Rattle.std.proofs.lemmas.List.{take_more, take-append-drop}
 use Rattle.std.proofs.lemmas.List.Elements.{Contains-append_left, Contains-append_right}
 use Rattle.std.proofs.lemmas.Grind.{flat_map-append}
 use Rattle.macho_model.specs.Links.{Input, Link}
 use Rattle.macho_model.specs.Uses.{Use, uses_of}
-use Rattle.macho_names.specs.Kept.{FileRows, Keeps}
+use Rattle.macho_symbol_names.specs.Kept.{FileRows, Keeps}
 use Rattle.macho_symbols.specs.Kept.{ResolvedRows, HasSymbol}
-use Rattle.macho_parts.specs.Noted.{BeginsWith}
+use Rattle.macho_promise.specs.Noted.{BeginsWith}
 use Rattle.macho_needs.specs.declared.needs.Needs.{Needs}
 use Rattle.macho_needs.specs.Noted.{IsNoted}
 use Rattle.macho_consumed.specs.declared.rows.PersonalityUse.{PersonalityUse}
 use Rattle.macho_consumed.specs.declared.rows.UnwindEntry.{UnwindEntry}
 use Rattle.macho_consumed.specs.Laws.{use_of_personality, uses_of_entry}
-use Rattle.macho_consumed.proofs.Members.{here}
 use Rattle.macho_reading.specs.steps.Rows.{AreOfSome}
+use Rattle.macho_bytes.proofs.Members.{contains_first}
 
 -- the last use of a beginning
 pub last_used : (l : Link) (us : List Use) (u : Use) → BeginsWith l (us ++ u ∷ []) → Contains (uses_of l) u
 last_used l us u begins =
     subst (λ (ws : List Use). Contains ws u) (sym begins.is)
-    (Contains-append_left (us ++ u ∷ []) begins.rest u (Contains-append_right us (u ∷ []) u (here u [])))
+    (Contains-append_left (us ++ u ∷ []) begins.rest u (Contains-append_right us (u ∷ []) u (contains_first u [])))
 
 -- one row more
 parts_more : {X : Type 0} (us : List Use) (f : X → List Use) (xs : List X) (i : ℕ) (d : X) → i < length xs
@@ -56,21 +56,9 @@ pub noted_more : {X : Type 0} (l : Link) (us : List Use) (f : X → List Use) (x
     → IsNoted l ((us ++ flat_map f (take i xs)) ++ f (get_or xs i d)) n → IsNoted l (us ++ flat_map f (take (i + 1) xs)) n
 noted_more l us f xs i d n lt noted = subst (λ (ws : List Use). IsNoted l ws n) (sym (parts_more us f xs i d lt)) noted
 
--- no row yet, and all rows
-pub noted_first : (l : Link) (us : List Use) (n : Needs) → IsNoted l us n → IsNoted l (us ++ []) n
-noted_first l us n noted = subst (λ (ws : List Use). IsNoted l ws n) (sym (append-nil us)) noted
-
-pub noted_all : {X : Type 0} (l : Link) (us : List Use) (f : X → List Use) (xs : List X) (i : ℕ) (n : Needs) → length xs ≤ i
-    → IsNoted l (us ++ flat_map f (take i xs)) n → IsNoted l (us ++ flat_map f xs) n
-noted_all {X = X} l us f xs i n past noted = subst (λ (ys : List X). IsNoted l (us ++ flat_map f ys) n) (take_all i xs past) noted
-
 -- what an entry with a personality function uses
 pub entry_used : (e : UnwindEntry) (p : PersonalityUse) → e.personality ≡ Some p → uses_of_entry e ≡ use_of_personality e p ∷ []
 entry_used e p is = ap (λ (o : Option PersonalityUse). option_to_list (option_map (use_of_personality e) o)) is
-
--- symbols that are kept stay so
-pub files_same : (old new : List FileRows) → AreOfSome old → ((inputs : List Input) → Keeps inputs old → Keeps inputs new) → old ≡ new
-files_same old new some kept = some.keeps.are ∙ sym (kept some.inputs some.keeps).are
 
 pub symbol_stays : (old new : ResolvedRows) (file symbol : ℕ) → old.files ≡ new.files → HasSymbol old file symbol
     → HasSymbol new file symbol

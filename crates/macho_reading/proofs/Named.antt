@@ -16,14 +16,14 @@ use Rattle.macho_model.specs.Uses.{Use, ByName, uses_of}
 use Rattle.macho_model.specs.Targets.{definition_target}
 use Rattle.macho_model.specs.Consumed.{is_section_target}
 use Rattle.macho_model.specs.Faults.{entry_is_defined}
-use Rattle.macho_names.specs.declared.fault.SymbolFault.{SymbolFault}
-use Rattle.macho_names.specs.declared.fault.SymbolFault.TheVariants.{DuplicateSymbol, UndefinedSymbol, ExportListMissing, OutOfMemory}
-use Rattle.macho_names.specs.Kept.{Keeps}
+use Rattle.macho_symbol_names.specs.declared.fault.SymbolFault.{SymbolFault}
+use Rattle.macho_symbol_names.specs.declared.fault.SymbolFault.TheVariants.{DuplicateSymbol, UndefinedSymbol, ExportListMissing, OutOfMemory}
+use Rattle.macho_symbol_names.specs.Kept.{Keeps}
 use Rattle.macho_symbols.specs.Kept.{ResolvedRows, IsResolved}
 use Rattle.macho_symbols.specs.Told.{noting_name, noting_names, IsMissing}
-use Rattle.macho_faults.specs.Errors.{error_of}
-use Rattle.macho_faults.specs.Standing.{Stands}
-use Rattle.macho_parts.specs.Noted.{imports_in}
+use Rattle.macho_answer.specs.Errors.{error_of}
+use Rattle.macho_answer.specs.Standing.{Stands}
+use Rattle.macho_promise.specs.Noted.{imports_in}
 use Rattle.macho_needs.specs.declared.needs.Needs.{Needs}
 use Rattle.macho_needs.specs.Noted.{IsNoted}
 use Rattle.macho_needs.proofs.Using.{link_with}
@@ -136,8 +136,3 @@ unfolding link_with
 files_stay (Ok x) inputs old new more keeps noted kept =
     record { are = (noted (link_with inputs) old.noted (record { keeps = keeps.are; notes = refl })).keeps }
 files_stay (Err e) inputs old new more keeps noted kept = subst (λ (q : ResolvedRows). Keeps inputs q.files) (sym kept) keeps
-
--- what is so is so on Ok
-pub anyway : {X E P : Type 0} (r : Result X E) → P → OnOk r P
-anyway (Ok x) p = p
-anyway (Err e) p = tt

@@ -6,11 +6,10 @@
 use Rattle.std.proofs.Common.{◌≡◌, ℕ, ◌+◌, ◌*◌, ◌/◌, ◌%◌, ◌<◌, nat_lt, ◌&&◌, ◌==◌, not, true, false, List, ◌++◌, map, filter, refl, sym, ap, ◌∙◌, subst, arith}
 use Rattle.std.specs.Prelude.{Contains}
 use Rattle.std.specs.List.{flat_map, range_with_len}
-use Rattle.std.proofs.lemmas.Bool.{eqb-true}
 use Rattle.std.proofs.lemmas.Bool.Decides.{nat_tests, Decides-eqb}
 use Rattle.std.proofs.lemmas.List.Elements.{Contains-append_left, Contains-append_right}
 use Rattle.macho_records.specs.Sections.{should_exclude_of}
-use Rattle.macho_structs.specs.declared.relocations.RelocationInfo.{RelocationInfo}
+use Rattle.macho_wire.specs.declared.relocations.RelocationInfo.{RelocationInfo}
 use Rattle.macho_records.specs.declared.constants.TheConstants.{ARM64_RELOC_ADDEND, ARM64_RELOC_UNSIGNED}
 use Rattle.macho_records.specs.declared.header.SectionHeader.{SectionHeader}
 use Rattle.macho_object.specs.Views.{RelocationBytes}
@@ -22,20 +21,21 @@ use Rattle.macho_model.specs.Links.{Input, Link, SectionId, section_id, object_o
 use Rattle.macho_model.specs.Needs.{initializer_sections, unwind_sections, is_imported, relocation_in, relocations_of, relocations_at}
 use Rattle.macho_model.specs.Uses.{ByInitializer, ByPersonality, ByName, uses_of, carried_uses, initializer_uses, personality_uses}
 use Rattle.macho_model.specs.Consumed.{is_plain_pointer}
-use Rattle.macho_names.specs.Kept.{FileRows, Keeps}
+use Rattle.macho_symbol_names.specs.Kept.{FileRows, Keeps}
 use Rattle.macho_symbols.specs.Kept.{ResolvedRows, IsResolved}
 use Rattle.macho_needs.specs.Noted.{names_symbol}
-use Rattle.macho_survey.specs.steps.Sections.{HasRows, HasObject}
-use Rattle.macho_survey.proofs.Walking.{same_object, rows_kept}
-use Rattle.macho_survey.proofs.Within.{has_referent}
-use Rattle.macho_standing.proofs.Inputs.{section_listed}
-use Rattle.macho_consumed.proofs.Members.{to_filter, to_map, to_joined, to_range}
-use Rattle.macho_consumed.proofs.Tests.{left_of, right_of, both}
+use Rattle.macho_relocation_scan.specs.steps.Sections.{HasRows, HasObject}
+use Rattle.macho_relocation_scan.proofs.Walking.{same_object, rows_kept}
+use Rattle.macho_relocation_scan.proofs.Within.{has_referent}
+use Rattle.macho_image_laws.proofs.Inputs.{section_listed}
 use Rattle.macho_consumed.specs.declared.listing.Kind.{Kind}
 use Rattle.macho_consumed.specs.declared.listing.Kind.TheVariants.{Initializers, Entries}
 use Rattle.macho_reading.specs.steps.Rows.{IsSymbolPointer}
 use Rattle.macho_consumed.specs.Kinds.{is_of_kind}
 use Rattle.macho_reading.specs.steps.Uses.{is_placed, is_use, use_of, IsSection}
+use Rattle.macho_bytes.proofs.Bools.{and_left, and_right, and_both as both}
+use Rattle.macho_bytes.proofs.Members.{contains_map, contains_filter as to_filter, contains_flat_map, contains_range}
+use Rattle.macho_model.proofs.Sections.{no_addend}
 
 -- a link of which rows of symbols are kept is resolved, with what is noted
 pub still_resolved : (l : Link) (r : ResolvedRows) → Keeps l.inputs r.files → IsResolved l r.noted r
@@ -44,16 +44,16 @@ still_resolved l r keeps = record { keeps = keeps.are; notes = refl }
 -- places
 slot_is : (place size : ℕ) → is_placed Initializers size place ≡ true → (place ≡ 8 * (place / 8)) × (place / 8 < size / 8)
 slot_is place size placed =
-    let even = (Decides-eqb (place % 8) 0).0 (left_of (place % 8 == 0) (nat_lt (place / 8) (size / 8)) placed) in
-    let below : nat_lt (place / 8) (size / 8) ≡ true = right_of (place % 8 == 0) (nat_lt (place / 8) (size / 8)) placed in (
+    let even = (Decides-eqb (place % 8) 0).0 (and_left (place % 8 == 0) (nat_lt (place / 8) (size / 8)) placed) in
+    let below : nat_lt (place / 8) (size / 8) ≡ true = and_right (place % 8 == 0) (nat_lt (place / 8) (size / 8)) placed in (
       omega (arith, even),
       grind (arith, nat_tests, below),
     )
 
 entry_is : (place size : ℕ) → is_placed Entries size place ≡ true → (place ≡ 32 * (place / 32) + 16) × (place / 32 < size / 32)
 entry_is place size placed =
-    let rest = (Decides-eqb (place % 32) 16).0 (left_of (place % 32 == 16) (nat_lt (place / 32) (size / 32)) placed) in
-    let below : nat_lt (place / 32) (size / 32) ≡ true = right_of (place % 32 == 16) (nat_lt (place / 32) (size / 32)) placed in (
+    let rest = (Decides-eqb (place % 32) 16).0 (and_left (place % 32 == 16) (nat_lt (place / 32) (size / 32)) placed) in
+    let below : nat_lt (place / 32) (size / 32) ≡ true = and_right (place % 32 == 16) (nat_lt (place / 32) (size / 32)) placed in (
       omega (arith, rest),
       grind (arith, nat_tests, below),
     )
@@ -62,7 +62,7 @@ entry_is place size placed =
 at_place : (l : Link) (s : SectionId) (r place : ℕ) → r < (header_at l s).nreloc → (relocation_in l s r).r_address ≡ place
     → Contains (relocations_at l s place) r
 at_place l s r place lt is =
-    to_filter (λ (q : ℕ). (relocation_in l s q).r_address == place) (relocations_of l s) r (to_range (header_at l s).nreloc r lt)
+    to_filter (λ (q : ℕ). (relocation_in l s q).r_address == place) (relocations_of l s) r (contains_range (header_at l s).nreloc r lt)
     ((Decides-eqb (relocation_in l s r).r_address place).1 is)
 
 -- the uses of a section
@@ -72,20 +72,21 @@ by_initializer : (l : Link) (s : SectionId) (r : ℕ) → r < (header_at l s).nr
 by_initializer l s r lt placed =
     let slot = (relocation_in l s r).r_address / 8 in
     let is = slot_is (relocation_in l s r).r_address (header_at l s).size placed in
-    to_joined (λ (n : ℕ). map (ByInitializer s) (relocations_at l s (8 * n))) (range_with_len 0 ((header_at l s).size / 8)) slot
+    contains_flat_map (λ (n : ℕ). map (ByInitializer s) (relocations_at l s (8 * n))) (range_with_len 0 ((header_at l s).size / 8)) slot
     (ByInitializer s r)
-    (to_range ((header_at l s).size / 8) slot is.1)
-    (to_map (ByInitializer s) (relocations_at l s (8 * slot)) r (at_place l s r (8 * slot) lt is.0))
+    (contains_range ((header_at l s).size / 8) slot is.1)
+    (contains_map (ByInitializer s) (relocations_at l s (8 * slot)) r (at_place l s r (8 * slot) lt is.0))
 
 by_personality : (l : Link) (s : SectionId) (r : ℕ) → r < (header_at l s).nreloc
     → is_placed Entries (header_at l s).size (relocation_in l s r).r_address ≡ true → Contains (personality_uses l s) (ByPersonality s r)
 by_personality l s r lt placed =
     let entry = (relocation_in l s r).r_address / 32 in
     let is = entry_is (relocation_in l s r).r_address (header_at l s).size placed in
-    to_joined (λ (n : ℕ). map (ByPersonality s) (relocations_at l s (32 * n + 16))) (range_with_len 0 ((header_at l s).size / 32)) entry
+    contains_flat_map (λ (n : ℕ). map (ByPersonality s) (relocations_at l s (32 * n + 16)))
+    (range_with_len 0 ((header_at l s).size / 32)) entry
     (ByPersonality s r)
-    (to_range ((header_at l s).size / 32) entry is.1)
-    (to_map (ByPersonality s) (relocations_at l s (32 * entry + 16)) r (at_place l s r (32 * entry + 16) lt is.0))
+    (contains_range ((header_at l s).size / 32) entry is.1)
+    (contains_map (ByPersonality s) (relocations_at l s (32 * entry + 16)) r (at_place l s r (32 * entry + 16) lt is.0))
 
 -- THE use of the walk
 in_walk : (l : Link) (kind : Kind) (s : SectionId) (r : ℕ) → Contains (sections_of l) s → is_of_kind kind (header_at l s) ≡ true
@@ -99,7 +100,8 @@ in_walk l Initializers s r there is lt placed =
     let last = map ByName (filter (is_imported l) (plain_entries l.export_lists)) in
     let listed = to_filter (λ (t : SectionId). not (should_exclude_of (header_at l t)) && is_initializers (header_at l t))
     (sections_of l) s there is in
-    let one = to_joined (initializer_uses l) (initializer_sections l) s (ByInitializer s r) listed (by_initializer l s r lt placed) in
+    let one = contains_flat_map (initializer_uses l) (initializer_sections l) s (ByInitializer s r) listed
+    (by_initializer l s r lt placed) in
     Contains-append_left ((first ++ second) ++ third) last (ByInitializer s r)
     (Contains-append_left (first ++ second) third (ByInitializer s r) (Contains-append_right first second (ByInitializer s r) one))
 in_walk l Entries s r there is lt placed =
@@ -109,23 +111,23 @@ in_walk l Entries s r there is lt placed =
     let last = map ByName (filter (is_imported l) (plain_entries l.export_lists)) in
     let listed = to_filter (λ (t : SectionId). not (should_exclude_of (header_at l t)) && is_unwind_entries (header_at l t))
     (sections_of l) s there is in
-    let one = to_joined (personality_uses l) (unwind_sections l) s (ByPersonality s r) listed (by_personality l s r lt placed) in
+    let one = contains_flat_map (personality_uses l) (unwind_sections l) s (ByPersonality s r) listed (by_personality l s r lt placed) in
     Contains-append_left ((first ++ second) ++ third) last (ByPersonality s r)
     (Contains-append_right (first ++ second) third (ByPersonality s r) one)
 
 -- a use, in its parts
 use_place : (kind : Kind) (size : ℕ) (rel : RelocationInfo) → is_use kind size rel ≡ true → is_placed kind size rel.r_address ≡ true
 use_place kind size rel is =
-    left_of (is_placed kind size rel.r_address) rel.r_extern
-    (left_of (is_placed kind size rel.r_address && rel.r_extern) (is_plain_pointer rel) is)
+    and_left (is_placed kind size rel.r_address) rel.r_extern
+    (and_left (is_placed kind size rel.r_address && rel.r_extern) (is_plain_pointer rel) is)
 
 use_extern : (kind : Kind) (size : ℕ) (rel : RelocationInfo) → is_use kind size rel ≡ true → rel.r_extern ≡ true
 use_extern kind size rel is =
-    right_of (is_placed kind size rel.r_address) rel.r_extern
-    (left_of (is_placed kind size rel.r_address && rel.r_extern) (is_plain_pointer rel) is)
+    and_right (is_placed kind size rel.r_address) rel.r_extern
+    (and_left (is_placed kind size rel.r_address && rel.r_extern) (is_plain_pointer rel) is)
 
 use_plain : (kind : Kind) (size : ℕ) (rel : RelocationInfo) → is_use kind size rel ≡ true → is_plain_pointer rel ≡ true
-use_plain kind size rel is = right_of (is_placed kind size rel.r_address && rel.r_extern) (is_plain_pointer rel) is
+use_plain kind size rel is = and_right (is_placed kind size rel.r_address && rel.r_extern) (is_plain_pointer rel) is
 
 pub is_in_walk : (l : Link) (files : List FileRows) (file : ℕ) (list : RelocationBytes) (kind : Kind) (size r : ℕ)
     → IsSection files file list kind size → HasObject l file list.bytes → r < (section_at list.bytes list.section).nreloc
@@ -142,14 +144,6 @@ is_in_walk l files file list kind size r of has lt is =
     in_walk l kind s r there (subst (λ b. is_of_kind kind (section_at b list.section) ≡ true) same of.is_of)
     (subst (λ b. r < (section_at b list.section).nreloc) same lt)
     (subst (λ b. is_placed kind (section_at b list.section).size (relocation_at b list.section r).r_address ≡ true) same placed)
-
--- its symbol
-no_addend : (rel : RelocationInfo) → is_plain_pointer rel ≡ true → (rel.r_type == ARM64_RELOC_ADDEND) ≡ false
-no_addend rel plain =
-    let type = eqb-true rel.r_type ARM64_RELOC_UNSIGNED
-    (left_of (rel.r_type == ARM64_RELOC_UNSIGNED) (rel.r_length == 3)
-    (left_of ((rel.r_type == ARM64_RELOC_UNSIGNED) && (rel.r_length == 3)) (not rel.r_pcrel) plain)) in
-    ap (λ n. n == ARM64_RELOC_ADDEND) type
 
 pub is_pointer_to_symbol : (rows : ResolvedRows) (file : ℕ) (list : RelocationBytes) (kind : Kind) (size r : ℕ)
     → IsSection rows.files file list kind size → r < (section_at list.bytes list.section).nreloc
@@ -182,19 +176,6 @@ walk_got l files file list kind size r rel of has lt got is =
 pub relocation_got : (l : Link) (file : ℕ) (list : RelocationBytes) (r : ℕ) (rel : RelocationInfo) → HasObject l file list.bytes
     → rel ≡ relocation_at list.bytes list.section r → rel ≡ relocation_in l (section_id file list.section) r
 relocation_got l file list r rel has got = got ∙ ap (λ b. relocation_at b list.section r) (sym (same_object l file list.bytes has))
-
--- the section that is looked through, and the same behind a use
-pub section_is : (files : List FileRows) (file : ℕ) (bytes : List ℕ) (k : ℕ) (list : RelocationBytes) (kind : Kind) (header : SectionHeader)
-    → list ≡ record { bytes = bytes; section = k } → header ≡ section_at bytes k → HasRows files file bytes → IsObject bytes
-    → k < num_sections bytes → is_of_kind kind header ≡ true → IsSection files file list kind header.size
-section_is files file bytes k list kind header list_is header_is rows object there of =
-    subst (λ (n : RelocationBytes). IsSection files file n kind header.size) (sym list_is) (record {
-      rows = rows;
-      object = object;
-      there = there;
-      is_of = subst (λ (h : SectionHeader). is_of_kind kind h ≡ true) header_is of;
-      size_is = ap (λ (h : SectionHeader). h.size) header_is;
-    })
 
 pub section_kept : (old new : List FileRows) (file : ℕ) (list : RelocationBytes) (kind : Kind) (size : ℕ)
     → IsSection old file list kind size

@@ -4,7 +4,6 @@
 -- initializers and unwind entries keep their rules, relocations are supported and apart, addends fit, pointers stand where they may.
 use Rattle.std.proofs.Common.{◌≡◌, ℕ, ◌%◌, ◌==◌, Bool, true, false, sym, ap, ◌∙◌, inl, inr, Option, Some, None}
 use Rattle.std.specs.Prelude.{Contains, is_none, IsNone}
-use Rattle.std.proofs.lemmas.Bool.{true≢false}
 use Rattle.std.proofs.lemmas.List.Elements.{All-contains}
 use Rattle.macho_model.specs.declared.rules.UnwindRule.{UnwindRule}
 use Rattle.macho_model.specs.declared.rules.UnwindRule.TheVariants.{U1, U2, U3, U4, U5, U6, U7, U8}
@@ -17,9 +16,7 @@ use Rattle.macho_model.specs.Values.{fits_signed}
 use Rattle.macho_model.specs.Faults.{DuplicateSymbol, UndefinedSymbol, EntryNotDefined, ExportListMissing, BadInitializer, BadUnwind, UnsupportedRelocation, OverlappingFields, BindAddend, FixupPlace, TooMany, ImageTooLarge, RebaseTarget, RelocationRange, BadName, IsBadEntry, IsBadInitializer}
 use Rattle.macho_consumed.specs.Told.{InitializersKeepRules, EntriesKeepRules}
 use Rattle.macho_reading.specs.Laws.{ReadIsNotRefused, PersonalitiesAreFit}
-
-clash : (b : Bool) → b ≡ true → b ≡ false → ⊥
-clash b yes_it no_it = true≢false (sym yes_it ∙ no_it)
+use Rattle.macho_bytes.proofs.Bools.{true_or_false as clash}
 
 neither : {X : Type 0} (o : Option X) → IsNone o → is_none o ≡ false → ⊥
 neither None none some = cc

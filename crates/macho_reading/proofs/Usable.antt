@@ -1,12 +1,11 @@
 -- What rows use can be noted: the relocation of a row is a plain pointer to a symbol that is kept.
 --
 -- That it is such a pointer is a rule of its section. By the rules of objects the symbol's number is one of the object, and of each
--- symbol of an object a row is kept. The link that is spoken of here has the inputs of which views and rows of symbols are.
-use Rattle.std.proofs.Common.{◌≡◌, ℕ, ◌+◌, ◌*◌, ◌/◌, ◌^◌, ◌<◌, ◌≤◌, nat_le, nat_lt, ◌&&◌, ◌||◌, ◌==◌, Bool, true, false, List, [], ◌∷◌, not}
-use Rattle.std.proofs.Common.{length, map, get_or, Option, Some, None, is_none, refl, sym, ap, ◌∙◌, subst, arith, All, if◌then◌else◌}
+-- symbol of an object a row is kept. The link that is spoken of contains_first has the inputs of which views and rows of symbols are.
+use Rattle.std.proofs.Common.{◌≡◌, ℕ, ◌+◌, ◌*◌, ◌/◌, ◌^◌, ◌<◌, ◌≤◌, nat_le, nat_lt, ◌&&◌, ◌||◌, ◌==◌, Bool, true, false, List, [], ◌∷◌, not, length, map, get_or, Option, Some, None, is_none, refl, sym, ap, ◌∙◌, subst, arith, All, if◌then◌else◌}
 use Rattle.std.specs.Prelude.{Contains, option_map}
 use Rattle.std.specs.List.{range_with_len, slice_get}
-use Rattle.std.proofs.lemmas.Bool.Decides.{nat_tests, Decides-eqb}
+use Rattle.std.proofs.lemmas.Bool.Decides.{Decides-eqb}
 use Rattle.std.proofs.lemmas.List.{length-map, get_or-map}
 use Rattle.std.proofs.lemmas.List.FromFn.{length-map-range_with_len}
 use Rattle.std.proofs.lemmas.List.Elements.{All-map}
@@ -16,27 +15,28 @@ use Rattle.macho_object.specs.Views.{FileBytes}
 use Rattle.macho_model.specs.declared.rules.UnwindRule.TheVariants.{U2, U7}
 use Rattle.macho_model.specs.Objects.{num_sections, num_symbols, relocation_at}
 use Rattle.macho_records.specs.declared.constants.TheConstants.{ARM64_RELOC_ADDEND}
-use Rattle.macho_model.specs.Links.{Input, Object, Link, SectionId, no_input, object_bytes, object_of, header_at}
-use Rattle.macho_model.specs.Links.{is_initializers, is_unwind_entries, sections_of}
+use Rattle.macho_model.specs.Links.{Input, Object, Link, SectionId, no_input, object_bytes, object_of, header_at, is_initializers, is_unwind_entries, sections_of}
 use Rattle.macho_model.specs.Needs.{relocation_in, relocations_of, relocations_at, initializer_sections, unwind_sections, PERSONALITY_PLACE}
 use Rattle.macho_model.specs.Consumed.{entry_count, entries_of_link, is_plain_pointer, relocations_in_entry}
-use Rattle.macho_names.specs.Kept.{FileRows, Keeps, no_file, kept_of, row_of_symbol, rows_of_object}
+use Rattle.macho_symbol_names.specs.Kept.{FileRows, Keeps, no_file, kept_of, row_of_symbol, rows_of_object}
 use Rattle.macho_symbols.specs.Kept.{ResolvedRows, IsResolved}
 use Rattle.macho_needs.proofs.Using.{link_with}
 use Rattle.macho_promise.specs.UnwindSays.{relocation_of}
 use Rattle.macho_model.specs.Grammar.{ObjectsAreRead}
 use Rattle.macho_model.proofs.Words.{initializer_relocation_fits}
-use Rattle.macho_parts.specs.Views.{object_view, views_of}
-use Rattle.macho_survey.specs.Surveys.{AreOfInputs}
-use Rattle.macho_survey.proofs.Viewing.{view_says, file_inside}
+use Rattle.macho_promise.specs.Views.{object_view, views_of}
+use Rattle.macho_relocation_scan.specs.Surveys.{AreOfInputs}
+use Rattle.macho_relocation_scan.proofs.Viewing.{view_says, file_inside}
 use Rattle.macho_consumed.specs.Views.{AreKept}
 use Rattle.macho_consumed.specs.Rows.{initializer_row, initializer_rows_in, initializer_rows, personality_use, entry_row, entry_rows}
 use Rattle.macho_consumed.specs.Told.{InitializersKeepRules, EntriesKeepRules}
-use Rattle.macho_consumed.proofs.Members.{here, in_filter, to_filter, in_range, all_joined, all_there}
-use Rattle.macho_consumed.proofs.Tests.{left_of, right_of, passes}
+use Rattle.macho_consumed.proofs.Members.{in_filter, all_joined}
 use Rattle.macho_consumed.specs.steps.Entries.{unwind_relocation_fits}
-use Rattle.macho_standing.proofs.Inputs.{section_of_file}
+use Rattle.macho_image_laws.proofs.Inputs.{section_of_file}
 use Rattle.macho_reading.specs.steps.Rows.{IsWhole, IsSymbolPointer, IsUsable, IsUsableIf, IsUsableEntry}
+use Rattle.macho_bytes.proofs.Bools.{and_left, and_right}
+use Rattle.macho_bytes.proofs.Members.{contains_first, contains_all, contains_filter, range_contains, one_passes}
+use Rattle.macho_model.proofs.ObjectLaws.{symbol_exists}
 
 -- a view that is got is of an object
 object_got : (views : List (Option FileBytes)) (inputs : List Input) (k : ℕ) (f : FileBytes) → views ≡ map object_view inputs
@@ -79,23 +79,13 @@ objects_read views inputs are whole file b (lt, is) =
     ∙ ap object_view is in
     subst IsWhole seen (whole file None below)
 
--- a plain pointer of a section
-symbol_below : (b : List ℕ) (k r : ℕ) → relocation_number_exists b k r ≡ true → (relocation_at b k r).r_extern ≡ true
-    → (relocation_at b k r).r_symbolnum < num_symbols b
-symbol_below b k r exists extern =
-    let below : nat_lt (relocation_at b k r).r_symbolnum (num_symbols b) ≡ true = subst
-    (λ (t : Bool).
-    (if t then nat_lt (relocation_at b k r).r_symbolnum (num_symbols b) else ((relocation_at b k r).r_type == ARM64_RELOC_ADDEND)
-    || (nat_le 1 (relocation_at b k r).r_symbolnum && nat_le (relocation_at b k r).r_symbolnum (num_sections b))) ≡ true) extern exists in
-    grind (arith, nat_tests, below)
-
 pointer_usable : (l : Link) (symbols : ResolvedRows) (s : SectionId) (r : ℕ) → ObjectsAreRead l → symbols.files ≡ map kept_of l.inputs
     → Contains (sections_of l) s → r < (header_at l s).nreloc → is_plain_pointer (relocation_in l s r) ≡ true
     → (relocation_in l s r).r_extern ≡ true → IsSymbolPointer symbols s.file (relocation_in l s r)
 unfolding rows_of_object
 pointer_usable l symbols s r read keeps there lt plain extern =
     let of = section_of_file l s read there in
-    let number = symbol_below (object_of l s.file) s.section r (of.file.object.o5.1 s.section r of.within lt) extern in
+    let number = symbol_exists (object_of l s.file) s.section r (of.file.object.o5.1 s.section r of.within lt) extern in
     let same : get_or symbols.files s.file no_file ≡ kept_of (Object of.file.bytes)
     = ap (λ (fs : List FileRows). get_or fs s.file no_file) keeps ∙ get_or-map kept_of l.inputs s.file no_input no_file of.file.within
     ∙ ap kept_of of.file.is in
@@ -127,10 +117,10 @@ one_initializer l symbols s slot r read keeps rules there below at =
     let inside : 8 * slot + 8 ≤ (header_at l s).size = omega (arith, below) in
     let fits = rules.slots s slot there inside in
     let one : initializer_relocation_fits l s r ≡ true
-    = passes (initializer_relocation_fits l s) (relocations_at l s (8 * slot)) r (right_of _ _ (left_of _ _ fits)) at in
-    let pointer = left_of (is_plain_pointer (relocation_in l s r) && (relocation_in l s r).r_extern) _ one in
-    pointer_usable l symbols s r read keeps listed (in_range (header_at l s).nreloc r among)
-    (left_of _ _ pointer) (right_of (is_plain_pointer (relocation_in l s r)) _ pointer)
+    = one_passes (initializer_relocation_fits l s) (relocations_at l s (8 * slot)) r (and_right _ _ (and_left _ _ fits)) at in
+    let pointer = and_left (is_plain_pointer (relocation_in l s r) && (relocation_in l s r).r_extern) _ one in
+    pointer_usable l symbols s r read keeps listed (range_contains (header_at l s).nreloc r among)
+    (and_left _ _ pointer) (and_right (is_plain_pointer (relocation_in l s r)) _ pointer)
 
 pub initializers_usable : (l : Link) (symbols : ResolvedRows) → ObjectsAreRead l → symbols.files ≡ map kept_of l.inputs
     → InitializersKeepRules l → All (IsUsable symbols) (initializer_rows l)
@@ -140,13 +130,13 @@ initializers_usable l symbols read keeps rules =
     all_joined (IsUsable symbols) (λ slot. map (initializer_row l s) (relocations_at l s (8 * slot)))
     (range_with_len 0 ((header_at l s).size / 8)) (λ slot d.
     All-map (IsUsable symbols) (initializer_row l s) (relocations_at l s (8 * slot))
-    (all_there (λ r. IsUsable symbols (initializer_row l s r)) (relocations_at l s (8 * slot))
-    (λ r e. one_initializer l symbols s slot r read keeps rules c (in_range ((header_at l s).size / 8) slot d) e))))
+    (contains_all (λ r. IsUsable symbols (initializer_row l s r)) (relocations_at l s (8 * slot))
+    (λ r e. one_initializer l symbols s slot r read keeps rules c (range_contains ((header_at l s).size / 8) slot d) e))))
 
 -- THE rows of unwind entries
 got : (rs : List ℕ) (r : ℕ) → slice_get rs 0 ≡ Some r → Contains rs r
 got [] r is = cc
-got (q ∷ rs) r is = let same : q ≡ r = cc in subst (λ (x : ℕ). Contains (q ∷ rs) x) same (here q rs)
+got (q ∷ rs) r is = let same : q ≡ r = cc in subst (λ (x : ℕ). Contains (q ∷ rs) x) same (contains_first q rs)
 
 one_personality : (l : Link) (symbols : ResolvedRows) (s : SectionId) (e r : ℕ) → ObjectsAreRead l → symbols.files ≡ map kept_of l.inputs
     → EntriesKeepRules l → Contains (unwind_sections l) s → e < entry_count l s
@@ -159,11 +149,11 @@ one_personality l symbols s e r read keeps rules there below at =
     let place = (Decides-eqb (relocation_in l s r).r_address (32 * e + PERSONALITY_PLACE)).0 among.0 in
     let of_entry : ((relocation_in l s r).r_address / 32 == e)
     ≡ true = (Decides-eqb ((relocation_in l s r).r_address / 32) e).1 (omega (arith, place)) in
-    let plain = passes (unwind_relocation_fits l s) _ r (rules.unwind s e U2 there below)
-    (to_filter (λ (q : ℕ). (relocation_in l s q).r_address / 32 == e) (relocations_of l s) r among.1 of_entry) in
-    let extern = passes _ (relocations_in_entry l s e PERSONALITY_PLACE) r (left_of _ _ (rules.unwind s e U7 there below)) at in
-    pointer_usable l symbols s r read keeps listed (in_range (header_at l s).nreloc r among.1)
-    (left_of (is_plain_pointer (relocation_in l s r)) _ plain) (left_of (relocation_in l s r).r_extern _ extern)
+    let plain = one_passes (unwind_relocation_fits l s) _ r (rules.unwind s e U2 there below)
+    (contains_filter (λ (q : ℕ). (relocation_in l s q).r_address / 32 == e) (relocations_of l s) r among.1 of_entry) in
+    let extern = one_passes _ (relocations_in_entry l s e PERSONALITY_PLACE) r (and_left _ _ (rules.unwind s e U7 there below)) at in
+    pointer_usable l symbols s r read keeps listed (range_contains (header_at l s).nreloc r among.1)
+    (and_left (is_plain_pointer (relocation_in l s r)) _ plain) (and_left (relocation_in l s r).r_extern _ extern)
 
 one_entry : (l : Link) (symbols : ResolvedRows) (s : SectionId) (e : ℕ) → ObjectsAreRead l → symbols.files ≡ map kept_of l.inputs
     → EntriesKeepRules l → Contains (unwind_sections l) s → e < entry_count l s
@@ -186,5 +176,5 @@ entries_usable l symbols read keeps rules =
     (λ s. map (λ e. record { of_section = s; entry = e }) (range_with_len 0 (entry_count l s)))
     (unwind_sections l) (λ s c.
     All-map (λ d. IsUsableEntry symbols (entry_row l d)) (λ e. record { of_section = s; entry = e }) (range_with_len 0 (entry_count l s))
-    (all_there (λ e. IsUsableEntry symbols (entry_row l (record { of_section = s; entry = e }))) (range_with_len 0 (entry_count l s))
-    (λ e d. one_entry l symbols s e read keeps rules c (in_range (entry_count l s) e d)))))
+    (contains_all (λ e. IsUsableEntry symbols (entry_row l (record { of_section = s; entry = e }))) (range_with_len 0 (entry_count l s))
+    (λ e d. one_entry l symbols s e read keeps rules c (range_contains (entry_count l s) e d)))))

@@ -13,7 +13,7 @@ use Rattle.macho_model.specs.Needs.{is_imported, relocations_at, initializer_sec
 use Rattle.macho_model.specs.Uses.{Use, ByName, uses_of}
 use Rattle.macho_model.specs.Consumed.{EntryId, entries_of_link}
 use Rattle.macho_promise.specs.UnwindSays.{relocation_of}
-use Rattle.macho_parts.specs.Noted.{BeginsWith, uses_of_carried, uses_of_initializers, uses_of_personalities}
+use Rattle.macho_promise.specs.Noted.{BeginsWith, uses_of_carried, uses_of_initializers, uses_of_personalities}
 use Rattle.macho_needs.specs.declared.needs.Needs.{Needs}
 use Rattle.macho_needs.specs.Noted.{IsNoted}
 use Rattle.macho_consumed.specs.declared.rows.Initializer.{Initializer}
@@ -21,10 +21,11 @@ use Rattle.macho_consumed.specs.declared.rows.UnwindEntry.{UnwindEntry}
 use Rattle.macho_consumed.specs.Rows.{initializer_row, initializer_rows_in, initializer_rows, personality_use, entry_row, entry_rows}
 use Rattle.macho_consumed.specs.Laws.{use_of_initializer, uses_of_entry}
 use Rattle.macho_consumed.specs.Told.{EntriesKeepRules}
-use Rattle.macho_consumed.proofs.Members.{all_joined, all_there}
+use Rattle.macho_consumed.proofs.Members.{all_joined}
 use Rattle.macho_consumed.proofs.RowLaws.{are_used, are_used_by_entries}
 use Rattle.macho_reading.specs.steps.Rows.{uses_of_row, IsInitializerOf, IsPersonalityOf, IsEntryOf}
 use Rattle.macho_reading.specs.steps.Steps.{uses_before_names}
+use Rattle.macho_bytes.proofs.Members.{contains_all}
 
 -- rows are of the relocations of their numbers
 of_initializers : (l : Link) → All (IsInitializerOf l) (initializer_rows l)
@@ -34,7 +35,7 @@ of_initializers l =
     all_joined (IsInitializerOf l) (λ slot. map (initializer_row l s) (relocations_at l s (8 * slot)))
     (range_with_len 0 ((header_at l s).size / 8)) (λ slot d.
     All-map (IsInitializerOf l) (initializer_row l s) (relocations_at l s (8 * slot))
-    (all_there (λ r. IsInitializerOf l (initializer_row l s r)) (relocations_at l s (8 * slot)) (λ r e. refl))))
+    (contains_all (λ r. IsInitializerOf l (initializer_row l s r)) (relocations_at l s (8 * slot)) (λ r e. refl))))
 
 of_personality : (l : Link) (d : EntryId) (o : Option ℕ) → IsPersonalityOf l d.of_section (option_map (personality_use l d) o)
 of_personality l d None = tt
@@ -44,7 +45,7 @@ of_entries : (l : Link) → All (IsEntryOf l) (entry_rows l)
 unfolding entry_rows entry_row
 of_entries l =
     All-map (IsEntryOf l) (entry_row l) (entries_of_link l)
-    (all_there (λ d. IsEntryOf l (entry_row l d)) (entries_of_link l) (λ d c. of_personality l d (relocation_of l d PERSONALITY_PLACE)))
+    (contains_all (λ d. IsEntryOf l (entry_row l d)) (entries_of_link l) (λ d c. of_personality l d (relocation_of l d PERSONALITY_PLACE)))
 
 -- the walk
 pub uses_split : (l : Link) → uses_of l ≡ uses_before_names l ++ map ByName (filter (is_imported l) (plain_entries l.export_lists))

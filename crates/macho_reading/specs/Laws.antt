@@ -3,7 +3,7 @@ use Rattle.std.specs.Prelude.{None}
 use Rattle.macho_model.specs.declared.placed.Counts.{Counts}
 use Rattle.macho_model.specs.Links.{Link}
 use Rattle.macho_model.specs.Faults.{LinkFault, UndefinedSymbol, EntryNotDefined, ExportListMissing, BadInitializer, BadUnwind, UnsupportedRelocation, OverlappingFields, BindAddend, FixupPlace, FaultStands}
-use Rattle.macho_standing.specs.Leads.{PersonalitiesFit}
+use Rattle.macho_image_laws.specs.Leads.{PersonalitiesFit}
 use Rattle.macho_consumed.specs.Told.{EntriesKeepRules}
 use Rattle.macho_reading.specs.Read.{IsFit}
 

@@ -5,15 +5,15 @@ use Rattle.macho_model.specs.ExportLists.{plain_entries}
 use Rattle.macho_model.specs.Links.{Link}
 use Rattle.macho_model.specs.Needs.{imports_of}
 use Rattle.macho_model.specs.Faults.{entry_is_defined}
-use Rattle.macho_exports.specs.Entries.{ListEntries}
+use Rattle.macho_export_lists.specs.Entries.{ListEntries}
 use Rattle.macho_symbols.specs.Exported.{AreLists, AreExports}
 use Rattle.macho_symbols.specs.Kept.{ResolvedRows, IsResolved}
 use Rattle.macho_symbols.specs.Told.{AreDefined}
-use Rattle.macho_parts.specs.Noted.{AreNeeds}
-use Rattle.macho_parts.specs.Sound.{NamesAreFound, IsSound}
+use Rattle.macho_promise.specs.Noted.{AreNeeds}
+use Rattle.macho_promise.specs.Sound.{NamesAreFound, IsSound}
 use Rattle.macho_needs.specs.Noted.{needed_of}
-use Rattle.macho_parts.specs.Views.{views_of}
-use Rattle.macho_survey.specs.Surveys.{AreOfInputs}
+use Rattle.macho_promise.specs.Views.{views_of}
+use Rattle.macho_relocation_scan.specs.Surveys.{AreOfInputs}
 use Rattle.macho_consumed.specs.Rows.{initializer_rows, entry_rows}
 use Rattle.macho_consumed.specs.Symbols.{HasPointer, HasPersonality}
 use Rattle.macho_consumed.specs.Told.{InitializersKeepRules, EntriesKeepRules}

@@ -4,10 +4,10 @@ ghost use Rattle.std.specs.List.{flat_map};
 ghost use Rattle.macho_model.specs.declared.placed.Counts.{Counts};
 ghost use Rattle.macho_model.specs.Links.{Input, Link};
 ghost use Rattle.macho_model.specs.Uses.{Use};
-ghost use Rattle.macho_names.specs.Kept.{Keeps};
+ghost use Rattle.macho_symbol_names.specs.Kept.{Keeps};
 ghost use Rattle.macho_symbols.specs.Kept.{IsResolved};
-ghost use Rattle.macho_faults.specs.Standing.{Stands};
-ghost use Rattle.macho_parts.specs.Noted.{BeginsWith, uses_of_carried};
+ghost use Rattle.macho_answer.specs.Standing.{Stands};
+ghost use Rattle.macho_promise.specs.Noted.{BeginsWith, uses_of_carried};
 ghost use Rattle.macho_needs.specs.Noted.{IsNoted};
 ghost use Rattle.macho_consumed.specs.Laws.{uses_of_entry};
 ghost use Rattle.macho_consumed.specs.Told.{EntriesKeepRules};
@@ -15,8 +15,8 @@ ghost use Rattle.macho_reading.specs.steps.Rows.{uses_of_row, IsInitializerOf, I
 ghost use Rattle.macho_reading.specs.steps.Steps.{uses_before_names};
 
 use crate::rows::Rows;
+use macho_answer::LinkError;
 use macho_consumed::{Initializer, UnwindEntry};
-use macho_faults::LinkError;
 use macho_needs::{Needs, Tables};
 use macho_symbols::Resolved;
 use std::alloc::Global;

@@ -3,19 +3,19 @@ ghost use Rattle.std.specs.Prelude.{◌≡◌, ℕ, ◌^◌, ◌<◌, List, leng
 ghost use Rattle.std.specs.Option.{option_copied};
 ghost use Rattle.macho_model.specs.declared.placed.Counts.{Counts};
 ghost use Rattle.macho_model.specs.Links.{Input, Link};
-ghost use Rattle.macho_names.specs.Kept.{Keeps};
+ghost use Rattle.macho_symbol_names.specs.Kept.{Keeps};
 ghost use Rattle.macho_symbols.specs.Kept.{IsResolved};
 ghost use Rattle.macho_symbols.specs.Exported.{AreLists};
-ghost use Rattle.macho_faults.specs.Standing.{Stands};
-ghost use Rattle.macho_parts.specs.Views.{views_of};
-ghost use Rattle.macho_survey.specs.Surveys.{AreOfInputs};
+ghost use Rattle.macho_answer.specs.Standing.{Stands};
+ghost use Rattle.macho_promise.specs.Views.{views_of};
+ghost use Rattle.macho_relocation_scan.specs.Surveys.{AreOfInputs};
 ghost use Rattle.macho_consumed.specs.Told.{IsStanding};
 ghost use Rattle.macho_reading.specs.Read.{entry_of};
 
 use crate::names::{find_entry, note_list};
 use crate::undefined::find_undefined;
+use macho_answer::LinkError;
 use macho_consumed::ConsumedFault;
-use macho_faults::LinkError;
 use macho_needs::Needs;
 use macho_object::File;
 use macho_symbols::ExportList;

@@ -2,8 +2,8 @@
 ghost use Rattle.std.specs.Prelude.{◌≡◌, ℕ, ◌^◌, ◌<◌, List, length, All, IfOk, IfErr, OnOk};
 ghost use Rattle.macho_model.specs.Links.{Link};
 ghost use Rattle.macho_symbols.specs.Kept.{IsResolved};
-ghost use Rattle.macho_parts.specs.Views.{views_of};
-ghost use Rattle.macho_survey.specs.Surveys.{AreOfInputs};
+ghost use Rattle.macho_promise.specs.Views.{views_of};
+ghost use Rattle.macho_relocation_scan.specs.Surveys.{AreOfInputs};
 ghost use Rattle.macho_consumed.specs.Told.{IsStanding};
 ghost use Rattle.macho_reading.specs.steps.Rows.{IsWhole, AreRows, KeepRules, AreUsable};
 

@@ -1,26 +1,7 @@
 -- The numbers of the format are those of the public headers: mach-o/loader.h, nlist.h, arm64/reloc.h, mach/machine.h
 -- and vm_prot.h.
 use Rattle.std.proofs.Common.{◌≡◌, [], ◌∷◌, refl}
-use Rattle.macho_records.specs.declared.constants.TheConstants.{MH_MAGIC_64, CPU_TYPE_ARM64, CPU_SUBTYPE_ARM64_ALL, MH_OBJECT, MH_EXECUTE}
-use Rattle.macho_records.specs.declared.constants.TheConstants.{MH_DYLIB, MH_NOUNDEFS, MH_DYLDLINK, MH_TWOLEVEL}
-use Rattle.macho_records.specs.declared.constants.TheConstants.{MH_SUBSECTIONS_VIA_SYMBOLS, MH_PIE, MH_HAS_TLV_DESCRIPTORS, LC_SYMTAB}
-use Rattle.macho_records.specs.declared.constants.TheConstants.{LC_LOAD_DYLIB, LC_ID_DYLIB, LC_LOAD_DYLINKER, LC_SEGMENT_64, LC_UUID}
-use Rattle.macho_records.specs.declared.constants.TheConstants.{LC_CODE_SIGNATURE, LC_BUILD_VERSION, LC_RPATH, LC_MAIN}
-use Rattle.macho_records.specs.declared.constants.TheConstants.{LC_DYLD_EXPORTS_TRIE, LC_DYLD_CHAINED_FIXUPS, VM_PROT_READ, VM_PROT_WRITE}
-use Rattle.macho_records.specs.declared.constants.TheConstants.{VM_PROT_EXECUTE, SG_READ_ONLY, SECTION_TYPE, SECTION_ATTRIBUTES}
-use Rattle.macho_records.specs.declared.constants.TheConstants.{S_REGULAR, S_ZEROFILL, S_NON_LAZY_SYMBOL_POINTERS, S_LAZY_SYMBOL_POINTERS}
-use Rattle.macho_records.specs.declared.constants.TheConstants.{S_SYMBOL_STUBS, S_MOD_INIT_FUNC_POINTERS, S_GB_ZEROFILL}
-use Rattle.macho_records.specs.declared.constants.TheConstants.{S_LAZY_DYLIB_SYMBOL_POINTERS, S_THREAD_LOCAL_REGULAR}
-use Rattle.macho_records.specs.declared.constants.TheConstants.{S_THREAD_LOCAL_ZEROFILL, S_THREAD_LOCAL_VARIABLES}
-use Rattle.macho_records.specs.declared.constants.TheConstants.{S_THREAD_LOCAL_VARIABLE_POINTERS, S_INIT_FUNC_OFFSETS}
-use Rattle.macho_records.specs.declared.constants.TheConstants.{S_ATTR_PURE_INSTRUCTIONS, S_ATTR_DEBUG, S_ATTR_SOME_INSTRUCTIONS}
-use Rattle.macho_records.specs.declared.constants.TheConstants.{S_ATTR_EXT_RELOC, S_ATTR_LOC_RELOC, N_STAB, N_PEXT, N_TYPE, N_EXT, N_UNDF}
-use Rattle.macho_records.specs.declared.constants.TheConstants.{N_ABS, N_SECT, N_WEAK_REF, N_WEAK_DEF, ARM64_RELOC_UNSIGNED}
-use Rattle.macho_records.specs.declared.constants.TheConstants.{ARM64_RELOC_SUBTRACTOR, ARM64_RELOC_BRANCH26, ARM64_RELOC_PAGE21}
-use Rattle.macho_records.specs.declared.constants.TheConstants.{ARM64_RELOC_PAGEOFF12, ARM64_RELOC_GOT_LOAD_PAGE21}
-use Rattle.macho_records.specs.declared.constants.TheConstants.{ARM64_RELOC_GOT_LOAD_PAGEOFF12, ARM64_RELOC_POINTER_TO_GOT}
-use Rattle.macho_records.specs.declared.constants.TheConstants.{ARM64_RELOC_TLVP_LOAD_PAGE21, ARM64_RELOC_TLVP_LOAD_PAGEOFF12}
-use Rattle.macho_records.specs.declared.constants.TheConstants.{ARM64_RELOC_ADDEND, ARM64_RELOC_AUTHENTICATED_POINTER}
+use Rattle.macho_records.specs.declared.constants.TheConstants.{MH_MAGIC_64, CPU_TYPE_ARM64, CPU_SUBTYPE_ARM64_ALL, MH_OBJECT, MH_EXECUTE, MH_DYLIB, MH_NOUNDEFS, MH_DYLDLINK, MH_TWOLEVEL, MH_SUBSECTIONS_VIA_SYMBOLS, MH_PIE, MH_HAS_TLV_DESCRIPTORS, LC_SYMTAB, LC_LOAD_DYLIB, LC_ID_DYLIB, LC_LOAD_DYLINKER, LC_SEGMENT_64, LC_UUID, LC_CODE_SIGNATURE, LC_BUILD_VERSION, LC_RPATH, LC_MAIN, LC_DYLD_EXPORTS_TRIE, LC_DYLD_CHAINED_FIXUPS, VM_PROT_READ, VM_PROT_WRITE, VM_PROT_EXECUTE, SG_READ_ONLY, SECTION_TYPE, SECTION_ATTRIBUTES, S_REGULAR, S_ZEROFILL, S_NON_LAZY_SYMBOL_POINTERS, S_LAZY_SYMBOL_POINTERS, S_SYMBOL_STUBS, S_MOD_INIT_FUNC_POINTERS, S_GB_ZEROFILL, S_LAZY_DYLIB_SYMBOL_POINTERS, S_THREAD_LOCAL_REGULAR, S_THREAD_LOCAL_ZEROFILL, S_THREAD_LOCAL_VARIABLES, S_THREAD_LOCAL_VARIABLE_POINTERS, S_INIT_FUNC_OFFSETS, S_ATTR_PURE_INSTRUCTIONS, S_ATTR_DEBUG, S_ATTR_SOME_INSTRUCTIONS, S_ATTR_EXT_RELOC, S_ATTR_LOC_RELOC, N_STAB, N_PEXT, N_TYPE, N_EXT, N_UNDF, N_ABS, N_SECT, N_WEAK_REF, N_WEAK_DEF, ARM64_RELOC_UNSIGNED, ARM64_RELOC_SUBTRACTOR, ARM64_RELOC_BRANCH26, ARM64_RELOC_PAGE21, ARM64_RELOC_PAGEOFF12, ARM64_RELOC_GOT_LOAD_PAGE21, ARM64_RELOC_GOT_LOAD_PAGEOFF12, ARM64_RELOC_POINTER_TO_GOT, ARM64_RELOC_TLVP_LOAD_PAGE21, ARM64_RELOC_TLVP_LOAD_PAGEOFF12, ARM64_RELOC_ADDEND, ARM64_RELOC_AUTHENTICATED_POINTER}
 
 -- the header
 header-row :

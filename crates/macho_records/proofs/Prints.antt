@@ -2,8 +2,7 @@
 --
 -- Bytes that pass the test are ASCII: one that isn't would fail it. So what is shown of ASCII bytes is shown of what
 -- `ascii_output` says, and of other bytes it says nothing.
-use Rattle.std.proofs.Common.{◌≡◌, ℕ, ◌≤◌, Bool, true, false, List, length, slice_index, refl, arith, inl, inr, IfSome, Some, None}
-use Rattle.std.proofs.Common.{nat_lt, if◌then◌else◌}
+use Rattle.std.proofs.Common.{◌≡◌, ℕ, ◌≤◌, Bool, true, false, List, length, slice_index, refl, arith, inl, inr, IfSome, Some, None, nat_lt, if◌then◌else◌}
 use Rattle.std.specs.List.{list_all}
 use Rattle.std.specs.Str.{IsAscii}
 use Rattle.std.proofs.lemmas.Bool.{cases_lt}

@@ -6,22 +6,22 @@ pub mod Segments
 pub mod Sections
 pub mod Symbols
 -- layouts and records of the crate below, which clauses of this one and above cite
-pub use Rattle.macho_structs.specs.Layouts as CommandLayouts
-pub use Rattle.macho_structs.specs.Spellings as CommandSpellings
-pub use Rattle.macho_structs.specs.Relocations
-pub use Rattle.macho_structs.specs.declared.commands.BuildToolVersion
-pub use Rattle.macho_structs.specs.declared.commands.BuildVersionCommand
-pub use Rattle.macho_structs.specs.declared.commands.DylibCommand
-pub use Rattle.macho_structs.specs.declared.commands.DylinkerCommand
-pub use Rattle.macho_structs.specs.declared.commands.EntryPointCommand
-pub use Rattle.macho_structs.specs.declared.commands.LinkeditDataCommand
-pub use Rattle.macho_structs.specs.declared.commands.RpathCommand
-pub use Rattle.macho_structs.specs.declared.commands.UuidCommand
-pub use Rattle.macho_structs.specs.declared.fixups.ChainedFixupsHeader
-pub use Rattle.macho_structs.specs.declared.fixups.ChainedStartsInSegment
-pub use Rattle.macho_structs.specs.declared.relocations.RelocationInfo
-pub use Rattle.macho_structs.specs.declared.signature.CodeDirectory
-pub use Rattle.macho_structs.specs.declared.unwind.UnwindInfoEntry
+pub use Rattle.macho_wire.specs.Layouts as CommandLayouts
+pub use Rattle.macho_wire.specs.Spellings as CommandSpellings
+pub use Rattle.macho_wire.specs.Relocations
+pub use Rattle.macho_wire.specs.declared.commands.BuildToolVersion
+pub use Rattle.macho_wire.specs.declared.commands.BuildVersionCommand
+pub use Rattle.macho_wire.specs.declared.commands.DylibCommand
+pub use Rattle.macho_wire.specs.declared.commands.DylinkerCommand
+pub use Rattle.macho_wire.specs.declared.commands.EntryPointCommand
+pub use Rattle.macho_wire.specs.declared.commands.LinkeditDataCommand
+pub use Rattle.macho_wire.specs.declared.commands.RpathCommand
+pub use Rattle.macho_wire.specs.declared.commands.UuidCommand
+pub use Rattle.macho_wire.specs.declared.fixups.ChainedFixupsHeader
+pub use Rattle.macho_wire.specs.declared.fixups.ChainedStartsInSegment
+pub use Rattle.macho_wire.specs.declared.relocations.RelocationInfo
+pub use Rattle.macho_wire.specs.declared.signature.CodeDirectory
+pub use Rattle.macho_wire.specs.declared.unwind.UnwindInfoEntry
 pub use Rattle.macho_bytes.specs.Layouts as ByteLayouts
 pub use Rattle.macho_bytes.specs.Spellings as ByteSpellings
 pub use Rattle.macho_bytes.specs.Texts as ByteTexts

@@ -8,7 +8,7 @@ use Rattle.macho_records.specs.declared.header.SegmentCommand.{SegmentCommand}
 use Rattle.macho_records.specs.declared.header.SectionHeader.{SectionHeader}
 use Rattle.macho_records.specs.declared.symbols.SymtabCommand.{SymtabCommand}
 use Rattle.macho_records.specs.declared.symbols.SymtabEntry.{SymtabEntry}
-use Rattle.macho_structs.specs.Spellings.{no_text}
+use Rattle.macho_wire.specs.Spellings.{no_text}
 use Rattle.macho_records.specs.Layouts.{mach_header, load_command, segment_command, section_header, symtab_command, symtab_entry}
 
 abbrev pub mach_header_rows : Spelled MachHeader

@@ -12,7 +12,7 @@ ghost use Rattle.macho_records.specs.Layouts.{mach_header, load_command, segment
 ghost use Rattle.macho_bytes.specs.Spellings.{spelling, ReadsBack};
 ghost use Rattle.macho_records.specs.Spellings.{mach_header_rows, load_command_rows, segment_command_rows, section_header_rows};
 
-use macho_structs::{little_at, put_littles, put_text, text_at};
+use macho_wire::{little_at, put_littles, put_text, text_at};
 
 /// `struct mach_header_64` of mach-o/loader.h: the head of every 64-bit Mach-O file.
 #[derive(Clone, Copy)]

@@ -20,7 +20,7 @@ ghost use Rattle.macho_bytes.specs.Spellings.{spelling, ReadsBack};
 ghost use Rattle.macho_records.specs.Spellings.{symtab_command_rows, symtab_entry_rows};
 
 use crate::constants::{N_ABS, N_EXT, N_PEXT, N_STAB, N_TYPE, N_UNDF, N_WEAK_DEF};
-use macho_structs::{little_at, put_littles};
+use macho_wire::{little_at, put_littles};
 
 /// `struct symtab_command` of mach-o/loader.h: where symbols and their names stand.
 #[derive(Clone, Copy)]

@@ -9,8 +9,7 @@ use Rattle.std.proofs.lemmas.List.Elements.{All-nil, All-append, All-filter, All
 use Rattle.std.proofs.lemmas.List.FromFn.{length-range_with_len, get_or-range_with_len}
 use Rattle.macho_records.specs.declared.header.SectionHeader.{SectionHeader}
 use Rattle.macho_model.specs.declared.placed.PlacedSection.{PlacedSection}
-use Rattle.macho_model.specs.Links.{Link, SectionId, Input, Object, Dylib, Stub, no_input, is_carried, header_at, sections_of_file}
-use Rattle.macho_model.specs.Links.{sections_of, carried_of, object_bytes}
+use Rattle.macho_model.specs.Links.{Link, SectionId, Input, Object, Dylib, Stub, no_input, is_carried, header_at, sections_of_file, sections_of, carried_of, object_bytes}
 use Rattle.macho_model.specs.Objects.{num_sections, section_at}
 use Rattle.macho_model.specs.Placement.{id_of}
 use Rattle.macho_object.specs.Views.{FileBytes}

@@ -2,8 +2,7 @@
 --
 -- Pieces that were taken make one text that was taken. Where the sink fails within a piece, it took the pieces before and a front
 -- of this one: that is a front of the whole text, as long as both together.
-use Rattle.std.proofs.Common.{◌≡◌, ℕ, suc, ◌+◌, ◌<◌, ◌≤◌, min, inl, inr, arith, refl, ap, sym, subst, ◌∙◌, List, [], ◌++◌, take, drop}
-use Rattle.std.proofs.Common.{length, get_or, append_assoc, Option, Some, None, Result, Ok, Err}
+use Rattle.std.proofs.Common.{◌≡◌, ℕ, suc, ◌+◌, ◌<◌, ◌≤◌, min, inl, inr, arith, refl, ap, sym, subst, ◌∙◌, List, [], ◌++◌, take, drop, length, get_or, append_assoc, Option, Some, None, Result, Ok, Err}
 use Rattle.std.specs.List.{flat_map}
 use Rattle.std.specs.Option.{option_map}
 use Rattle.std.proofs.Math.Seq.{drop-cons, take-append-add}

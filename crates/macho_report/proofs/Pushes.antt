@@ -3,10 +3,9 @@
 -- What was held and what was pushed is what the sink took and what is held. So texts that were pushed one behind the other were
 -- pushed as one; and where the sink fails within a piece, it took what it had taken before and a front of the rest. What is
 -- flushed in the end is the rest.
-use Rattle.std.proofs.Common.{◌≡◌, ℕ, suc, ◌+◌, ◌<◌, ◌≤◌, ap, sym, subst, ◌∙◌, List, [], ◌++◌, take, drop}
-use Rattle.std.proofs.Common.{length, get_or, append_assoc, Option, Result, Ok, Err}
+use Rattle.std.proofs.Common.{◌≡◌, ℕ, suc, ◌+◌, ◌<◌, ◌≤◌, ap, sym, subst, ◌∙◌, List, [], ◌++◌, take, drop, length, get_or, append_assoc, Option, Result, Ok, Err}
 use Rattle.std.specs.List.{flat_map}
-use Rattle.std.proofs.lemmas.List.{append-nil, take_all, take_more}
+use Rattle.std.proofs.lemmas.List.{append-nil, take_more}
 use Rattle.macho_bytes.proofs.Tables.{flat_map-more}
 use Rattle.macho_devices.specs.Devices.{TakesBytes, TakesPrefix}
 use Rattle.macho_devices.specs.Faults.{CountsOn, CountRose}
@@ -14,18 +13,6 @@ use Rattle.macho_report.specs.Printing.{IsPrinted}
 use Rattle.macho_report.specs.steps.Pushes.{Passes, IsPushed}
 use Rattle.macho_report.proofs.Prints.{takes-none, takes-more, takes-front, around, counts-since, both-printed}
 use Rattle.macho_job.proofs.Gathers.{rose-since}
-
--- nothing is pushed
-pub passes-none : (a : Option (List ℕ)) (held : List ℕ) → Passes a a held held []
-passes-none a held = record { sent = []; split = append-nil held; taken = takes-none a }
-
--- a text is held, and the sink takes nothing
-pub passes-held : (a : Option (List ℕ)) (old new text : List ℕ) → new ≡ old ++ text → Passes a a old new text
-passes-held a old new text is = record { sent = []; split = sym is; taken = takes-none a }
-
--- a text behind nothing is printed
-pub passes-printed : (a b : Option (List ℕ)) (text : List ℕ) → TakesBytes a b text → Passes a b [] [] text
-passes-printed a b text taken = record { sent = text; split = sym (append-nil text); taken = taken }
 
 -- two texts, one behind the other
 pub passes-more : (a b c : Option (List ℕ)) (old mid new xs ys : List ℕ) → Passes a b old mid xs → Passes b c mid new ys
@@ -104,11 +91,6 @@ piece-refused {X} {A} {E} f xs i d a b c held mid_held rest old mid new r e is w
       why = rose-since old mid new before after rose;
       counted = counts-since old mid new before after;
     })
-
--- all pieces are pushed
-pub pieces-pushed : {X : Type 0} (f : X → List ℕ) (xs : List X) (i : ℕ) (a b : Option (List ℕ)) (old new : List ℕ) → length xs ≤ i
-    → Passes a b old new (flat_map f (take i xs)) → Passes a b old new (flat_map f xs)
-pieces-pushed {X} f xs i a b old new end p = subst (λ (ys : List X). Passes a b old new (flat_map f ys)) (take_all i xs end) p
 
 -- a text was pushed behind nothing, and the rest of it is printed
 pub pushed-printed : {A E : Type 0} (a b c : Option (List ℕ)) (old mid new : ℕ) (held text : List ℕ) (r : Result A E)

@@ -24,11 +24,11 @@ use Rattle.macho_model.specs.Faults.{LinkFault}
 use Rattle.macho_model.specs.Faults as refusal
 use Rattle.macho_model.specs.Links.{Link, header_at}
 use Rattle.macho_model.specs.Placement.{id_of}
-use Rattle.macho_faults.specs.declared.fault.LinkError.{LinkError}
-use Rattle.macho_faults.specs.declared.fault.LinkError.TheVariants as error
-use Rattle.macho_faults.specs.declared.fault.InputFault.TheVariants as input
-use Rattle.macho_faults.specs.Errors.{fault_of}
-use Rattle.macho_linked.specs.declared.image.LinkedImage.{LinkedImage}
+use Rattle.macho_answer.specs.declared.fault.LinkError.{LinkError}
+use Rattle.macho_answer.specs.declared.fault.LinkError.TheVariants as error
+use Rattle.macho_answer.specs.declared.fault.InputFault.TheVariants as input
+use Rattle.macho_answer.specs.Errors.{fault_of}
+use Rattle.macho_answer.specs.declared.image.LinkedImage.{LinkedImage}
 use Rattle.macho_job.specs.Names.{file_name, last_name}
 use Rattle.macho_job.specs.declared.fault.Fault.{Fault}
 use Rattle.macho_job.specs.declared.fault.Fault.TheVariants.{MissingFile, UnknownKind, Input as InputRefused, Link as LinkRefused, Words, Read, Write, Print, OutOfMemory}

@@ -1,7 +1,7 @@
 //! The line of a refusal of the linker, by what it is of.
 
 ghost use Rattle.std.specs.Prelude.{◌≡◌, true};
-ghost use Rattle.macho_faults.specs.declared.fault.LinkError.TheVariants.{BadInput};
+ghost use Rattle.macho_answer.specs.declared.fault.LinkError.TheVariants.{BadInput};
 ghost use Rattle.macho_job.specs.Names.{names_of};
 ghost use Rattle.macho_report.specs.Lines.{line_of, error_text, site_text};
 ghost use Rattle.macho_report.specs.Printing.{IsPrinted};

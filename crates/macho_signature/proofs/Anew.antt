@@ -4,12 +4,10 @@
 -- of no other page: so every other page has the digest that it had. The list of all digests is those before these pages,
 -- theirs, and those behind. Where the old list stands in the signature, putting the middle ones anew leaves the first
 -- and the last as they are, and gives the new list whole.
-use Rattle.std.proofs.Common.{◌≡◌, ℕ, ◌+◌, ◌-◌, ◌*◌, ◌<◌, ◌≤◌, ◌⊎◌, ◌≢◌, List, ◌++◌, length, get_or, slice_range, slice_index, slice_set}
-use Rattle.std.proofs.Common.{drop, ◌%◌, inl, inr, refl, sym, ap, subst, ◌∙◌, arith, min}
+use Rattle.std.proofs.Common.{◌≡◌, ℕ, ◌+◌, ◌-◌, ◌*◌, ◌<◌, ◌≤◌, ◌⊎◌, ◌≢◌, List, ◌++◌, length, get_or, slice_range, slice_index, slice_set, drop, ◌%◌, inl, inr, refl, sym, ap, subst, ◌∙◌, arith, min}
 use Rattle.std.proofs.lemmas.Bool.{cases_lt}
-use Rattle.std.proofs.lemmas.List.{length-append, ext_get_or, get_or_append_left, get_or-append_right, length-take, length-drop}
-use Rattle.std.proofs.lemmas.List.{length-set, get_or-set_same, get_or-set_other}
-use Rattle.std.proofs.lemmas.List.FromFn.{length-map-range_with_len, get_or-map-range_with_len}
+use Rattle.std.proofs.lemmas.List.{length-append, ext_get_or, get_or_append_left, get_or-append_right, length-take, length-drop, length-set, get_or-set_same, get_or-set_other}
+use Rattle.std.proofs.lemmas.List.FromFn.{get_or-map-range_with_len}
 use Rattle.std.proofs.lemmas.Bool.Decides.{nat_tests}
 use Rattle.std.proofs.lemmas.List.Edits.{get_or-between}
 use Rattle.sha2.specs.Sha256.{sha256}
@@ -17,23 +15,11 @@ use Rattle.macho_bytes.specs.Texts.{put, Stands}
 use Rattle.macho_bytes.proofs.Puts.{length-put, is_put, get_or-put_in, get_or-put_below, get_or-put_above}
 use Rattle.macho_model.specs.WrittenSum.{SIGNED_PAGE}
 use Rattle.macho_model.specs.Signature.{page_digest, page_count, uuid_written}
-use Rattle.macho_signature.specs.Pages.{digests_of, first_page, last_page}
-use Rattle.macho_signature.specs.Pages.{digests_from}
+use Rattle.macho_signature.specs.Pages.{digests_of, first_page, last_page, digests_from}
 use Rattle.macho_signature.proofs.Pages.{length-digests, digests_all, digests_join, digests_agree}
 use Rattle.macho_model.specs.steps.Signature.{uuid_byte}
-
--- a UUID as it is written has 16 bytes
-pub length-uuid_written : (uuid : List ℕ) → length (uuid_written uuid) ≡ 16
-unfolding uuid_written
-length-uuid_written uuid = length-map-range_with_len (λ k. uuid_byte k (slice_index uuid k)) 0 16
-
--- two numbers are the same or not
-same_or_not : (m n : ℕ) → (m ≡ n) ⊎ (m ≢ n)
-same_or_not m n =
-    elim (cases_lt m n) [
-      | inl less ↦ inr (λ e. omega arith)
-      | inr more ↦ elim (cases_lt n m) [ inl great ↦ inr (λ e. omega arith) | inr least ↦ inl (omega arith) ]
-    ]
+use Rattle.macho_bytes.proofs.Comparing.{same_or_not}
+use Rattle.macho_model.proofs.Sections.{length-uuid}
 
 -- the bytes of a UUID that stay
 other_byte : (i byte : ℕ) → i ≢ 6 → i ≢ 8 → uuid_byte i byte ≡ byte
@@ -44,7 +30,7 @@ pub uuid_written-is : (uuid : List ℕ) → length uuid ≡ 16
     → slice_set (slice_set uuid 6 (0x30 + slice_index uuid 6 % 16)) 8 (0x80 + slice_index uuid 8 % 64) ≡ uuid_written uuid
 unfolding uuid_written
 uuid_written-is uuid sixteen =
-    ext_get_or 0 (slice_set six 8 eighth) (uuid_written uuid) (long ∙ sym (length-uuid_written uuid))
+    ext_get_or 0 (slice_set six 8 eighth) (uuid_written uuid) (long ∙ sym (length-uuid uuid))
     (λ i lt. each i (omega (arith, long)) ∙ sym (get_or-map-range_with_len (λ k. uuid_byte k (slice_index uuid k)) 0 16 i i 0
     (omega (arith, long)) (omega arith)))
   where

@@ -2,8 +2,7 @@
 --
 -- The digests of the pages below a limit are made of bytes below it alone. So files that agree below the limit have the
 -- same signature: the bytes in front of it by themselves, the file before it is put, and the file that has it.
-use Rattle.std.proofs.Common.{◌≡◌, ℕ, ◌+◌, ◌*◌, ◌<◌, ◌≤◌, List, ◌++◌, length, get_or, drop, slice_range, refl, sym, ap, subst, ◌∙◌, arith}
-use Rattle.std.proofs.Common.{min}
+use Rattle.std.proofs.Common.{◌≡◌, ℕ, ◌+◌, ◌*◌, ◌<◌, ◌≤◌, List, ◌++◌, length, get_or, drop, slice_range, refl, sym, ap, subst, ◌∙◌, arith, min}
 use Rattle.std.proofs.lemmas.List.{length-append, ext_get_or, get_or_append_left}
 use Rattle.std.proofs.lemmas.List.Edits.{get_or-between}
 use Rattle.std.proofs.Math.Seq.{take-append_seam, drop-append-add}

@@ -9,12 +9,11 @@ use Rattle.macho_bytes.specs.Numbers.{big, row_bytes}
 use Rattle.macho_bytes.specs.Texts.{put}
 use Rattle.macho_bytes.proofs.Numbers.{length-row_big}
 use Rattle.macho_bytes.proofs.Puts.{put-put}
-use Rattle.macho_model.specs.Signature.{Signed, DIRECTORY_PLACE, identifier_text}
-use Rattle.macho_model.specs.Signature.{page_count, page_digests, signature_text}
+use Rattle.macho_model.specs.Signature.{Signed, DIRECTORY_PLACE, identifier_text, page_count, page_digests, signature_text}
 use Rattle.macho_signature.specs.Sizes.{identifier_size, digests_offset, signature_size, directory_size, directory_for}
 use Rattle.macho_signature.proofs.Pages.{length-page_digests}
 use Rattle.macho_bytes.specs.Spellings.{spelling}
-use Rattle.macho_structs.specs.Spellings.{code_directory_rows}
+use Rattle.macho_wire.specs.Spellings.{code_directory_rows}
 
 -- the identifier's bytes
 pub length-identifier : (name : List ℕ) → length (identifier_text name) ≡ identifier_size (length name)

@@ -2,8 +2,8 @@
 use Rattle.std.specs.Prelude.{ℕ, ◌+◌, ◌*◌, if◌then◌else◌, length}
 use Rattle.macho_bytes.specs.Numbers.{rounded_up}
 use Rattle.macho_bytes.specs.Layouts.{size_of}
-use Rattle.macho_structs.specs.Layouts.{code_directory}
-use Rattle.macho_structs.specs.declared.signature.CodeDirectory.{CodeDirectory}
+use Rattle.macho_wire.specs.Layouts.{code_directory}
+use Rattle.macho_wire.specs.declared.signature.CodeDirectory.{CodeDirectory}
 use Rattle.macho_model.specs.WrittenSum.{SIGNATURE_FIXED, DIGEST_SIZE}
 use Rattle.macho_model.specs.Signature.{Signed, page_count, identifier_text}
 use Rattle.macho_signature.specs.declared.signature.Signer.{Signer}

@@ -2,8 +2,7 @@
 ghost use Rattle.std.specs.Prelude.{◌≡◌, ◌+◌, ◌-◌, ◌*◌, ◌<◌, ◌≤◌, length};
 ghost use Rattle.macho_bytes.specs.Texts.{put};
 ghost use Rattle.macho_model.specs.Signature.{page_digest, page_count};
-ghost use Rattle.macho_signature.specs.Pages.{digests_of};
-ghost use Rattle.macho_signature.specs.Pages.{digests_from};
+ghost use Rattle.macho_signature.specs.Pages.{digests_of, digests_from};
 
 use macho_model::SIGNED_PAGE;
 use sha2::{Digest, Sha256};

@@ -5,7 +5,7 @@ ghost use Rattle.macho_bytes.specs.Texts.{put, Stands};
 ghost use Rattle.macho_model.specs.Signature.{DIRECTORY_PLACE, identifier_text, signature_text};
 ghost use Rattle.macho_signature.specs.Sizes.{identifier_size, digests_offset, signature_size, signed_by, directory_for};
 ghost use Rattle.macho_bytes.specs.Spellings.{ReadsBack};
-ghost use Rattle.macho_structs.specs.Spellings.{code_directory_rows};
+ghost use Rattle.macho_wire.specs.Spellings.{code_directory_rows};
 
 use crate::digests::{DIGEST, page_count, sign_again};
 use byteorder::{BigEndian, ByteOrder};

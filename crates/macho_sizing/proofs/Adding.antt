@@ -1,6 +1,5 @@
 -- A plan grows part by part: what was added to what was added to is added once.
-use Rattle.std.proofs.Common.{◌≡◌, ℕ, ◌+◌, ◌<◌, Some, slice_get, List, [], ◌∷◌, ◌++◌, map, length, get_or, take, sym, ap, ◌∙◌, arith}
-use Rattle.std.proofs.Common.{append_assoc, append-nil}
+use Rattle.std.proofs.Common.{◌≡◌, ℕ, ◌+◌, ◌<◌, Some, slice_get, List, [], ◌∷◌, ◌++◌, map, length, get_or, take, sym, ap, ◌∙◌, arith, append_assoc, append-nil}
 use Rattle.std.specs.List.{enumerate_from, position_or_len}
 use Rattle.std.proofs.lemmas.List.{map-append, take_more, length-take}
 use Rattle.std.proofs.lemmas.List.Elements.{All-push}
@@ -13,6 +12,7 @@ use Rattle.macho_layout.specs.declared.spec.CommonSpec.{CommonSpec}
 use Rattle.macho_layout.specs.declared.spec.StubSpec.{StubSpec}
 use Rattle.macho_layout.specs.Plans.{Planning}
 use Rattle.macho_sizing.specs.steps.Planned.{common_spec, common_specs, AddsStubs}
+use Rattle.macho_model.proofs.LinkLaws.{enumerate_more}
 
 -- a plan with more commons, slots and stubs
 abbrev pub with_commons : Planning → List CommonSpec → Planning
@@ -41,15 +41,6 @@ pub stubs_both : (p q r : Planning) (first second : List StubSpec) → q ≡ wit
 stubs_both p q r first second e f =
     f ∙ ap (λ (u : Planning). with_stubs u second) e
     ∙ ap (λ (ss : List StubSpec). record p { stubs = ss }) (append_assoc p.stubs first second)
-
--- one element more of a numbered list
-enumerate_more : {X : Type 0} (n : ℕ) (xs : List X) (x : X)
-    → enumerate_from n (xs ++ x ∷ []) ≡ enumerate_from n xs ++ (n + length xs, x) ∷ []
-enumerate_more {X} n [] x = (let zero : n ≡ n + 0 = omega arith in ap (λ (k : ℕ). let ps : List (ℕ × X) = (k, x) ∷ [] in ps) zero)
-enumerate_more {X} n (y ∷ ys) x =
-    let next : n + 1 + length ys ≡ n + length (y ∷ ys) = omega arith in
-    ap (λ (ps : List (ℕ × X)). (n, y) ∷ ps) (enumerate_more (n + 1) ys x)
-    ∙ ap (λ (k : ℕ). (n, y) ∷ (enumerate_from (n + 1) ys ++ (k, x) ∷ [])) next
 
 pub commons_none : (p : Planning) → p ≡ with_commons p (common_specs [])
 unfolding common_specs

@@ -1,6 +1,5 @@
 -- Where all numbers are within their limits, and a placement is answered, no limit is passed.
-use Rattle.std.proofs.Common.{◌≡◌, ℕ, ◌≤◌, if◌then◌else◌, Bool, true, false, List, length, map, refl, sym, ap, ◌∙◌, subst, arith, None}
-use Rattle.std.proofs.Common.{Some, ◌^◌, inl, inr}
+use Rattle.std.proofs.Common.{◌≡◌, ℕ, ◌≤◌, if◌then◌else◌, Bool, true, false, List, length, map, refl, sym, ap, ◌∙◌, subst, arith, None, Some, ◌^◌, inl, inr}
 use Rattle.macho_model.specs.declared.placed.Counts.{Counts}
 use Rattle.macho_model.specs.declared.targets.Limit.{Limit}
 use Rattle.macho_model.specs.declared.targets.Limit.TheVariants as limit
@@ -17,12 +16,12 @@ use Rattle.macho_linkedit.specs.declared.exports.NamedExport.{NamedExport}
 use Rattle.macho_linkedit.specs.Tries.{kept, AreKept}
 use Rattle.macho_linkedit.proofs.TrieSaid.{trie_size_is_kept}
 use Rattle.macho_sizing.specs.declared.numbers.Numbers.{Numbers}
-use Rattle.macho_sizes.specs.Limits.{LimitsHold}
+use Rattle.macho_size_laws.specs.Limits.{LimitsHold}
 use Rattle.macho_sizing.specs.steps.Passing.{AreNumbers, AreSymbols, AreWithin}
 use Rattle.macho_sizing.specs.steps.Rooms.{IsAnswered, TellsRoom}
 use Rattle.macho_sizing.proofs.Larger.{sections_within, unwind_within}
 use Rattle.macho_sizing.proofs.Spans.{span_within}
-use Rattle.macho_sizing.proofs.Refusals.{imports_are, name_bytes_are, unwind_is}
+use Rattle.macho_promise.proofs.Counted.{imports_counted, names_counted, unwind_counted}
 
 -- THE limits hold
 pub limits_hold : (l : Link) (counts : Counts) (n : Numbers) (q : Placed) → AreNumbers l n → AreSymbols l n → AreWithin n
@@ -41,8 +40,8 @@ limits_hold l counts n q are symbols within counted answered = record {
     none limit.Sections number x = answered.laid.passes.sections number x
     none limit.Libraries number x = omega (arith, x.0, x.1, are.libraries, within.libraries)
     none limit.Personalities number x = omega (arith, x.0, x.1, are.personalities, within.personalities)
-    none limit.Imports number x = omega (arith, x.0, x.1, are.imports, within.imports, imports_are l counts counted)
-    none limit.NameBytes number x = omega (arith, x.0, x.1, are.names, within.names, name_bytes_are l counts counted)
+    none limit.Imports number x = omega (arith, x.0, x.1, are.imports, within.imports, imports_counted l counts counted)
+    none limit.NameBytes number x = omega (arith, x.0, x.1, are.names, within.names, names_counted l counts counted)
     none limit.Symbols number x = omega (arith, x.0, x.1, symbols.are, within.symbols)
     none limit.Pages number x = omega (arith, x.0, x.1)
 
@@ -86,5 +85,5 @@ entry_small l size counts is = by (entries_have_addends l) (ap (λ (c : Counts).
 pub content_large : (l : Link) (counts : Counts) → AreCounts l counts → TellsRoom l None → 2 ^ 64 ≤ content_sum l counts
 content_large l counts are room = elim room [
   | inl span ↦ omega (arith, span, span_within l, sections_within l counts)
-  | inr bound ↦ omega (arith, bound, unwind_is l counts are, unwind_within l counts)
+  | inr bound ↦ omega (arith, bound, unwind_counted l counts are, unwind_within l counts)
 ]

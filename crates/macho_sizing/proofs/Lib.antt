@@ -7,3 +7,6 @@ pub mod Totals
 pub mod PlanOf
 pub mod Refusals
 pub mod Answered
+pub mod Standing
+pub mod Listing
+pub mod OfLink

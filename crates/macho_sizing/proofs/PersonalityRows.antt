@@ -3,17 +3,13 @@
 -- One row more adds its personality function, unless it is there. By the rules the relocation of a personality is one pointer
 -- to a symbol, so it leads where the row's symbol does. The ids of entries are the numbers of the slots of what rows name; in
 -- order they are no more than those of the functions, each taken once.
-use Rattle.std.proofs.Common.{◌≡◌, ℕ, zero, suc, ◌+◌, ◌*◌, ◌/◌, ◌<◌, ◌≤◌, eqb, eq-eqb, ◌&&◌, ◌||◌, ◌==◌, Bool, true, false, Contains, subst}
-use Rattle.std.proofs.Common.{leb-true, nat_le, inl, inr, List, [], ◌∷◌, ◌++◌, map, length, get_or, take, refl, sym, ap, ◌∙◌, arith, Some, None}
-use Rattle.std.proofs.Common.{append-nil}
+use Rattle.std.proofs.Common.{◌≡◌, ℕ, zero, suc, ◌+◌, ◌*◌, ◌/◌, ◌<◌, ◌≤◌, eqb, eq-eqb, ◌&&◌, ◌||◌, ◌==◌, Bool, true, false, Contains, subst, leb-true, nat_le, inl, inr, List, [], ◌∷◌, ◌++◌, map, length, get_or, take, refl, sym, ap, ◌∙◌, arith, Some, None, append-nil}
 use Rattle.std.specs.Prelude.{Option, nat_lt, filter}
-use Rattle.std.specs.List.{filter_map, cons_option, flat_map}
-use Rattle.std.proofs.lemmas.List.{take_more}
+use Rattle.std.specs.List.{filter_map, cons_option, flat_map, range_with_len}
+use Rattle.std.proofs.lemmas.List.{take_more, length-map}
 use Rattle.std.proofs.lemmas.List.Elements.{filter_map-append}
-use Rattle.std.proofs.lemmas.Bool.{cases_eq, eqb-true, ne_eqb}
-use Rattle.std.proofs.lemmas.List.{length-map}
+use Rattle.std.proofs.lemmas.Bool.{eqb-true}
 use Rattle.std.proofs.lemmas.List.Concat.{flat_map-cons}
-use Rattle.std.specs.List.{range_with_len}
 use Rattle.macho_model.specs.declared.targets.Target.{Target}
 use Rattle.macho_model.specs.declared.rules.UnwindRule.TheVariants.{U2, U3, U7}
 use Rattle.macho_model.specs.Links.{Link, header_at}
@@ -32,16 +28,15 @@ use Rattle.macho_consumed.specs.declared.rows.UnwindEntry.{UnwindEntry}
 use Rattle.macho_consumed.specs.Rows.{entry_row, entry_rows}
 use Rattle.macho_consumed.specs.Told.{EntriesKeepRules}
 use Rattle.macho_consumed.specs.steps.Inputs.{number_of_target, input_by}
-use Rattle.macho_consumed.proofs.Tests.{left_of, right_of, passes}
-use Rattle.macho_consumed.proofs.Members.{here, later, to_filter, in_filter}
-use Rattle.macho_consumed.proofs.Leading.{pointer_leads}
-use Rattle.macho_consumed.proofs.BoundInputs.{IsInSection, in_section, inputs_told}
+use Rattle.macho_consumed.proofs.BoundInputs.{IsInSection, in_section, inputs_told, person_leads, one_personality}
 use Rattle.macho_consumed.specs.steps.Entries.{unwind_relocation_fits}
-use Rattle.macho_linkedit.proofs.Members.{in_distinct, in_map, from_map}
+use Rattle.macho_linkedit.proofs.Members.{in_distinct}
 use Rattle.macho_needs.specs.Tables.{with_some}
 use Rattle.macho_needs.proofs.Deciding.{targets_decide}
 use Rattle.macho_sizing.specs.steps.Personalities.{personality_named, personality_of}
 use Rattle.macho_model.proofs.Uses.{personalities_are as targets_are}
+use Rattle.macho_bytes.proofs.Members.{contains_first, contains_map, map_contains, contains_behind}
+use Rattle.macho_unwind_pages.proofs.NamedIds.{there_has}
 
 -- an entry that says nothing
 abbrev pub no_entry : UnwindEntry
@@ -69,32 +64,6 @@ personalities_more l entries k d lt =
     by None = ap (distinct same_target) (append-nil (filter_map (personality_of l) (take k entries)))
     by (Some t) = distinct_push same_target targets_decide (filter_map (personality_of l) (take k entries)) t
 
--- the relocation of a personality leads where its symbol does
-personality_leads : (l : Link) (d : EntryId) (r : ℕ) → EntriesKeepRules l → IsInSection l d
-    → Contains (relocations_in_entry l d.of_section d.entry PERSONALITY_PLACE) r
-    → target_of_relocation l d.of_section r ≡ target_of l (symbol_id d.of_section.file (relocation_in l d.of_section r).r_symbolnum)
-unfolding target_of
-personality_leads l d r keeps it c =
-    let s = d.of_section in
-    let hit = in_filter (λ q. eqb (relocation_in l s q).r_address (32 * d.entry + 16)) (range_with_len 0 (header_at l s).nreloc) r c in
-    let address : (relocation_in l s r).r_address ≡ 32 * d.entry + 16 = eqb-true _ _ hit.0 in
-    let mine : eqb ((relocation_in l s r).r_address / 32) d.entry ≡ true = eq-eqb _ _ (omega (arith, address)) in
-    let plain = left_of _ _ (passes (unwind_relocation_fits l s) (filter (λ q. eqb ((relocation_in l s q).r_address / 32) d.entry)
-    (range_with_len 0 (header_at l s).nreloc)) r
-    (keeps.unwind s d.entry U2 it.there it.within)
-    (to_filter (λ q. eqb ((relocation_in l s q).r_address / 32) d.entry) (range_with_len 0 (header_at l s).nreloc) r hit.1 mine)) in
-    let extern = left_of _ _ (passes (λ q. (relocation_in l s q).r_extern && (is_defined (target_of_relocation l s q) || is_import
-    (target_of_relocation l s q)))
-    (relocations_in_entry l s d.entry PERSONALITY_PLACE) r (left_of _ _ (keeps.unwind s d.entry U7 it.there it.within)) c) in
-    pointer_leads l s r plain extern
-
--- there is one at most
-one_personality : (l : Link) (d : EntryId) → EntriesKeepRules l → IsInSection l d
-    → length (relocations_in_entry l d.of_section d.entry PERSONALITY_PLACE) ≤ 1
-one_personality l d keeps it =
-    leb-true _ _ (left_of _ _ (right_of (nat_le (length (relocations_in_entry l d.of_section d.entry START_PLACE)) 1) _
-    (keeps.unwind d.of_section d.entry U3 it.there it.within)))
-
 -- a row names what its entry's relocation leads to
 personality_row : (l : Link) (d : EntryId) (rs : List ℕ) → relocations_in_entry l d.of_section d.entry PERSONALITY_PLACE ≡ rs
     → EntriesKeepRules l → IsInSection l d
@@ -102,8 +71,8 @@ personality_row : (l : Link) (d : EntryId) (rs : List ℕ) → relocations_in_en
 unfolding entry_row
 personality_row l d [] is keeps it = rw is refl
 personality_row l d (r ∷ []) is keeps it =
-    rw is (ap (λ (t : Target). t ∷ []) (sym (personality_leads l d r keeps it (subst (λ (xs : List ℕ). Contains xs r) (sym is)
-    (here r [])))))
+    rw is (ap (λ (t : Target). t ∷ []) (sym (person_leads l d r keeps it (subst (λ (xs : List ℕ). Contains xs r) (sym is)
+    (contains_first r [])))))
 personality_row l d (q ∷ r ∷ rs) is keeps it = absurd (omega (arith, one_personality l d keeps it, ap length is))
 
 rows_named : (l : Link) (ds : List EntryId) → EntriesKeepRules l → ((d : EntryId) → Contains ds d → IsInSection l d)
@@ -112,8 +81,8 @@ rows_named : (l : Link) (ds : List EntryId) → EntriesKeepRules l → ((d : Ent
 rows_named l [] keeps each = refl
 rows_named l (d ∷ ds) keeps each =
     by (personality_of l (entry_row l d)) refl
-    (personality_row l d (relocations_in_entry l d.of_section d.entry PERSONALITY_PLACE) refl keeps (each d (here d ds)))
-    (rows_named l ds keeps (λ e there. each e (later d e ds there)))
+    (personality_row l d (relocations_in_entry l d.of_section d.entry PERSONALITY_PLACE) refl keeps (each d (contains_first d ds)))
+    (rows_named l ds keeps (λ e there. each e (contains_behind d e ds there)))
     ∙ sym (flat_map-cons targets d ds)
   where
     targets : EntryId → List Target
@@ -133,24 +102,6 @@ pub personalities_are : (l : Link) → EntriesKeepRules l
     → distinct same_target (filter_map (personality_of l) (entry_rows l)) ≡ personality_targets l
 unfolding entry_rows
 personalities_are l keeps = ap (distinct same_target) (rows_named l (entries_of_link l) keeps (in_section l)) ∙ sym (targets_are l)
-
--- numbers, by the test whether a list has one
-has_there : (x : ℕ) (xs : List ℕ) → has x xs ≡ true → Contains xs x
-has_there x [] h = absurd (cc)
-has_there x (y ∷ ys) h =
-    elim (cases_eq x y) [
-      | inl e ↦ (0, omega arith, sym e)
-      | inr n ↦ let rest = has_there x ys (rw (ne_eqb x y n) at h) in (suc rest.0, omega (arith, rest.1), rest.2)
-    ]
-
-there_has : (x : ℕ) (xs : List ℕ) → Contains xs x → has x xs ≡ true
-there_has x [] there = absurd (omega (arith, there.1))
-there_has x (y ∷ ys) (zero, within, is) = rw (eq-eqb x y (sym is)) refl
-there_has x (y ∷ ys) (suc k, within, is) = rw (there_has x ys (k, omega arith, is)) (or_true (x == y))
-  where
-    or_true : (b : Bool) → (b || true) ≡ true
-    or_true true = refl
-    or_true false = refl
 
 -- a list in order is no longer
 put_near : (before : ℕ → ℕ → Bool) (x : ℕ) (ys : List ℕ) → length (put_in_order before x ys) ≤ length ys + 1
@@ -178,7 +129,7 @@ has_both z (x ∷ xs) ys among =
     by : (b : Bool) → (z == x) ≡ b → has z (xs ++ ys) ≡ has z ys → ((z == x) || has z (xs ++ ys)) ≡ has z ys
     by true e rest =
         let same : z ≡ x = eqb-true z x e in
-        rw e (sym (there_has z ys (subst (λ (w : ℕ). Contains ys w) (sym same) (among x (here x xs)))))
+        rw e (sym (there_has z ys (subst (λ (w : ℕ). Contains ys w) (sym same) (among x (contains_first x xs)))))
     by false e rest = rw e rest
 
 pub no_more : (xs ys : List ℕ) → ((x : ℕ) → Contains xs x → Contains ys x) → length (in_order nat_lt xs) ≤ length ys
@@ -217,6 +168,6 @@ ids_few l keeps =
   where
     among : (ts : List Target) (x : ℕ) → Contains (map (slot_number l) ts) x → Contains (map (slot_number l) (distinct same_target ts)) x
     among ts x there =
-        let from = from_map (slot_number l) ts x there in
+        let from = map_contains (slot_number l) ts x there in
         subst (λ (n : ℕ). Contains (map (slot_number l) (distinct same_target ts)) n) from.2
-        (in_map (slot_number l) (distinct same_target ts) from.0 (in_distinct same_target targets_decide ts from.0 from.1))
+        (contains_map (slot_number l) (distinct same_target ts) from.0 (in_distinct same_target targets_decide ts from.0 from.1))

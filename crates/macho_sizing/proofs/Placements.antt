@@ -23,11 +23,11 @@ use Rattle.macho_layout.specs.Placements.{placed_of}
 use Rattle.macho_layout.specs.Plans.{Planning, IsPlanOf}
 use Rattle.macho_layout.specs.Sums.{FitsLimits}
 use Rattle.macho_layout.specs.Laid.{IsLaidOut, IsSmall, FaultStands}
-use Rattle.macho_placing.specs.Laws.{IsWhollyPlaced}
-use Rattle.macho_placing.proofs.Placing.{laid_out_is_placed, kept_is_placed, refusals_are_links, answered_pass_none}
+use Rattle.macho_layout_laws.specs.Laws.{IsWhollyPlaced}
+use Rattle.macho_layout_laws.proofs.Placing.{laid_out_is_placed, kept_is_placed, refusals_are_links, answered_pass_none}
 use Rattle.macho_layout.specs.declared.placement.Placement.{Placement}
-use Rattle.macho_faults.specs.declared.fault.LinkError.TheVariants as error
-use Rattle.macho_faults.specs.Standing.{Stands}
+use Rattle.macho_answer.specs.declared.fault.LinkError.TheVariants as error
+use Rattle.macho_answer.specs.Standing.{Stands}
 use Rattle.macho_sizing.specs.steps.Rooms.{kept_counts, IsLaid, passed_pages, HasMany, HasFew}
 use Rattle.macho_sizing.proofs.Larger.{outputs_kept, written_grows, some_kept}
 use Rattle.macho_model.proofs.Parts.{in_segment_of}
@@ -103,11 +103,6 @@ unwind_passes l counts q w large =
 pub kept_same : (counts : Counts) → counts.unwind < 2 ^ 32 → kept_counts counts ≡ counts
 kept_same counts low = (let same : min counts.unwind (2 ^ 32) ≡ counts.unwind = omega arith in
     ap (λ (n : ℕ). let c : Counts = record counts { unwind = n } in c) same)
-
--- too many pages are told by their segment
-pub pages_told : (l : Link) (counts : Counts) (q : Placed) (number : ℕ) → HasMany q.segments number
-    → PassesLimit l counts limit.Pages number (Some q)
-pages_told l counts q number many = many
 
 not_passed : (s : PlacedSegment) → passed_pages s ≡ None → may_hold_pointers (text_of s.name) ≡ true → 65535 < pages_of s → ⊥
 not_passed s none may past =

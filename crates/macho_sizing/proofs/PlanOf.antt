@@ -2,8 +2,7 @@
 --
 -- Its sections are those of its views, its commons the chosen ones by their places, its slots and stubs the link's lists. A chosen common
 -- is a symbol of an object that keeps its rules, so it is aligned to 2 ^ 14 at most.
-use Rattle.std.proofs.Common.{◌≡◌, ℕ, ◌+◌, ◌<◌, ◌≤◌, Bool, true, false, not, ◌||◌, ◌&&◌, List, [], ◌∷◌, ◌++◌, map, length, get_or, refl}
-use Rattle.std.proofs.Common.{sym, ap, ◌∙◌, subst, arith, leb-true}
+use Rattle.std.proofs.Common.{◌≡◌, ℕ, ◌+◌, ◌<◌, ◌≤◌, Bool, true, false, not, ◌||◌, ◌&&◌, List, [], ◌∷◌, ◌++◌, map, length, get_or, refl, sym, ap, ◌∙◌, subst, arith, leb-true}
 use Rattle.std.specs.Prelude.{All, Contains, Option}
 use Rattle.std.specs.List.{enumerate_from, range_with_len, position_or_len}
 use Rattle.std.proofs.lemmas.Bool.{false≢true}
@@ -21,34 +20,33 @@ use Rattle.macho_model.specs.Targets.{slots_of, stubs_of, same_target}
 use Rattle.macho_model.specs.Resolution.{SymbolId, entry_at, symbols_of, symbols_of_file, chosen_commons}
 use Rattle.macho_model.specs.LinkLaws.{is_chosen}
 use Rattle.macho_object.specs.Views.{FileBytes}
-use Rattle.macho_parts.specs.Views.{object_view, views_of, ViewsObject}
+use Rattle.macho_promise.specs.Views.{object_view, views_of, ViewsObject}
 use Rattle.macho_symbols.specs.declared.solved.Common.{Common}
 use Rattle.macho_symbols.specs.Told.{common_of, CommonsAre}
 use Rattle.macho_layout.specs.declared.spec.CommonSpec.{CommonSpec}
 use Rattle.macho_layout.specs.declared.spec.StubSpec.{StubSpec}
 use Rattle.macho_layout.specs.Plans.{Planning, new_plan, IsPlanOf, common_spec_of}
-use Rattle.macho_planning.specs.Sections.{specs_of_views}
-use Rattle.macho_planning.proofs.OfLink.{specs_are}
-use Rattle.macho_consumed.proofs.Members.{in_range, all_there}
-use Rattle.macho_consumed.proofs.Tests.{left_of}
-use Rattle.macho_linkedit.proofs.Members.{from_filter, from_flat_map, from_map}
+use Rattle.macho_sizing.specs.Sections.{specs_of_views}
+use Rattle.macho_sizing.proofs.OfLink.{specs_are}
 use Rattle.macho_sizing.specs.steps.Planned.{common_spec, common_specs, AddsStubs}
 use Rattle.macho_sizing.proofs.Adding.{with_commons, with_slots}
+use Rattle.macho_bytes.proofs.Bools.{and_left}
+use Rattle.macho_bytes.proofs.Members.{contains_all, map_contains, filter_contains, flat_map_contains, range_contains}
 
 -- a symbol of a link is one of an object that keeps the rules
 symbol_kept : (l : Link) (s : SymbolId) → All ViewsObject (views_of l) → Contains (symbols_of l) s
     → IsObject (object_of l s.file) × (s.symbol < num_symbols (object_of l s.file))
 unfolding symbols_of
 symbol_kept l s rules c =
-    let z = from_flat_map (λ (i : ℕ × Input). symbols_of_file i.0 i.1) (enumerate_from 0 l.inputs) s c in
+    let z = flat_map_contains (λ (i : ℕ × Input). symbols_of_file i.0 i.1) (enumerate_from 0 l.inputs) s c in
     by z.0 z.1 z.2
   where
     kind : (file : ℕ) (x : Input) → ViewsObject (object_view x) → Contains (symbols_of_file file x) s
         → (s.file ≡ file) × IsObject (object_bytes x) × (s.symbol < num_symbols (object_bytes x))
     kind file (Object b) rule there =
-        let k = from_map (λ (n : ℕ). let t : SymbolId = record { file = file; symbol = n } in t) (range_with_len 0
+        let k = map_contains (λ (n : ℕ). let t : SymbolId = record { file = file; symbol = n } in t) (range_with_len 0
         (num_symbols b)) s there in
-        let low : k.0 < num_symbols b = in_range (num_symbols b) k.0 k.1 in
+        let low : k.0 < num_symbols b = range_contains (num_symbols b) k.0 k.1 in
         let symbol : k.0 ≡ s.symbol = ap (λ (t : SymbolId). t.symbol) k.2 in
         (sym (ap (λ (t : SymbolId). t.file) k.2), rule.0, omega (arith, low, symbol))
     kind file (Dylib b) rule there = absurd (omega (arith, there.1))
@@ -81,9 +79,9 @@ chosen_small : (l : Link) (s : SymbolId) → All ViewsObject (views_of l) → Co
     → common_exponent_of (entry_at l s) ≤ 14
 unfolding chosen_commons
 chosen_small l s rules c =
-    let f = from_filter (is_chosen l) (symbols_of l) s c in
+    let f = filter_contains (is_chosen l) (symbols_of l) s c in
     let kept = symbol_kept l s rules f.0 in
-    let common : is_common_of (entry_at l s) ≡ true = left_of _ _ f.1 in
+    let common : is_common_of (entry_at l s) ≡ true = and_left _ _ f.1 in
     leb-true (common_exponent_of (entry_at l s)) 14
     (parts (is_common_of (entry_at l s)) _ _ ((object_keeps kept.0).o14 s.symbol kept.1) common)
   where
@@ -97,7 +95,7 @@ pub commons_small : (l : Link) (commons : List Common) → All ViewsObject (view
 commons_small l commons rules are =
     subst (λ (cs : List Common). All (λ c. c.align ≤ 14) cs) (sym are)
     (All-map (λ (c : Common). c.align ≤ 14) (common_of l) (chosen_commons l)
-    (all_there (λ s. common_exponent_of (entry_at l s) ≤ 14) (chosen_commons l) (λ s there. chosen_small l s rules there)))
+    (contains_all (λ s. common_exponent_of (entry_at l s) ≤ 14) (chosen_commons l) (λ s there. chosen_small l s rules there)))
 
 -- the commons of the plan
 pub commons_planned : (l : Link) (commons : List Common) → CommonsAre l commons

@@ -2,8 +2,7 @@
 --
 -- The numbers that are counted are those that the limits speak of. A plan has as many segments and output sections as its link; of sizes it
 -- takes only whether there are initializers and unwind entries, which the rows tell, since unwind information of some entries is not empty.
-use Rattle.std.proofs.Common.{◌≡◌, ℕ, ◌^◌, ◌≤◌, ◌==◌, nat_lt, if◌then◌else◌, Bool, false, List, [], ◌∷◌, length, map, sym, ap, ◌∙◌, arith}
-use Rattle.std.proofs.Common.{None}
+use Rattle.std.proofs.Common.{◌≡◌, ℕ, ◌^◌, ◌≤◌, ◌==◌, nat_lt, if◌then◌else◌, Bool, false, List, [], ◌∷◌, length, map, sym, ap, ◌∙◌, arith, None}
 use Rattle.std.specs.Prelude.{sum_by}
 use Rattle.std.proofs.lemmas.Bool.{lt-ltb, ne_eqb}
 use Rattle.std.proofs.lemmas.List.{length-map}
@@ -21,9 +20,9 @@ use Rattle.macho_unwind_pages.specs.Bounds.{unwind_bound_of}
 use Rattle.macho_layout.specs.declared.fault.LayoutFault.TheVariants as layout
 use Rattle.macho_layout.specs.Plans.{Planning, IsPlanOf}
 use Rattle.macho_layout.specs.Laid.{FaultStands}
-use Rattle.macho_placing.proofs.Placing.{refusals_are_links}
-use Rattle.macho_faults.specs.declared.fault.LinkError.TheVariants.{TooMany, ImageTooLarge}
-use Rattle.macho_faults.specs.Standing.{Stands}
+use Rattle.macho_layout_laws.proofs.Placing.{refusals_are_links}
+use Rattle.macho_answer.specs.declared.fault.LinkError.TheVariants.{TooMany, ImageTooLarge}
+use Rattle.macho_answer.specs.Standing.{Stands}
 use Rattle.macho_consumed.specs.Rows.{entry_row, entry_rows}
 use Rattle.macho_consumed.proofs.RowLaws.{are_many}
 use Rattle.macho_sizing.specs.declared.asked.SizesOf.{SizesOf}
@@ -31,23 +30,7 @@ use Rattle.macho_sizing.specs.declared.numbers.Numbers.{Numbers}
 use Rattle.macho_sizing.specs.Asked.{AreOf}
 use Rattle.macho_sizing.specs.steps.Passing.{AreNumbers, AreSymbols, Passes, counts_before}
 use Rattle.macho_sizing.proofs.Larger.{outputs_kept, content_within}
-
--- the sizes of a link, one by one
-pub imports_are : (l : Link) (counts : Counts) → AreCounts l counts → counts.imports ≡ length (import_entries_of l)
-unfolding counts_with
-imports_are l counts are = ap (λ (c : Counts). c.imports) are.are
-
-pub name_bytes_are : (l : Link) (counts : Counts) → AreCounts l counts → counts.name_bytes ≡ sum_by text_size (imports_of l)
-unfolding counts_with
-name_bytes_are l counts are = ap (λ (c : Counts). c.name_bytes) are.are
-
-pub initializers_are : (l : Link) (counts : Counts) → AreCounts l counts → counts.initializers ≡ length (initializers_of l)
-unfolding counts_with
-initializers_are l counts are = ap (λ (c : Counts). c.initializers) are.are
-
-pub unwind_is : (l : Link) (counts : Counts) → AreCounts l counts → counts.unwind ≡ unwind_size l
-unfolding counts_with
-unwind_is l counts are = ap (λ (c : Counts). c.unwind) are.are
+use Rattle.macho_promise.proofs.Counted.{imports_counted, names_counted, initializers_counted, unwind_counted}
 
 -- THE number that is counted passes its limit
 pub number_stands : (l : Link) (counts : Counts) (n : Numbers) (what : Limit) (number : ℕ) → AreNumbers l n → AreSymbols l n
@@ -56,9 +39,9 @@ pub number_stands : (l : Link) (counts : Counts) (n : Numbers) (what : Limit) (n
 number_stands l counts n limit.Libraries number are symbols counted p = record { stands = (p.0 ∙ are.libraries, p.1); kept = tt }
 number_stands l counts n limit.Personalities number are symbols counted p = record { stands = (p.0 ∙ are.personalities, p.1); kept = tt }
 number_stands l counts n limit.Imports number are symbols counted p =
-    record { stands = (p.0 ∙ are.imports ∙ sym (imports_are l counts counted), p.1); kept = tt }
+    record { stands = (p.0 ∙ are.imports ∙ sym (imports_counted l counts counted), p.1); kept = tt }
 number_stands l counts n limit.NameBytes number are symbols counted p =
-    record { stands = (p.0 ∙ are.names ∙ sym (name_bytes_are l counts counted), p.1); kept = tt }
+    record { stands = (p.0 ∙ are.names ∙ sym (names_counted l counts counted), p.1); kept = tt }
 number_stands l counts n limit.Symbols number are symbols counted p = record { stands = (p.0 ∙ symbols.are, p.1); kept = tt }
 number_stands l counts n limit.Segments number are symbols counted p = absurd p
 number_stands l counts n limit.Sections number are symbols counted p = absurd p
@@ -83,10 +66,10 @@ outputs_before : (l : Link) (a : SizesOf) (counts : Counts) → AreOf l a → Ar
     → (nat_lt 0 (length a.initializers.now) ≡ nat_lt 0 counts.initializers) × (nat_lt 0 (length a.entries.now) ≡ nat_lt 0 counts.unwind)
 outputs_before l a counts of_link are =
     let many : length a.initializers.now ≡ counts.initializers
-    = ap length of_link.read.initializers ∙ sym (are_many l) ∙ sym (initializers_are l counts are) in (
+    = ap length of_link.read.initializers ∙ sym (are_many l) ∙ sym (initializers_counted l counts are) in (
       ap (nat_lt 0) many,
       entries_tell l (length a.entries.now) (ap length of_link.read.entries.0)
-          ∙ ap (nat_lt 0) (sym (unwind_is l counts are)),
+          ∙ ap (nat_lt 0) (sym (unwind_counted l counts are)),
     )
 
 -- THE number that a plan tells passes its limit

@@ -2,8 +2,7 @@
 --
 -- Each is a sum over the carried sections in `__TEXT` with bytes in the file: by views and numbers of sections, and by sections of the
 -- link. Such a section is placed at its own alignment, since what is thread-local stands in `__DATA`.
-use Rattle.std.proofs.Common.{◌≡◌, ℕ, ◌+◌, ◌^◌, ◌<◌, ◌≤◌, ◌&&◌, ◌||◌, not, ◌==◌, if◌then◌else◌, suc, Bool, true, false, List, [], ◌∷◌, ◌++◌}
-use Rattle.std.proofs.Common.{map, length, get_or, take, sum_by, refl, sym, ap, ◌∙◌, subst, arith, Some, None}
+use Rattle.std.proofs.Common.{◌≡◌, ℕ, ◌+◌, ◌^◌, ◌<◌, ◌≤◌, ◌&&◌, ◌||◌, not, ◌==◌, if◌then◌else◌, suc, Bool, true, false, List, [], ◌∷◌, ◌++◌, map, length, get_or, take, sum_by, refl, sym, ap, ◌∙◌, subst, arith, Some, None}
 use Rattle.std.specs.Prelude.{All, filter, Option, max, nat_lt}
 use Rattle.std.specs.List.{flat_map, range_with_len, enumerate_from}
 use Rattle.std.specs.Str.{bytes_eq}
@@ -20,17 +19,16 @@ use Rattle.macho_records.specs.Sections.{is_zerofill, type_of, segment_name_of}
 use Rattle.macho_model.specs.Objects.{num_sections, section_at}
 use Rattle.macho_model.specs.ObjectRules.{is_thread_local}
 use Rattle.macho_model.specs.Segments.{TEXT, DATA}
-use Rattle.macho_model.specs.Links.{Link, Input, Object, Dylib, Stub, SectionId, object_bytes, object_of, no_input, header_at}
-use Rattle.macho_model.specs.Links.{sections_of_file, sections_of, is_carried, template_exponent, placed_exponent, carried_of}
+use Rattle.macho_model.specs.Links.{Link, Input, Object, Dylib, Stub, SectionId, object_bytes, object_of, no_input, header_at, sections_of_file, sections_of, is_carried, template_exponent, placed_exponent, carried_of}
 use Rattle.macho_model.specs.WrittenSum.{section_cost as cost_in_link}
 use Rattle.macho_object.specs.Views.{FileBytes}
-use Rattle.macho_parts.specs.Views.{object_view, views_of, ViewsObject}
+use Rattle.macho_promise.specs.Views.{object_view, views_of, ViewsObject}
 use Rattle.macho_promise.specs.Sizes.{text_span}
 use Rattle.macho_layout.specs.Sums.{fitting, section_cost}
-use Rattle.macho_planning.specs.Sections.{KeepsRules}
-use Rattle.macho_planning.proofs.Standing.{keeps_rules}
-use Rattle.macho_consumed.proofs.Members.{in_range, all_there}
+use Rattle.macho_sizing.specs.Sections.{KeepsRules}
+use Rattle.macho_sizing.proofs.Standing.{keeps_rules}
 use Rattle.macho_sizing.specs.steps.Spans.{holds_text, span_of, span_of_view, span_of_views}
+use Rattle.macho_bytes.proofs.Members.{contains_all, range_contains}
 
 pub span_held : (h : SectionHeader) → holds_text h ≡ true → span_of h ≡ section_cost h.size h.align
 unfolding span_of
@@ -143,8 +141,8 @@ file_cost : (l : Link) (file : ℕ) (x : Input) → object_of l file ≡ object_
     → cost_of l (sections_of_file file x) ≡ span_of_view (object_view x)
 file_cost l file (Object b) is rules =
     object_cost l file b (range_with_len 0 (num_sections b)) is
-    (all_there (λ k. KeepsRules (section_at b k)) (range_with_len 0 (num_sections b))
-    (λ k there. keeps_rules b k rules.0 (in_range (num_sections b) k there)))
+    (contains_all (λ k. KeepsRules (section_at b k)) (range_with_len 0 (num_sections b))
+    (λ k there. keeps_rules b k rules.0 (range_contains (num_sections b) k there)))
 file_cost l file (Dylib b) is rules = refl
 file_cost l file (Stub text says) is rules = refl
 

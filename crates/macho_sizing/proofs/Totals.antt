@@ -12,7 +12,7 @@ use Rattle.macho_model.specs.ExportLists.{plain_entries, all_entries}
 use Rattle.macho_model.specs.Links.{Link}
 use Rattle.macho_model.specs.Objects.{num_symbols}
 use Rattle.macho_model.specs.Resolution.{symbols_of}
-use Rattle.macho_exports.specs.Entries.{ListEntries}
+use Rattle.macho_export_lists.specs.Entries.{ListEntries}
 use Rattle.macho_symbols.specs.Kept.{symbol_id}
 use Rattle.macho_symbols.specs.Exported.{AreLists}
 use Rattle.macho_symbols.specs.declared.solved.Import.{Import}
@@ -22,6 +22,7 @@ use Rattle.macho_linkedit.specs.Imports.{name_bytes}
 use Rattle.macho_linkedit.specs.Listing.{AreObjects}
 use Rattle.macho_linkedit.proofs.Listed.{symbols_in_object, symbols_are}
 use Rattle.macho_sizing.specs.steps.Passing.{plain_of}
+use Rattle.macho_linkedit.proofs.Counted.{sum_names}
 
 pub symbols_counted : (l : Link) (objects : List LinkedObject) → AreObjects l objects
     → sum_by (λ o. num_symbols o.file.bytes) objects ≡ length (symbols_of l)
@@ -47,16 +48,6 @@ plain_counted l None none = by l.export_lists none
         let some : (length (t ∷ ts) == 0) ≡ false = ne_eqb (length (t ∷ ts)) 0 (λ h. omega (arith, h)) in
         absurd (true≢false (sym (ap not some) ∙ e))
 plain_counted l (Some e) are = ap length are.1.plain
-
-sum_names : (xs : List Import) → name_bytes xs ≡ sum_by text_size (map (λ i. i.name.items) xs)
-sum_names [] = refl
-sum_names (x ∷ xs) =
-    omega (
-      arith,
-      sum_by-cons (λ (i : Import). length i.name.items + 1) x xs,
-      sum_by-cons text_size x.name.items (map (λ i. i.name.items) xs),
-      sum_names xs,
-    )
 
 pub names_counted : (xs : List Import) (names : List (List ℕ)) → map (λ i. i.name.items) xs ≡ names → name_bytes xs ≡ sum_by text_size names
 names_counted xs names are = sum_names xs ∙ ap (sum_by text_size) are

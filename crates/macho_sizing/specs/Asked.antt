@@ -3,8 +3,8 @@ use Rattle.std.specs.Prelude.{◌≡◌, ◌^◌, ◌<◌, false, List, map, len
 use Rattle.macho_model.specs.Links.{Link}
 use Rattle.macho_model.specs.Needs.{imports_of, libraries_needed}
 use Rattle.macho_model.specs.Told.{ToldExport}
-use Rattle.macho_parts.specs.Noted.{AreNeeds}
-use Rattle.macho_parts.specs.Views.{views_of, ViewsObject}
+use Rattle.macho_promise.specs.Noted.{AreNeeds}
+use Rattle.macho_promise.specs.Views.{views_of, ViewsObject}
 use Rattle.macho_symbols.specs.Kept.{IsResolved}
 use Rattle.macho_needs.specs.Noted.{needed_of}
 use Rattle.macho_consumed.specs.Rows.{initializer_rows, entry_rows}

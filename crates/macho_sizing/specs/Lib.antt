@@ -1,3 +1,4 @@
 pub mod Asked
 pub mod Sized
 pub mod steps
+pub mod Sections

@@ -4,12 +4,12 @@ use Rattle.macho_model.specs.declared.placed.Counts.{Counts}
 use Rattle.macho_model.specs.Links.{Link}
 use Rattle.macho_model.specs.Placement.{Placed}
 use Rattle.macho_promise.specs.Sizes.{AreCounts}
-use Rattle.macho_sizes.specs.Limits.{LimitsHold}
+use Rattle.macho_size_laws.specs.Limits.{LimitsHold}
 use Rattle.macho_layout.specs.Placements.{placed_of}
 use Rattle.macho_layout.specs.Plans.{Planning, IsPlanOf}
 use Rattle.macho_layout.specs.Sums.{FitsLimits}
 use Rattle.macho_layout.specs.Laid.{IsLaidOut}
-use Rattle.macho_placing.specs.Laws.{IsWhollyPlaced}
+use Rattle.macho_layout_laws.specs.Laws.{IsWhollyPlaced}
 use Rattle.macho_linkedit.specs.declared.exports.NamedExport.{NamedExport}
 use Rattle.macho_linkedit.specs.Listing.{AreListed}
 use Rattle.macho_linkedit.specs.Tries.{IsReserved}

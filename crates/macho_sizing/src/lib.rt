@@ -9,14 +9,18 @@
 
 mod asked;
 mod counting;
+mod laws;
 mod numbers;
 mod personalities;
 mod placing;
 mod plan;
 mod refusing;
+mod sections;
 mod size;
 mod span;
 mod unwind;
 
 pub use asked::{SizedLink, SizesOf};
+pub use laws::sections_are_planned;
+pub use sections::plan_sections;
 pub use size::size_link;

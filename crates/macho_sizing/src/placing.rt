@@ -10,10 +10,10 @@ ghost use Rattle.macho_layout.specs.Plans.{Planning, IsPlanOf};
 ghost use Rattle.macho_layout.specs.Laid.{FaultStands};
 ghost use Rattle.macho_model.specs.Limits.{ImagePasses};
 ghost use Rattle.macho_promise.specs.Promise.{IsKept};
-ghost use Rattle.macho_faults.specs.Standing.{Stands};
+ghost use Rattle.macho_answer.specs.Standing.{Stands};
 ghost use Rattle.macho_sizing.specs.steps.Rooms.{IsAnswered, IsLaid, kept_counts, passed_pages, HasMany, HasFew};
 
-use macho_faults::LinkError;
+use macho_answer::LinkError;
 use macho_layout::{Counts, LayoutFault, Placement, Plan};
 use macho_model::{LIMIT_32, Limit, PlacedSegment, SEGMENT_PAGE, may_hold_pointers};
 use macho_records::name_bytes;

@@ -4,18 +4,18 @@ ghost use Rattle.std.specs.List.{position_or_len};
 ghost use Rattle.macho_model.specs.Links.{Link};
 ghost use Rattle.macho_model.specs.Needs.{imports_of};
 ghost use Rattle.macho_model.specs.Targets.{same_target};
-ghost use Rattle.macho_parts.specs.Noted.{AreNeeds};
-ghost use Rattle.macho_parts.specs.Views.{views_of, ViewsObject};
+ghost use Rattle.macho_promise.specs.Noted.{AreNeeds};
+ghost use Rattle.macho_promise.specs.Views.{views_of, ViewsObject};
 ghost use Rattle.macho_symbols.specs.Kept.{IsResolved};
 ghost use Rattle.macho_needs.specs.Noted.{needed_of};
 ghost use Rattle.macho_layout.specs.Plans.{IsPlanOf, new_plan};
 ghost use Rattle.macho_sizing.specs.steps.Planned.{common_specs, AddsStubs};
 
+use crate::sections::plan_sections;
 use macho_layout::Plan;
 use macho_model::Target;
 use macho_needs::{Needs, Tables};
 use macho_object::File;
-use macho_planning::plan_sections;
 use macho_symbols::Common;
 use std::alloc::{AllocError, Global};
 

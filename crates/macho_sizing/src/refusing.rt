@@ -7,13 +7,13 @@ ghost use Rattle.macho_promise.specs.Sizes.{AreCounts};
 ghost use Rattle.macho_layout.specs.declared.fault.LayoutFault.TheVariants.{TooMany};
 ghost use Rattle.macho_layout.specs.Laid.{FaultStands};
 ghost use Rattle.macho_layout.specs.Plans.{IsPlanOf};
-ghost use Rattle.macho_faults.specs.Standing.{Stands};
+ghost use Rattle.macho_answer.specs.Standing.{Stands};
 ghost use Rattle.macho_sizing.specs.Asked.{AreOf};
 ghost use Rattle.macho_sizing.specs.steps.Passing.{counts_before, AreNumbers, AreSymbols, AreWithin};
 
 use crate::asked::SizesOf;
 use crate::numbers::{Numbers, Passed, check_numbers};
-use macho_faults::LinkError;
+use macho_answer::LinkError;
 use macho_layout::{Counts, LayoutFault, Plan};
 use macho_model::Limit;
 use std::alloc::Global;

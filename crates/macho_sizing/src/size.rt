@@ -5,7 +5,7 @@ ghost use Rattle.macho_model.specs.declared.placed.Counts.{Counts as LinkCounts}
 ghost use Rattle.macho_model.specs.Links.{Link};
 ghost use Rattle.macho_promise.specs.Sizes.{AreCounts, unwind_size};
 ghost use Rattle.macho_symbols.specs.Exported.{AreLists};
-ghost use Rattle.macho_faults.specs.Standing.{Stands};
+ghost use Rattle.macho_answer.specs.Standing.{Stands};
 ghost use Rattle.macho_sizing.specs.Asked.{AreOf, CanBeSized};
 ghost use Rattle.macho_sizing.specs.Sized.{IsSizedOf};
 ghost use Rattle.macho_sizing.specs.steps.Passing.{AreNumbers, AreSymbols, AreWithin, AreCounted};
@@ -20,7 +20,7 @@ use crate::placing::place;
 use crate::plan::make_plan;
 use crate::refusing::{check_limits, too_large};
 use crate::unwind::unwind_bytes;
-use macho_faults::LinkError;
+use macho_answer::LinkError;
 use macho_layout::Plan;
 use macho_linkedit::{reserve_trie, table_symbols};
 use macho_symbols::{ExportList, Import};

@@ -3,7 +3,7 @@
 ghost use Rattle.std.specs.Prelude.{◌≡◌, ◌+◌, ◌≤◌, false, All};
 ghost use Rattle.macho_model.specs.Grammar.{IsObject};
 ghost use Rattle.macho_model.specs.Objects.{num_sections};
-ghost use Rattle.macho_parts.specs.Views.{ViewsObject};
+ghost use Rattle.macho_promise.specs.Views.{ViewsObject};
 ghost use Rattle.macho_layout.specs.Sums.{fitting, section_cost};
 ghost use Rattle.macho_sizing.specs.steps.Spans.{holds_text, span_of, span_below, span_of_view, span_of_views};
 

@@ -6,7 +6,7 @@ use Rattle.std.proofs.Common.{◌≡◌, ◌⊎◌, Bool, true, false, cond, Lis
 use Rattle.std.specs.List.{AllByRecursion, filter}
 use Rattle.macho_stub.specs.Places.{SaysAlone}
 use Rattle.macho_stub.proofs.MappingsFields.{Given, GivenOr, NoneTwice, every}
-use Rattle.macho_stub_lines.proofs.Runs.{all_weaker}
+use Rattle.macho_bytes.proofs.Maps.{all_weaker}
 
 -- ---- entries that are alone
 

@@ -19,9 +19,8 @@ use Rattle.macho_stub.proofs.Ruling.{bind_err, library_made, library_back, libra
 use Rattle.macho_stub.proofs.One.{no_break}
 use Rattle.macho_stub.proofs.OneEnd.{one_break}
 use Rattle.macho_stub.specs.steps.Rules as step
-use Rattle.macho_stub.specs.steps.Rules.{MakesLibrary}
+use Rattle.macho_stub.specs.steps.Rules.{MakesLibrary, KeepsAll}
 use Rattle.macho_stub.specs.Rules.{rules_of, IsTold}
-use Rattle.macho_stub.specs.steps.Rules.{KeepsAll}
 use Rattle.macho_stub.specs.Documents.{DocumentFields}
 use Rattle.std.specs.Str.Lines.{lines}
 use Rattle.macho_stub.specs.Grammar.{IsStubLines}

@@ -19,11 +19,12 @@ use Rattle.macho_stub_lines.specs.Keys.{Entry, entry_at, scalar_value, version_v
 use Rattle.macho_stub.specs.Documents.{ItemFields, DocumentFields}
 use Rattle.macho_stub.specs.steps.Opened.{OpenDocumentFields, with_items, has_items, has_key}
 use Rattle.macho_stub.specs.steps.Reader.{ItemListFields, InsideFields, NoItem, StateFields, stays, skipped_value, item_entry, item_key_line, first_line, top_entry, within, with_whole, top_line, items_with_last, item_line}
-use Rattle.macho_stub_lines.proofs.Bind.{chosen, same_bytes, eq_at, ne_at, other_bytes}
+use Rattle.macho_stub_lines.proofs.Bind.{chosen, eq_at, ne_at, other_bytes}
 use Rattle.macho_stub.proofs.Ruling.{bind_err, same_err, ok_not_told}
 use Rattle.macho_stub.proofs.FineLines.{Fine, AnyOf, outside_at, version_fine, scalar_fine, fine_ok, fine_bind, fine_if, fine_here}
 use Rattle.macho_stub.proofs.Fine.{GoodInside, names_value_fine, skipped_value_fine}
 use Rattle.macho_stub.proofs.Branches.{at_head, at_end, at_entry, then_first, then_top}
+use Rattle.macho_bytes.proofs.Comparing.{same_bytes}
 
 -- a document ends at its end, or where the next one begins
 abbrev pub EndsDocument : List ℕ → Type 0

@@ -12,15 +12,14 @@ use Rattle.macho_stub_lines.specs.Slices.{Slice}
 use Rattle.macho_stub_lines.specs.Spelling.{IsEntry, value_of, value_at}
 use Rattle.macho_stub_lines.specs.Keys.{top_key}
 use Rattle.macho_stub.specs.Documents.{ItemOf, DocumentOf}
-use Rattle.macho_stub.specs.Places.{SaysAlone, document_keys}
-use Rattle.macho_stub.specs.Places.{no_text}
+use Rattle.macho_stub.specs.Places.{SaysAlone, document_keys, no_text}
 use Rattle.macho_stub.specs.steps.Trees.{IsSkippedUnder, TopEntry, SaysNumber, SaysScalar, SaysList, SaysItems, DocumentTree}
 use Rattle.macho_stub.specs.steps.Trees as grammar
 use Rattle.macho_stub.proofs.MappingsFields.{Given, GivenOr, NoneTwice, every}
-use Rattle.macho_stub_lines.proofs.Bind.{same_bytes}
-use Rattle.macho_stub_lines.proofs.Runs.{all_weaker}
 use Rattle.macho_stub.proofs.Alone.{Tested, Few, few, each_says, given, given_or, once, alone, alone_or, all_both, all_keys}
 use Rattle.macho_stub.proofs.ItemsByKeys.{under}
+use Rattle.macho_bytes.proofs.Comparing.{same_bytes}
+use Rattle.macho_bytes.proofs.Maps.{all_weaker}
 
 -- ---- documents
 

@@ -17,7 +17,7 @@ use Rattle.macho_stub_lines.specs.Lists.{list_part, token_front, behind}
 use Rattle.macho_stub.specs.Documents.{DocumentFields}
 use Rattle.macho_stub.specs.steps.Opened.{OpenDocumentFields, head_at}
 use Rattle.macho_stub.specs.steps.Reader.{ItemListFields, NameListFields, ModeFields, PlaceFields, Outside, Within, Keys, Skipped, Names, NoItem, StateFields, stays, names_line, first_line, key_line, belongs, inside_line, content_line, line_step, within}
-use Rattle.macho_stub.proofs.PutIn.{closing_bracket}
+use Rattle.macho_stub.proofs.PutIn.{closing_bracket, item_text_barred, item_text_passed, no_dash_there}
 use Rattle.macho_stub.specs.Order.{MayStand, IsWhy, in_column}
 use Rattle.macho_stub.specs.steps.Order.{unread_key, unread_item}
 use Rattle.macho_stub_lines.proofs.Bind.{chosen}
@@ -26,7 +26,6 @@ use Rattle.macho_stub.proofs.FineLines.{outside_at}
 use Rattle.macho_stub.proofs.Fine.{GoodInside, names_line_fine}
 use Rattle.macho_stub.proofs.Causes.{at_line, within_refused, fault_at}
 use Rattle.macho_stub.proofs.Joined.{IsLine}
-use Rattle.macho_stub.proofs.PutIn.{item_text_barred, item_text_passed, no_dash_there}
 use Rattle.macho_stub.proofs.Reached.{Reached, may_stand, refused}
 use Rattle.macho_stub.proofs.Since.{Known, closing_stands, item_stands}
 use Rattle.macho_stub.proofs.Whys.{same_why, outside_fault, first_outside, keys_why}

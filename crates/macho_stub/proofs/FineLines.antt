@@ -39,10 +39,6 @@ here_at line fault = (fault ≡ record { line = line; rule = S1 }) ⊎ (fault �
 abbrev pub lacking_at : ℕ → Fault → Type 0
 lacking_at line fault = fault ≡ record { line = line; rule = S2 }
 
--- any of these
-abbrev pub any_at : ℕ → ℕ → Fault → Type 0
-any_at line at fault = here_at line fault ⊎ lacking_at at fault
-
 no_err : {A : Type 0} (x : A) (d : Fault) → done x ≡ Err d → ⊥
 no_err x d e = cc
 

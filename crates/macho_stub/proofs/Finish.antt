@@ -17,9 +17,8 @@ use Rattle.macho_stub.specs.Documents.{ItemFields, DocumentFields}
 use Rattle.macho_stub.specs.steps.Opened.{OpenDocumentFields, with_items, with_key, with_top_key}
 use Rattle.macho_stub.specs.steps.Whole.{whole_item, whole_document}
 use Rattle.macho_stub.specs.steps.Reader.{ItemListFields, ModeFields, Keys, Skipped, Names, NoItem, PlaceFields, Outside, Within, StateFields, stays, with_names, with_whole, items_with_last, line_step, lines_from}
-use Rattle.macho_stub.proofs.PutIn.{closing_bracket}
+use Rattle.macho_stub.proofs.PutIn.{closing_bracket, mode_at, at_top, at_item, version_line, targets_line, name_line, libraries_line, with_name, with_targets, with_version, name_steps, targets_steps, version_steps, unread_key_steps, item_with_targets, item_with_names, item_targets_step, item_libraries_step, close_steps, begun, dash_steps}
 use Rattle.macho_stub.specs.steps.Order.{unread_key, unread_item}
-use Rattle.macho_stub.proofs.PutIn.{mode_at, at_top, at_item, version_line, targets_line, name_line, libraries_line, with_name, with_targets, with_version, name_steps, targets_steps, version_steps, unread_key_steps, item_with_targets, item_with_names, item_targets_step, item_libraries_step, close_steps, begun, dash_steps}
 
 -- lines that finish the text from this state
 pub record Finishes (state : StateFields) (line : ℕ) : Type 0 where

@@ -18,13 +18,14 @@ use Rattle.macho_stub.specs.steps.Whole.{whole_item, whole_document}
 use Rattle.macho_stub.specs.steps.Reader.{ItemListFields, ModeFields, Keys, Skipped, Names, NoItem, InsideFields, PlaceFields, Outside, Within, StateFields, stays, within, with_whole, items_with_last, item_line, item_key_line, first_line, names_line, key_line, belongs, inside_line, content_line, line_step, ended_document, ended_inside, ended, lines_from, start, documents_of}
 use Rattle.macho_stub_lines.specs.ReadLists.{ReadLine}
 use Rattle.macho_stub.proofs.Readings.{content_from, IsReadLines, IsReadText, items_then, AreItems, AreDocuments}
-use Rattle.macho_stub_lines.proofs.Bind.{bind_ok, chosen, not_broken, not_broken_else, same_ok, no_ok, same_bytes, eq_at, other_bytes}
+use Rattle.macho_stub_lines.proofs.Bind.{bind_ok, chosen, not_broken, not_broken_else, same_ok, no_ok, eq_at, other_bytes}
 use Rattle.macho_stub.proofs.Rest.{run, RestTop, RestItem, RestKeys, RestMode, RestInside, Rest}
 use Rattle.macho_stub.proofs.Spelled.{spelled_unspaced}
 use Rattle.macho_stub.proofs.FoundEntries.{names_line_rest}
 use Rattle.macho_stub.proofs.FoundItems.{item_key_line_rest, first_line_rest}
 use Rattle.macho_stub.proofs.FoundTop.{top_line_rest, document_in_front}
 use Rattle.macho_stub.proofs.Branches.{inside_of_document, then_first, then_top}
+use Rattle.macho_bytes.proofs.Comparing.{same_bytes}
 
 -- a reading inside a document that did not fail
 within_ok : (before : List DocumentFields) (reading : Reading InsideFields) (next : StateFields) (rest : List ReadLine)

@@ -18,10 +18,11 @@ use Rattle.macho_stub.specs.steps.Reader.{Keys, NoItem, InsideFields, StateField
 use Rattle.macho_stub_lines.specs.Bytes.{head, end}
 use Rattle.macho_stub_lines.specs.ReadLists.{ReadLine}
 use Rattle.macho_stub.proofs.Readings.{Under, Plain, Listed, under_then, TopValue, end_then}
-use Rattle.macho_stub_lines.proofs.Bind.{bind_ok, chosen, not_broken, not_broken_else, same_ok, same_bytes, eq_at}
+use Rattle.macho_stub_lines.proofs.Bind.{bind_ok, chosen, not_broken, not_broken_else, same_ok, eq_at}
 use Rattle.macho_stub.proofs.Rest.{RestOutside, RestTop, RestInside, Rest}
 use Rattle.macho_stub.proofs.FoundEntries.{names_value_rest, skipped_value_rest}
 use Rattle.macho_stub.proofs.Branches.{at_head, at_end, at_entry, inside_of_document}
+use Rattle.macho_bytes.proofs.Comparing.{same_bytes}
 
 -- a key line of a document, and the lines behind it
 record RestTopValue (before : List DocumentFields) (document : OpenDocumentFields) (line : ℕ) (text : List ℕ) (key : TopKey)

@@ -14,14 +14,13 @@ use Rattle.macho_stub_lines.specs.Spelling.{IsEntry, value_of}
 use Rattle.macho_stub_lines.specs.Keys.{item_key, names_key}
 use Rattle.macho_stub.specs.Documents.{ItemOf}
 use Rattle.macho_stub.specs.Grammar.{item_keys}
-use Rattle.macho_stub.specs.Places.{SaysAlone}
-use Rattle.macho_stub.specs.Places.{SaysNames, ItemTree, column_of, entries_of, SaysItem}
+use Rattle.macho_stub.specs.Places.{SaysAlone, SaysNames, ItemTree, column_of, entries_of, SaysItem}
 use Rattle.macho_stub.specs.steps.Trees.{IsSkipped, ItemEntry, item_value_at, is_deeper}
 use Rattle.macho_stub.specs.steps.Trees as grammar
 use Rattle.macho_stub.proofs.MappingsFields.{Given, GivenOr, NoneTwice, every}
-use Rattle.macho_stub_lines.proofs.Bind.{same_bytes}
-use Rattle.macho_stub_lines.proofs.Runs.{all_weaker}
 use Rattle.macho_stub.proofs.Alone.{Tested, Fails, none_left, Few, few, each_says, given, given_or, once, given_lacks, alone, alone_or, all_both}
+use Rattle.macho_bytes.proofs.Comparing.{same_bytes}
+use Rattle.macho_bytes.proofs.Maps.{all_weaker}
 
 -- ---- items
 

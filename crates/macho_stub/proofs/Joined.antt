@@ -31,50 +31,6 @@ joined (line ∷ more) = line ++ 13 ∷ 10 ∷ joined more
 abbrev parts : List ℕ → List (List ℕ)
 parts bytes = slice_split (λ b. eqb b 10) bytes
 
-parts_of_line : (line rest : List ℕ) → IsLine line → parts (line ++ 13 ∷ 10 ∷ rest) ≡ (line ++ 13 ∷ []) ∷ parts rest
-parts_of_line [] rest h = refl
-parts_of_line (b ∷ line) rest h =
-    let e = or_parts (eqb b 10) (has_line_feed line) h in
-    rw e.0 (ap (onto_first b) (parts_of_line line rest e.1))
-
-length_more : (line : List ℕ) (b : ℕ) → length (line ++ b ∷ []) ≡ length line + 1
-length_more [] b = refl
-length_more (a ∷ line) b = ap suc (length_more line b) ∙ omega arith
-
-last_of : (line : List ℕ) (b : ℕ) → get_or (line ++ b ∷ []) (length line) 0 ≡ b
-last_of [] b = refl
-last_of (a ∷ line) b = last_of line b
-
-but_last : (line : List ℕ) (b : ℕ) → take (length line) (line ++ b ∷ []) ≡ line
-but_last [] b = refl
-but_last (a ∷ line) b = ap (λ (more : List ℕ). a ∷ more) (but_last line b)
-
-stripped : (line : List ℕ) → strip_carriage_return (line ++ 13 ∷ []) ≡ line
-stripped line =
-    let n : length (line ++ 13 ∷ []) - 1 ≡ length line = omega (arith, length_more line 13) in
-    rw (n, last_of line 13) (but_last line 13)
-
--- what comes behind a line is not nothing
-some_parts : (bytes : List ℕ) (x : List ℕ) → (y : List ℕ) × (more : List (List ℕ)) × (parts bytes ≡ y ∷ more)
-some_parts [] x = ([], [], refl)
-some_parts (b ∷ bytes) x = by_test (eqb b 10) (some_parts bytes x)
-  where
-    by_test : (t : Bool) → ((y : List ℕ) × (more : List (List ℕ)) × (parts bytes ≡ y ∷ more))
-        → (y : List ℕ) × (more : List (List ℕ)) × (cond t ([] ∷ parts bytes) (onto_first b (parts bytes)) ≡ y ∷ more)
-    by_test true s = ([], parts bytes, refl)
-    by_test false s = (b ∷ s.0, s.1, ap (onto_first b) s.2)
-
--- the lines of a text that is written of lines are these lines
-pub lines_joined : (texts : List (List ℕ)) → AreLines texts → lines (joined texts) ≡ texts
-lines_joined [] all = refl
-lines_joined (line ∷ more) all =
-    let s = some_parts (joined more) [] in
-    ap lines_of_parts (parts_of_line line (joined more) all.0)
-    ∙ ap (λ rest. lines_of_parts ((line ++ 13 ∷ []) ∷ rest)) s.2
-    ∙ ap (λ first. first ∷ lines_of_parts (s.0 ∷ s.1)) (stripped line)
-    ∙ ap (λ rest. line ∷ lines_of_parts rest) (sym s.2)
-    ∙ ap (λ (rest : List (List ℕ)). line ∷ rest) (lines_joined more all.1)
-
 -- ---- lines of a text
 
 onto_line : (b : ℕ) (all : List (List ℕ)) → eqb b 10 ≡ false → AreLines all → AreLines (onto_first b all)

@@ -19,8 +19,9 @@ use Rattle.macho_stub_lines.specs.Keys.{Entry, entry_at, top_key}
 use Rattle.macho_stub.specs.Documents.{ItemFields, DocumentFields}
 use Rattle.macho_stub.specs.steps.Opened.{OpenDocumentFields, head_at, with_items}
 use Rattle.macho_stub.specs.steps.Reader.{ItemListFields, NameListFields, ModeFields, Keys, Skipped, Names, NoItem, InsideFields, PlaceFields, Outside, Within, StateFields, stays, with_names, behind_expect, behind_part, names_line, item_key_line, first_line, top_entry, within, with_whole, top_line, items_with_last, item_line, key_line, belongs, inside_line, content_line, line_step}
-use Rattle.macho_stub_lines.proofs.Bind.{chosen, not_broken, not_broken_else, same_ok, no_ok, same_bytes, ne_at, other_bytes}
+use Rattle.macho_stub_lines.proofs.Bind.{chosen, not_broken, not_broken_else, same_ok, no_ok, ne_at, other_bytes}
 use Rattle.macho_stub.proofs.Kept.{Kept, kept_ok, kept_bind, Of, FirstLine, items_line, names_line_kept, item_key_line_kept, first_line_kept, top_entry_kept}
+use Rattle.macho_bytes.proofs.Comparing.{same_bytes}
 
 -- Behind a line with this number: outside documents, or in the document as before, or in one that the line begins.
 abbrev pub Behind : ℕ → ℕ → ℕ → List ℕ → PlaceFields → Type 0

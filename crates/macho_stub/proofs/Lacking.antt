@@ -17,16 +17,16 @@ use Rattle.macho_stub_lines.specs.Keys.{entry_at, item_key}
 use Rattle.macho_stub.specs.Documents.{ItemFields, DocumentFields}
 use Rattle.macho_stub.specs.steps.Opened.{OpenDocumentFields, no_item}
 use Rattle.macho_stub.specs.steps.Reader.{ItemListFields, StateFields, skipped_value, item_key_line, first_line, within, with_whole, items_with_last, item_line, line_step}
-use Rattle.macho_stub.proofs.PutIn.{IsNeeded}
+use Rattle.macho_stub.proofs.PutIn.{IsNeeded, at_top, at_item, item_targets_step, item_libraries_step, item_with_targets, item_with_names, targets_line, libraries_line, item_text_barred, item_text_passed}
 use Rattle.macho_stub.specs.Order.{MayStand, IsNextItem, in_column}
 use Rattle.macho_stub.specs.steps.Order.{LacksInItem, LacksInDocument, unread_key, unread_item}
-use Rattle.macho_stub_lines.proofs.Bind.{eq_true, not_below}
+use Rattle.macho_stub_lines.proofs.Bind.{eq_true}
 use Rattle.macho_stub.proofs.OnlyLines.{DashLine, dash_line}
 use Rattle.macho_stub.proofs.Joined.{spaces_line}
-use Rattle.macho_stub.proofs.PutIn.{at_top, at_item, item_targets_step, item_libraries_step, item_with_targets, item_with_names, targets_line, libraries_line, item_text_barred, item_text_passed}
 use Rattle.macho_stub.proofs.Finish.{item_whole}
 use Rattle.macho_stub.proofs.Reached.{Reached, reached_more, may_stand, refused}
 use Rattle.macho_stub.proofs.Steps.{Closes, keys_state, lacking_steps, unread_key_at_top, head_at_top, end_at_top}
+use Rattle.macho_bytes.proofs.Comparing.{not_less}
 
 -- a line with a byte that may stand nowhere is refused
 pub barred_steps : (state : StateFields) (line : ℕ) (text : List ℕ) → has_barred text ≡ true → line_step state line text ≡ outside line
@@ -185,7 +185,7 @@ next_steps : (before : List DocumentFields) (document : OpenDocumentFields) (lis
     → line_step (at_item before document list skipped) line text ≡ within before (first_line document list.kind items line text)
 unfolding line_step item_line
 next_steps before document list true line text items e below d clean some =
-    rw (clean, some, d.indented, d.dashed, not_below list.column list.dash (omega arith), eq_true list.dash list.dash refl, e) refl
+    rw (clean, some, d.indented, d.dashed, not_less list.column list.dash (omega arith), eq_true list.dash list.dash refl, e) refl
 next_steps before document list false line text items e below d clean some =
     rw (clean, some, d.indented, d.dashed, eq_true list.dash list.dash refl, e) refl
 

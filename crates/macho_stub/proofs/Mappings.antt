@@ -22,7 +22,7 @@ use Rattle.macho_stub.proofs.DocumentsByKeys.{IsTopValue, IsTopEntry, IsDocument
 use Rattle.macho_stub.proofs.Folded as folded
 use Rattle.macho_stub.proofs.MappingsFields.{Mapping, HasKey, Step, Steps, Agree, none_of, gives, gives_or, once, steps_keep, known, known_given, known_or, known_keep, agree, agree_or, steps}
 use Rattle.macho_stub.proofs.MappingsItems.{items_fold, items_unfold}
-use Rattle.macho_stub_lines.proofs.Runs.{all_weaker}
+use Rattle.macho_bytes.proofs.Maps.{all_weaker}
 
 -- ---- the fields of a document
 

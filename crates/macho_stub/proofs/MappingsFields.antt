@@ -7,7 +7,7 @@
 use Rattle.std.proofs.Common.{◌≡◌, List, [], ◌∷◌, Option, Some, None, refl, sym, ap, ◌∙◌, ◌⊎◌, inl, inr, subst}
 use Rattle.std.specs.Prelude.{false, is_some, unwrap_or}
 use Rattle.std.specs.List.{AllByRecursion}
-use Rattle.macho_stub_lines.proofs.Runs.{all_weaker}
+use Rattle.macho_bytes.proofs.Maps.{all_weaker}
 
 -- one of the entries has the key, and says this
 abbrev pub Given : {E X : Type 0} → (E → Type 0) → (E → X → Type 0) → List E → X → Type 0

@@ -22,7 +22,7 @@ use Rattle.macho_stub.specs.steps.Trees as grammar
 use Rattle.macho_stub.proofs.ItemsByKeys.{IsItemValue, IsItemEntry, AreNames, IsItem, item_by_keys, item_of_keys}
 use Rattle.macho_stub.proofs.Folded as folded
 use Rattle.macho_stub.proofs.MappingsFields.{NoneTwice, Mapping, HasKey, Step, Steps, Agree, none_of, gives, gives_or, once, known, known_given, known_or, agree, agree_or, steps}
-use Rattle.macho_stub_lines.proofs.Runs.{all_weaker}
+use Rattle.macho_bytes.proofs.Maps.{all_weaker}
 
 -- ---- the fields of an item
 

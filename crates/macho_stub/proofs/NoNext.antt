@@ -19,14 +19,13 @@ use Rattle.macho_stub_lines.specs.Keys.{entry_at, item_key}
 use Rattle.macho_stub.specs.Documents.{DocumentFields}
 use Rattle.macho_stub.specs.steps.Opened.{OpenDocumentFields, OpenItemFields, has_key, with_key}
 use Rattle.macho_stub.specs.steps.Reader.{ItemListFields, Keys, StateFields, stays, names_line, names_value, skipped_value, item_key_line, within, item_line, line_step}
-use Rattle.macho_stub.proofs.PutIn.{IsNeeded}
+use Rattle.macho_stub.proofs.PutIn.{IsNeeded, at_item, item_text_barred, item_text_passed, no_dash_there, targets_line, libraries_line}
 use Rattle.macho_stub.specs.Grammar.{IsStubLines}
 use Rattle.macho_stub.specs.Order.{MayStand, IsNextItem, in_column}
 use Rattle.macho_stub.specs.steps.Order.{LacksInItem, unread_key, unread_item}
 use Rattle.macho_stub_lines.proofs.Bind.{not_broken_else, no_ok, same_ok, eq_false, chosen, one_way}
 use Rattle.macho_stub.proofs.OnlyLines.{top_indent, spelled_indent, spelled_rest, DashLine, dash_line}
 use Rattle.macho_stub.proofs.Joined.{IsLine, spaces_line}
-use Rattle.macho_stub.proofs.PutIn.{at_item, item_text_barred, item_text_passed, no_dash_there, targets_line, libraries_line}
 use Rattle.macho_stub.proofs.Reached.{Reached, reached_more, stands, refused}
 
 -- ---- lines in a column

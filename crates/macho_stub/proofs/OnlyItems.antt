@@ -20,10 +20,11 @@ use Rattle.macho_stub.specs.steps.Opened.{OpenItemFields, OpenDocumentFields, no
 use Rattle.macho_stub.specs.steps.Reader.{ItemListFields, InsideFields, names_value, item_entry, item_key_line, key_column, first_line, items_with_last, within, top_line, item_line}
 use Rattle.macho_stub_lines.specs.ReadLists.{ReadLine}
 use Rattle.macho_stub.proofs.Readings.{ItemEntry, GivesNames, ItemValue, IsItemEntry, ItemEntries, entries_then, ItemTree, column_of, IsItem}
-use Rattle.macho_stub_lines.proofs.Bind.{eq_true, eq_false, not_below}
+use Rattle.macho_stub_lines.proofs.Bind.{eq_true, eq_false}
 use Rattle.macho_stub.proofs.Rest.{run}
 use Rattle.macho_stub.proofs.OnlyLines.{entry_unspaced, spelled_indent, spelled_rest, DashLine, dash_line}
 use Rattle.macho_stub.proofs.OnlyLists.{run_in, run_keys, Starts, names_value_is_read, skipped_value_is_read}
+use Rattle.macho_bytes.proofs.Comparing.{not_less}
 
 -- ---- entries
 
@@ -114,7 +115,7 @@ unfolding indent
 in_column_starts list line head said e =
     let i : prefix_len is_space (replicate list.column space ++ head)
     ≡ list.column = spelled_indent list.column head (entry_unspaced line head said e) in
-    not_below _ _ (omega arith)
+    not_less _ _ (omega arith)
 
 entries_start : (list : ItemListFields) (entries : List ItemEntry) (old new : OpenItemFields) (rest : List ReadLine)
     → Starts (Some list) rest

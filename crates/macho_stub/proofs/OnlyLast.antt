@@ -13,11 +13,12 @@ use Rattle.macho_stub.specs.steps.Whole.{whole_item}
 use Rattle.macho_stub.specs.steps.Reader.{ItemListFields, first_line, items_with_last, within, with_whole, top_line, item_line}
 use Rattle.macho_stub_lines.specs.ReadLists.{ReadLine}
 use Rattle.macho_stub.proofs.Readings.{ItemTree, column_of, entries_then, items_then, AreItems}
-use Rattle.macho_stub_lines.proofs.Bind.{eq_true, not_below}
+use Rattle.macho_stub_lines.proofs.Bind.{eq_true}
 use Rattle.macho_stub.proofs.Rest.{run}
 use Rattle.macho_stub.proofs.OnlyLines.{entry_unspaced, top_indent, top_no_dash, DashLine, dash_line}
 use Rattle.macho_stub.proofs.OnlyLists.{run_in, run_keys, Starts}
 use Rattle.macho_stub.proofs.OnlyItems.{by_tests, within_run, item_is_read}
+use Rattle.macho_bytes.proofs.Comparing.{not_less}
 
 -- the lines begin with none that belongs to a skipped value of a document: so they begin at column 0
 abbrev pub TopStarts : List ReadLine → Type 0
@@ -66,14 +67,14 @@ items_start : (list : ItemListFields) (line : ℕ) (kind : ItemKind) (trees : Li
     → list.dash < list.column → TopStarts rest → AreItems line kind list.dash trees says
     → Starts (Some list) (items_then list.dash trees rest)
 items_start list line kind [] [] [] lt s a = tt
-items_start list line kind [] [] (first ∷ rest) lt s a = not_below _ _ (omega (arith, top_indent first.text s))
+items_start list line kind [] [] (first ∷ rest) lt s a = not_less _ _ (omega (arith, top_indent first.text s))
 items_start list line kind [] (one ∷ says) rest lt s a = absurd a
 items_start list line kind (tree ∷ trees) [] rest lt s a = absurd a
 items_start list line kind (tree ∷ trees) (one ∷ says) rest lt s a =
     let first = a.0.entries.1 in
     let d = dash_line list.dash tree.gap tree.first.head a.0.spaced
     (entry_unspaced tree.first.number tree.first.head first.said first.key) in
-    not_below _ _ (omega (arith, d.indented))
+    not_less _ _ (omega (arith, d.indented))
 
 pub items_go_on : (before : List DocumentFields) (document : OpenDocumentFields) (list : ItemListFields) (one : ItemFields)
     (trees : List ItemTree) (says : List ItemFields) (rest : List ReadLine)

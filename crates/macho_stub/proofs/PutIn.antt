@@ -8,7 +8,7 @@ use Rattle.std.proofs.Common.{◌≡◌, ◌≢◌, ℕ, zero, suc, get_or, ◌<
 use Rattle.std.specs.Prelude.{codes}
 use Rattle.std.specs.List.{prefix_len}
 use Rattle.std.proofs.lemmas.Bool.Decides.{nat_tests}
-use Rattle.macho_stub_lines.proofs.Bind.{eq_true, eq_false, not_below}
+use Rattle.macho_stub_lines.proofs.Bind.{eq_true, eq_false}
 use Rattle.macho_stub.proofs.OnlyLines.{top_indent, spelled_indent, spelled_rest, spelled_at}
 use Rattle.macho_stub_lines.specs.declared.keys.ItemKind.{ItemKind}
 use Rattle.macho_stub_lines.specs.declared.keys.ItemKind.TheVariants.{Libraries, Exports, Reexports}
@@ -23,6 +23,7 @@ use Rattle.macho_stub.specs.Documents.{ItemFields, DocumentFields}
 use Rattle.macho_stub.specs.steps.Opened.{OpenDocumentFields, no_item, with_items}
 use Rattle.macho_stub.specs.steps.Reader.{ItemListFields, NameListFields, ModeFields, Keys, Skipped, Names, NoItem, Within, StateFields, stays, with_names, names_line, names_value, skipped_value, item_key_line, key_column, first_line, within, top_line, items_with_last, item_line, line_step}
 use Rattle.macho_stub.specs.steps.Order.{unread_key, unread_item}
+use Rattle.macho_bytes.proofs.Comparing.{not_less}
 
 -- ---- where keys may stand
 
@@ -115,7 +116,7 @@ pub unread_key_steps : (before : List DocumentFields) (document : OpenDocumentFi
 unfolding line_step has_barred is_passed is_blank_or_comment unspaced indent top_line entry_at is_key_byte is_tail top_key scalar_value
     version_value number_of scalar_front plain_front is_plain_byte is_mark has_late_control_after names_value skipped_value names_line
     list_part token_front behind belongs_to_top has_dash item_line
-unread_key_steps before document list true line items e = rw (e, not_below list.column 0 (omega arith)) refl
+unread_key_steps before document list true line items e = rw (e, not_less list.column 0 (omega arith)) refl
 unread_key_steps before document list false line items e = rw e refl
 
 -- ---- keys of an item
@@ -155,7 +156,7 @@ item_text_steps before document list true line text out clean some below =
     let h : prefix_len is_space text ≡ 0 = top_indent text out in
     rw (item_text_barred list.column text, item_text_passed list.column text h, clean, some) (
     rw (spelled_indent list.column text h, spelled_rest list.column text, no_dash_there list.column text out) (
-    rw (not_below list.column list.column (omega arith), eq_false list.column 0 (omega arith), eq_true list.column list.column refl) refl))
+    rw (not_less list.column list.column (omega arith), eq_false list.column 0 (omega arith), eq_true list.column list.column refl) refl))
 item_text_steps before document list false line text out clean some below =
     let h : prefix_len is_space text ≡ 0 = top_indent text out in
     rw (item_text_barred list.column text, item_text_passed list.column text h, clean, some) (

@@ -12,7 +12,7 @@ use Rattle.macho_stub_lines.specs.Scalars.{in_single, in_double}
 use Rattle.macho_stub_lines.specs.Slices.{Slice, Line}
 use Rattle.macho_stub_lines.specs.Spelling.{IsPlain, NoValue, Value, IsEntry}
 use Rattle.macho_stub_lines.proofs.Bind.{ne_at}
-use Rattle.macho_stub_lines.proofs.Runs.{all_weaker}
+use Rattle.macho_bytes.proofs.Maps.{all_weaker}
 
 -- a text at its place, and a line with its number and place
 abbrev pub slice : ℕ → List ℕ → Slice

@@ -15,8 +15,7 @@ use Rattle.macho_stub_lines.specs.steps.ListTrees.{Spaces, Turn}
 use Rattle.macho_stub_lines.proofs.ListDerived.{list_of_tree}
 use Rattle.macho_stub.specs.Documents.{ItemOf, DocumentOf}
 use Rattle.macho_stub.specs.Grammar.{item_keys}
-use Rattle.macho_stub.specs.Places.{document_keys}
-use Rattle.macho_stub.specs.Places.{Entry, IsEntryOf, ItemTree, items_then, IsItem, DocumentTree, IsDocument, documents_then, IsStubText}
+use Rattle.macho_stub.specs.Places.{document_keys, Entry, IsEntryOf, ItemTree, items_then, IsItem, DocumentTree, IsDocument, documents_then, IsStubText}
 use Rattle.macho_stub_lines.proofs.Bind.{ne_at, other_bytes}
 use Rattle.macho_stub.proofs.RowTests.{slice, line, plain, single, valued, bare}
 

@@ -12,16 +12,11 @@ use Rattle.std.specs.Str.{bytes_eq}
 use Rattle.macho_stub.specs.Documents.{ItemFields, DocumentFields}
 use Rattle.macho_stub.specs.steps.Checks.{all_same, same_names, same_item, same_items, same_document, is_listed}
 use Rattle.macho_stub.specs.steps.Rules.{SaySame}
-use Rattle.macho_stub_lines.proofs.Bind.{same_bytes, bytes_same}
+use Rattle.macho_stub_lines.proofs.Bind.{bytes_same}
+use Rattle.macho_bytes.proofs.Bools.{and_both}
+use Rattle.macho_bytes.proofs.Comparing.{same_bytes}
 
 -- ---- tests
-
-both_true : (a b : Bool) → a ≡ true → b ≡ true → (a && b) ≡ true
-both_true a b h k = ap (λ x. x && b) h ∙ k
-
--- a test doesn't answer both
-pub clash : (b : Bool) → b ≡ true → b ≡ false → ⊥
-clash b h k = cc
 
 -- a name that is found is contained
 contained : (name : List ℕ) (names : List (List ℕ)) → list_any (λ other. bytes_eq other name) names ≡ true → Contains names name
@@ -67,7 +62,7 @@ all_same_is {X} same is (x ∷ xs) (y ∷ ys) h =
 all_same_refl : {X : Type 0} (same : X → X → Bool) → ((x : X) → same x x ≡ true) → (xs : List X) → all_same same xs xs ≡ true
 unfolding all_same
 all_same_refl same is [] = refl
-all_same_refl same is (x ∷ xs) = both_true (same x x) (all_same same xs xs) (is x) (all_same_refl same is xs)
+all_same_refl same is (x ∷ xs) = and_both (same x x) (all_same same xs xs) (is x) (all_same_refl same is xs)
 
 names_same : (xs ys : List (List ℕ)) → same_names xs ys ≡ true → xs ≡ ys
 unfolding same_names
@@ -89,7 +84,7 @@ item_same a b h =
 
 item_refl : (a : ItemFields) → same_item a a ≡ true
 unfolding same_item
-item_refl a = both_true _ _ (both_true _ _ (names_refl a.targets) (names_refl a.names)) (names_refl a.weak_names)
+item_refl a = and_both _ _ (and_both _ _ (names_refl a.targets) (names_refl a.names)) (names_refl a.weak_names)
 
 items_same : (xs ys : List ItemFields) → same_items xs ys ≡ true → xs ≡ ys
 unfolding same_items
@@ -134,7 +129,7 @@ pub document_test : (a b : DocumentFields) → SaySame a b → same_document a b
 unfolding same_document
 document_test a b is =
     ap (λ (d : DocumentFields). same_document d b) is
-    ∙ both_true _ _ (both_true _ _
-    (both_true _ _ (both_true _ _ (both_true _ _ (both_true _ _ (bytes_same b.version b.version refl) (names_refl b.targets))
+    ∙ and_both _ _ (and_both _ _
+    (and_both _ _ (and_both _ _ (and_both _ _ (and_both _ _ (bytes_same b.version b.version refl) (names_refl b.targets))
     (bytes_same b.install_name b.install_name refl)) (bytes_same b.current_version b.current_version refl)) (items_refl b.libraries))
     (items_refl b.exports)) (items_refl b.reexports)

@@ -17,13 +17,13 @@ use Rattle.macho_stub.specs.Documents.{ItemFields, DocumentFields}
 use Rattle.macho_stub.specs.Library.{has_target, LibraryFields}
 use Rattle.macho_stub.specs.steps.Checks.{same_document, is_listed, gathered_texts, checked_libraries, checked_main, checked_document, checked_documents, library_of}
 use Rattle.macho_stub.specs.Rules.{Breaks, rules_of}
-use Rattle.macho_stub.specs.steps.Rules.{KeepsAll}
-use Rattle.macho_stub.specs.steps.Rules.{IsFirstBroken, IsTold}
-use Rattle.macho_stub.specs.steps.Rules.{SaySame, MakesLibrary}
-use Rattle.macho_stub_lines.proofs.Bind.{bind_ok, no_ok, same_ok, same_bytes, bytes_same, eq_at, ne_at}
+use Rattle.macho_stub.specs.steps.Rules.{KeepsAll, IsFirstBroken, IsTold, SaySame, MakesLibrary}
+use Rattle.macho_stub_lines.proofs.Bind.{bind_ok, no_ok, same_ok, bytes_same, eq_at, ne_at}
 use Rattle.macho_stub_lines.proofs.Runs.{all_append, all_behind}
 use Rattle.macho_stub.proofs.Gathered.{gathers, weak_gathers}
-use Rattle.macho_stub.proofs.Ruled.{IsListed, clash, listed, listed_back, document_same, document_test}
+use Rattle.macho_stub.proofs.Ruled.{IsListed, listed, listed_back, document_same, document_test}
+use Rattle.macho_bytes.proofs.Bools.{true_or_false}
+use Rattle.macho_bytes.proofs.Comparing.{same_bytes}
 
 -- ---- readings that failed
 
@@ -123,7 +123,8 @@ libraries_judged main (item ∷ []) is =
     NoTarget items = Any (λ (one : ItemFields). has_target one.targets ≡ false) items
 
     here : has_target item.targets ≡ true → NoTarget (item ∷ []) → ⊥
-    here h (zero, one, within, at, other) = clash (has_target item.targets) h (ap (λ (i : ItemFields). has_target i.targets) at ∙ other)
+    here h (zero, one, within, at, other) = true_or_false (has_target item.targets) h
+        (ap (λ (i : ItemFields). has_target i.targets) at ∙ other)
     here h (suc k, one, within, at, other) = omega (arith, within)
 libraries_judged main (item ∷ other ∷ items) is =
     record {
@@ -143,7 +144,7 @@ main_judged main =
     one_judged main main S5 ((S6, main) ∷ (S7, main) ∷ (S8, main) ∷ [])
     (cond (eqb (length main.current_version) 0) (broken main.line S6) (checked_libraries main.line main.libraries))
     (not (has_target main.targets)) (not-true (has_target main.targets))
-    (λ h other. clash (has_target main.targets) (not-false (has_target main.targets) h) other)
+    (λ h other. true_or_false (has_target main.targets) (not-false (has_target main.targets) h) other)
     (one_judged main main S6 ((S7, main) ∷ (S8, main) ∷ []) (checked_libraries main.line main.libraries)
     (eqb (length main.current_version) 0) (λ h. nil_from_length main.current_version (eq_at _ _ h)) (λ h none. ne_at _ _ h (ap length none))
     (libraries_judged main main.libraries refl))
@@ -157,15 +158,15 @@ document_judged main document =
     one_judged main document S4 ((S9, document) ∷ [])
     (cond (same_document document main || is_listed document.install_name main.libraries) (Ok tt) (broken document.line S9))
     (not (bytes_eq document.version (codes "4")))
-    (λ h is. clash (bytes_eq document.version (codes "4")) (bytes_same _ _ is) (not-true _ h))
+    (λ h is. true_or_false (bytes_eq document.version (codes "4")) (bytes_same _ _ is) (not-true _ h))
     (λ h other. other (same_bytes _ _ (not-false _ h)))
     (last_judged main document S9 (same_document document main || is_listed document.install_name main.libraries) breaks keeps)
   where
     breaks : (same_document document main || is_listed document.install_name main.libraries) ≡ false → Breaks S9 main document
     breaks h =
         let n = or_parts (same_document document main) (is_listed document.install_name main.libraries) h in (
-          (λ s. clash (same_document document main) (document_test document main s) n.0),
-          (λ l. clash (is_listed document.install_name main.libraries) (listed_back document.install_name main.libraries l) n.1),
+          (λ s. true_or_false (same_document document main) (document_test document main s) n.0),
+          (λ l. true_or_false (is_listed document.install_name main.libraries) (listed_back document.install_name main.libraries l) n.1),
         )
 
     by : (a b : Bool) → (a || b) ≡ true → (a ≡ true → SaySame document main) → (b ≡ true → IsListed document.install_name main.libraries)

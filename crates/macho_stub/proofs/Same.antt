@@ -73,14 +73,6 @@ found_at p view [] i d total lt h so_far = absurd (omega arith)
 found_at p view (x ∷ xs) zero d total lt h so_far = sym (ap (λ b. b || list_any p (map view xs)) h) ∙ so_far
 found_at p view (x ∷ xs) (suc i) d total lt h so_far = found_at p view xs i d total (omega arith) h so_far
 
--- no name is left
-pub not_found : {A X : Type 0} (p : X → Bool) (view : A → X) (xs : List A) (i : ℕ) (total : Bool) → length xs ≤ i
-    → list_any p (drop i (map view xs)) ≡ total → false ≡ total
-not_found p view [] zero total past so_far = so_far
-not_found p view [] (suc i) total past so_far = so_far
-not_found p view (x ∷ xs) zero total past so_far = absurd (omega arith)
-not_found p view (x ∷ xs) (suc i) total past so_far = not_found p view xs i total (omega arith) so_far
-
 -- what a negated test says
 pub not_true : (b : Bool) → true ≡ not b → b ≡ false
 not_true true h = absurd cc
@@ -96,6 +88,3 @@ pub at_places : {A X : Type 0} (same : X → X → Bool) (view : A → X) (xs ys
     ≡ get_or ys i y → same (view x) (view y) ≡ b → same (view (get_or xs i x)) (view (get_or ys i y)) ≡ b
 at_places same view xs ys i x y b ex ey h = sym (ap (λ z. same (view z) (view (get_or ys i y))) ex)
     ∙ sym (ap (λ z. same (view x) (view z)) ey) ∙ h
-
-pub at_place : {A : Type 0} (p : A → Bool) (xs : List A) (i : ℕ) (x : A) (b : Bool) → x ≡ get_or xs i x → p x ≡ b → p (get_or xs i x) ≡ b
-at_place p xs i x b ex h = sym (ap p ex) ∙ h

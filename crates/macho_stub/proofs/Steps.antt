@@ -13,9 +13,10 @@ use Rattle.macho_stub.specs.Documents.{ItemFields, DocumentFields}
 use Rattle.macho_stub.specs.steps.Opened.{OpenDocumentFields, with_items}
 use Rattle.macho_stub.specs.steps.Reader.{ItemListFields, Within, StateFields, stays, skipped_value, with_whole, top_line, items_with_last, item_line, line_step}
 use Rattle.macho_stub.specs.steps.Order.{unread_key}
-use Rattle.macho_stub_lines.proofs.Bind.{not_below, one_way}
+use Rattle.macho_stub_lines.proofs.Bind.{one_way}
 use Rattle.macho_stub.proofs.OnlyLines.{top_indent, top_no_dash}
 use Rattle.macho_stub.proofs.PutIn.{mode_at, at_top, at_item}
+use Rattle.macho_bytes.proofs.Comparing.{not_less}
 
 -- the item that is read, if one is, lacks no key, and the document is this with it
 abbrev pub Closes : Option ItemListFields → OpenDocumentFields → OpenDocumentFields → Type 0
@@ -36,7 +37,7 @@ unfolding line_step item_line
 top_steps before document whole None true line text c clean some out = rw (clean, some, out, c) refl
 top_steps before document whole None false line text c clean some out = rw (clean, some, c) refl
 top_steps before document whole (Some list) true line text c clean some out =
-    rw (clean, some, top_indent text out, top_no_dash text out, not_below list.column 0 (omega arith), c.1, c.2) refl
+    rw (clean, some, top_indent text out, top_no_dash text out, not_less list.column 0 (omega arith), c.1, c.2) refl
 top_steps before document whole (Some list) false line text c clean some out =
     rw (clean, some, top_indent text out, top_no_dash text out, c.1, c.2) refl
 
@@ -47,7 +48,7 @@ pub lacking_steps : (before : List DocumentFields) (document : OpenDocumentField
     → line_step (at_item before document list skipped) line text ≡ broken at rule
 unfolding line_step item_line
 lacking_steps before document list true line text at rule e clean some zero =
-    rw (clean, some, zero, not_below list.column 0 (omega arith), e)
+    rw (clean, some, zero, not_less list.column 0 (omega arith), e)
     (one_way (has_dash text && eqb 0 list.dash) (broken {A = StateFields} at rule))
 lacking_steps before document list false line text at rule e clean some zero =
     rw (clean, some, zero, e) (one_way (has_dash text && eqb 0 list.dash) (broken {A = StateFields} at rule))

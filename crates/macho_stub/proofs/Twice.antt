@@ -34,12 +34,6 @@ no_spaces line text said e = let z = entry_unspaced line text said e in (z, ap (
 
 -- ---- at column 0
 
--- which rule is told of a line with the key
-record Refuses (state : StateFields) (line : ℕ) (text : List ℕ) : Type 0 where
-  at : ℕ
-  rule : StubRule
-  is : line_step state line text ≡ broken at rule
-
 -- what a line with a key goes on with in a document
 unfoldable pub then_top : List DocumentFields → OpenDocumentFields → ℕ → Entry → Reading StateFields
 then_top before document line entry = within before (top_entry document line (top_key entry.key) entry.value)

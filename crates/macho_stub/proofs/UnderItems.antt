@@ -12,12 +12,11 @@ use Rattle.macho_stub_lines.specs.Spelling.{entry_bytes, value_of, value_at}
 use Rattle.macho_stub_lines.specs.FlowLists.{IsFlowList}
 use Rattle.macho_stub.specs.Documents.{ItemOf}
 use Rattle.macho_stub.specs.Grammar.{item_keys}
-use Rattle.macho_stub.specs.Places.{belongs}
-use Rattle.macho_stub.specs.Places.{Entry, entries_then, IsSkipped, IsEntryOf, ItemTree, column_of, items_then, entries_of, IsItem}
+use Rattle.macho_stub.specs.Places.{belongs, Entry, entries_then, IsSkipped, IsEntryOf, ItemTree, column_of, items_then, entries_of, IsItem}
 use Rattle.macho_stub.specs.steps.Trees as trees
 use Rattle.macho_stub.specs.steps.Trees.{is_deeper, item_value_at, IsItemEntry, Lines, IsSkippedUnder}
 use Rattle.macho_stub_lines.proofs.Bind.{not_zero}
-use Rattle.macho_stub_lines.proofs.Runs.{all_weaker}
+use Rattle.macho_bytes.proofs.Maps.{all_weaker}
 
 -- ---- skipped values
 

@@ -15,15 +15,14 @@ use Rattle.macho_stub_lines.specs.Spelling.{IsEntry, entry_bytes, value_of, valu
 use Rattle.macho_stub_lines.specs.FlowLists.{IsFlowList}
 use Rattle.macho_stub_lines.specs.Keys.{top_key}
 use Rattle.macho_stub.specs.Documents.{ItemOf, DocumentOf}
-use Rattle.macho_stub.specs.Places.{SaysAlone, document_keys}
-use Rattle.macho_stub.specs.Places.{Entry, entries_then, IsSkipped, IsEntryOf, SaysNames, ItemTree, IsItem, SaysNumber, SaysScalar, SaysItems, DocumentTree, end_then, documents_then, no_text, IsDocument}
+use Rattle.macho_stub.specs.Places.{SaysAlone, document_keys, Entry, entries_then, IsSkipped, IsEntryOf, SaysNames, ItemTree, IsItem, SaysNumber, SaysScalar, SaysItems, DocumentTree, end_then, documents_then, no_text, IsDocument}
 use Rattle.macho_stub.specs.steps.Trees as trees
 use Rattle.macho_stub.specs.steps.Trees.{Under, Lines, Listed, under_then, TopEntry, top_entries_then, IsSkippedUnder, AreItemsUnder, SaysList, IsTopEntry}
 use Rattle.macho_stub.proofs.Alone.{few, few_behind, none_pass, none_left, each_says, all_both, all_keys, Fails}
 use Rattle.macho_stub.proofs.DocumentsByKeys.{top_test, top_forth, top_back, no_top_key, no_top_key_back}
 use Rattle.macho_stub.proofs.MappingsFields.{every}
-use Rattle.macho_stub_lines.proofs.Runs.{all_weaker}
 use Rattle.macho_stub.proofs.UnderItems.{column_0, skipped_at_top, items_old, items_front}
+use Rattle.macho_bytes.proofs.Maps.{all_weaker}
 
 -- ---- entries of a document, from their lines
 

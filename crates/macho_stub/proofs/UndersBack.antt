@@ -11,8 +11,7 @@ use Rattle.macho_stub_lines.specs.Slices.{Slice, Line}
 use Rattle.macho_stub_lines.specs.Spelling.{entry_bytes, value_of, value_at, IsNumberValue, IsScalarValue}
 use Rattle.macho_stub_lines.specs.FlowLists.{IsFlowList}
 use Rattle.macho_stub.specs.Documents.{ItemOf, DocumentOf}
-use Rattle.macho_stub.specs.Places.{SaysAlone, document_keys}
-use Rattle.macho_stub.specs.Places.{Entry, entries_then, IsSkipped, IsEntryOf, SaysNames, ItemTree, items_then, IsItem, SaysNumber, SaysScalar, SaysItems, DocumentTree, end_then, documents_then, no_text, IsDocument}
+use Rattle.macho_stub.specs.Places.{SaysAlone, document_keys, Entry, entries_then, IsSkipped, IsEntryOf, SaysNames, ItemTree, items_then, IsItem, SaysNumber, SaysScalar, SaysItems, DocumentTree, end_then, documents_then, no_text, IsDocument}
 use Rattle.macho_stub.specs.steps.Trees as trees
 use Rattle.macho_stub.specs.steps.Trees.{Under, Lines, Listed, under_then, TopEntry, top_entries_then, IsSkippedUnder, IsListUnder, AreItemsUnder, SaysList, IsTopEntry}
 use Rattle.macho_stub.proofs.UnderItems.{column_0, skipped_of_top, items_new, items_front}

@@ -12,12 +12,12 @@ use Rattle.macho_stub_lines.specs.Spelling as tree
 use Rattle.macho_stub_lines.specs.Spelling.{entry_bytes, behind_bytes}
 use Rattle.macho_stub_lines.specs.steps.Values as value
 use Rattle.macho_stub_lines.proofs.Unplaced.{line_texts, list_alone, list_placed, spaced_of, value_alone, behind_tree}
-use Rattle.macho_stub_lines.proofs.Runs.{all_made, all_made_of, all_weaker}
+use Rattle.macho_stub_lines.proofs.Runs.{all_made, all_made_of}
 use Rattle.macho_stub.specs.Grammar.{IsEntry, Entry, entry_lines, value_of, IsEntryOf, SaysUnder, IsFlowList, SaysNames}
-use Rattle.macho_stub.specs.Places.{belongs, SaysAlone}
+use Rattle.macho_stub.specs.Places.{belongs, SaysAlone, entries_then, place_of}
 use Rattle.macho_stub.specs.Places as old
-use Rattle.macho_stub.specs.Places.{entries_then, place_of}
 use Rattle.macho_stub.proofs.Alone.{all_both}
+use Rattle.macho_bytes.proofs.Maps.{all_filter, all_weaker}
 
 -- ---- lists
 
@@ -226,14 +226,6 @@ filter_forget key (one ∷ others) = by (bytes_eq one.entry.key key) (filter_for
         ≡ map forget (cond t (one ∷ filter (λ one. bytes_eq one.entry.key key) others) (filter (λ one. bytes_eq one.entry.key key) others))
     by true e = ap (λ (all : List Entry). forget one ∷ all) e
     by false e = e
-
-all_filter : {A : Type 0} (P : A → Type 0) (p : A → Bool) (xs : List A) → AllByRecursion P xs → AllByRecursion P (filter p xs)
-all_filter P p [] all = tt
-all_filter P p (x ∷ xs) all = by (p x) (all_filter P p xs all.1)
-  where
-    by : (t : Bool) → AllByRecursion P (filter p xs) → AllByRecursion P (cond t (x ∷ filter p xs) (filter p xs))
-    by true rest = (all.0, rest)
-    by false rest = rest
 
 pub says_forth : {X Y : Type 0} (key : List ℕ) (lacking : Option X) (other : Option Y) (says : old.Entry → X → Type 0)
     (new : Entry → Y → Type 0) (x : X) (y : Y) → (lacking ≡ Some x → other ≡ Some y)

@@ -14,9 +14,8 @@ use Rattle.macho_stub_lines.proofs.Unplaced.{line_texts}
 use Rattle.macho_stub_lines.proofs.Runs.{all_made, all_made_of}
 use Rattle.macho_stub.specs.Documents.{ItemOf, ItemFields, item_texts, DocumentOf, DocumentFields, document_texts, documents_texts}
 use Rattle.macho_stub.specs.Grammar.{entry_lines, IsEntryOf, SaysUnder, IsFlowList, SaysText, SaysItems, IsDocument, IsStubLines}
-use Rattle.macho_stub.specs.Places.{document_keys}
+use Rattle.macho_stub.specs.Places.{document_keys, DocumentTree, entries_then, end_then, documents_then, no_text}
 use Rattle.macho_stub.specs.Places as old
-use Rattle.macho_stub.specs.Places.{DocumentTree, entries_then, end_then, documents_then, no_text}
 use Rattle.macho_stub.proofs.UnderItems.{entries_front}
 use Rattle.macho_stub.proofs.UnplacedEntries.{Cut, cut, forget, Sound, entries_lines, entries_placed, each_sound, each_forth, each_back, says_forth, says_back, must, some_none, list_forth, list_back}
 use Rattle.macho_stub.proofs.UnplacedItems.{number_forth, number_back, scalar_forth, scalar_back, items_forth, items_back}

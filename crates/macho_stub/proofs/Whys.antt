@@ -37,9 +37,6 @@ use Rattle.macho_stub.proofs.Kept.{items_line}
 use Rattle.macho_stub.proofs.Lasts.{IsHead}
 use Rattle.macho_stub.proofs.Since.{Known}
 
-abbrev WhyOf : ℕ → List (List ℕ) → List ℕ → Fault → Type 0
-WhyOf at first text fault = IsWhy fault.rule fault.line first text
-
 -- the reason for one fault is that for another that is the same
 pub same_why : (at : ℕ) (rule : StubRule) (first : List (List ℕ)) (text : List ℕ) (fault : Fault)
     → record { line = at; rule = rule } ≡ fault → IsWhy fault.rule fault.line first text → IsWhy rule at first text

@@ -1,6 +1,5 @@
 -- The grammar of a stub text: which lines are documents, and what these say.
-use Rattle.std.specs.Prelude.{◌≡◌, ◌≢◌, ℕ, ◌+◌, ◌<◌, ◌⊎◌, Bool, true, false, ◌&&◌, ◌||◌, not, List, [], ◌∷◌, ◌++◌, length, map, replicate}
-use Rattle.std.specs.Prelude.{Option, Some, None, nat_lt, ◌==◌, slice_index, codes, if◌then◌else◌, take, drop}
+use Rattle.std.specs.Prelude.{◌≡◌, ◌≢◌, ℕ, ◌+◌, ◌<◌, ◌⊎◌, Bool, true, false, ◌&&◌, ◌||◌, not, List, [], ◌∷◌, ◌++◌, length, map, replicate, Option, Some, None, nat_lt, ◌==◌, slice_index, codes, if◌then◌else◌, take, drop}
 use Rattle.std.specs.List.{AllByRecursion, AllZip, filter, flat_map, list_any, enumerate_from}
 use Rattle.std.specs.Str.{bytes_eq}
 use Rattle.std.specs.Char.{is_ascii_alphanumeric}

@@ -1,15 +1,13 @@
 -- The grammar with places: documents, mappings and items as trees, each with the lines that it stands on. A tree is spelled in front of
 -- the lines that follow it, and what it says are slices of the input. `Grammar` says the same by the lines alone.
-use Rattle.std.specs.Prelude.{◌≡◌, ◌≢◌, ℕ, ◌+◌, ◌<◌, ◌⊎◌, Bool, true, false, ◌&&◌, ◌||◌, List, [], ◌∷◌, ◌++◌, length, replicate}
-use Rattle.std.specs.Prelude.{Option, Some, None, nat_lt, ◌==◌, slice_index, codes}
+use Rattle.std.specs.Prelude.{◌≡◌, ◌≢◌, ℕ, ◌+◌, ◌<◌, ◌⊎◌, Bool, true, false, ◌&&◌, ◌||◌, List, [], ◌∷◌, ◌++◌, length, replicate, Option, Some, None, nat_lt, ◌==◌, slice_index, codes}
 use Rattle.std.specs.List.{AllByRecursion, AllZip, filter, list_any}
 use Rattle.std.specs.Str.{bytes_eq}
 use Rattle.macho_stub_lines.specs.declared.keys.ItemKind.{ItemKind}
 use Rattle.macho_stub_lines.specs.declared.keys.ItemKind.TheVariants.{Libraries, Exports, Reexports}
 use Rattle.macho_stub_lines.specs.Bytes.{space, dash, open_bracket, indent, has_dash, has_barred, head, end}
 use Rattle.macho_stub_lines.specs.Slices.{Slice, Line, lines_of, content_of}
-use Rattle.macho_stub_lines.specs.Spelling.{EntryTree, IsEntry, entry_bytes, value_of, value_at, IsScalarValue}
-use Rattle.macho_stub_lines.specs.Spelling.{IsNumberValue}
+use Rattle.macho_stub_lines.specs.Spelling.{EntryTree, IsEntry, entry_bytes, value_of, value_at, IsScalarValue, IsNumberValue}
 use Rattle.macho_stub_lines.specs.FlowLists.{IsFlowList}
 use Rattle.macho_stub.specs.Documents.{ItemOf, DocumentOf}
 use Rattle.macho_stub.specs.Grammar.{item_keys}

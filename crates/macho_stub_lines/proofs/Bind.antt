@@ -9,6 +9,7 @@ use Rattle.std.proofs.lemmas.Bool.Decides.{nat_tests}
 use Rattle.std.proofs.lemmas.Slice.Eq.{bytes_eq-Decides}
 use Rattle.macho_stub_lines.specs.declared.fault.StubRule.{StubRule}
 use Rattle.macho_stub_lines.specs.Faults.{Reading, ◌>>=◌, broken}
+use Rattle.macho_bytes.proofs.Comparing.{same_bytes}
 
 -- the value of a step
 pub bind_ok : {A B : Type 0} (r : Reading A) (f : A → Reading B) (y : B) → (r >>= f) ≡ Ok y → (x : A) × (r ≡ Ok x) × (f x ≡ Ok y)
@@ -49,10 +50,6 @@ same_ok x y e = cc
 pub no_ok : {A : Type 0} (line : ℕ) (rule : StubRule) (y : A) → broken line rule ≡ Ok y → ⊥
 no_ok line rule y e = cc
 
--- bytes that the test takes for the same are the same
-pub same_bytes : (xs ys : List ℕ) → bytes_eq xs ys ≡ true → xs ≡ ys
-same_bytes xs ys e = (bytes_eq-Decides xs ys).0 e
-
 -- and the same bytes pass the test
 pub bytes_same : (xs ys : List ℕ) → xs ≡ ys → bytes_eq xs ys ≡ true
 bytes_same xs ys e = (bytes_eq-Decides xs ys).1 e
@@ -88,7 +85,3 @@ eq_false m n e = grind (arith, nat_tests)
 -- a number above 0 is not 0
 pub not_zero : (n : ℕ) → 0 < n → eqb n 0 ≡ false
 not_zero n h = eq_false n 0 (omega arith)
-
--- a number is not below one that it reaches
-pub not_below : (m n : ℕ) → n ≤ m → ltb m n ≡ false
-not_below m n e = grind (arith, nat_tests)

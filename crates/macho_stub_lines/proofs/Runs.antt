@@ -47,11 +47,6 @@ pub first_behind : (front rest : List ℕ) → slice_index (front ++ rest) (leng
 first_behind front [] = rw (append-nil front) (get_or_past front (length front) 0 (omega arith))
 first_behind front (b ∷ rest) = get_or-append_seam front b rest 0
 
--- what all of a list have, they have in weaker words
-pub all_weaker : {A : Type 0} (P Q : A → Type 0) → ((x : A) → P x → Q x) → (xs : List A) → AllByRecursion P xs → AllByRecursion Q xs
-all_weaker P Q weaker [] all = tt
-all_weaker P Q weaker (x ∷ xs) all = (weaker x all.0, all_weaker P Q weaker xs all.1)
-
 -- what both parts have, the whole has
 pub all_append : {A : Type 0} (P : A → Type 0) (front rest : List A) → AllByRecursion P front → AllByRecursion P rest
     → AllByRecursion P (front ++ rest)

@@ -15,7 +15,8 @@ use Rattle.macho_stub_lines.specs.Keys.{alone, scalar_value}
 use Rattle.macho_stub_lines.specs.Spelling.{ScalarTree, Plain, Single, Double, scalar_bytes, slice_of, IsPlain, IsScalar, IsScalarValue}
 use Rattle.macho_stub_lines.specs.steps.Spelling.{text_of}
 use Rattle.macho_stub_lines.proofs.Bind.{eq_at, eq_true, eq_false, not_broken_else, no_ok, same_ok}
-use Rattle.macho_stub_lines.proofs.Runs.{Stops, Passes, Run, run_of, run_len, first_behind, all_weaker}
+use Rattle.macho_stub_lines.proofs.Runs.{Stops, Passes, Run, run_of, run_len, first_behind}
+use Rattle.macho_bytes.proofs.Maps.{all_weaker}
 
 -- ---- what ends a plain scalar
 
@@ -27,14 +28,6 @@ EndsPlain rest = Stops is_plain_byte rest
 pub space_ends : (rest : List ℕ) → EndsPlain (space ∷ rest)
 unfolding is_plain_byte
 space_ends rest = refl
-
-pub comma_ends : (rest : List ℕ) → EndsPlain (comma ∷ rest)
-unfolding is_plain_byte is_mark
-comma_ends rest = refl
-
-pub close_ends : (rest : List ℕ) → EndsPlain (close_bracket ∷ rest)
-unfolding is_plain_byte is_mark
-close_ends rest = refl
 
 -- and so does what may stand behind a value
 pub tail_ends : (tail : List ℕ) → is_tail tail ≡ true → EndsPlain tail

@@ -10,10 +10,12 @@ use Rattle.macho_stub_lines.specs.FlowLists as placed
 use Rattle.macho_stub_lines.specs.FlowLists.{Block, bytes_then}
 use Rattle.macho_stub_lines.specs.Values.{IsScalar, IsGap, spaces, turn, AreScalars, none, last, next}
 use Rattle.macho_stub_lines.specs.steps.Values.{IsFlowList}
-use Rattle.macho_stub_lines.proofs.Bind.{eq_at, ne_at}
+use Rattle.macho_stub_lines.proofs.Bind.{ne_at}
 use Rattle.macho_stub_lines.proofs.EntryTrees.{unspaced_is, spaces_pass, value_at_stop, value_stops}
 use Rattle.macho_stub_lines.proofs.Runs.{Stops, Run, run_of, replicate_from_all, all_made, all_made_of}
-use Rattle.macho_stub_lines.proofs.UnplacedScalars.{scalar_spelled, slice_text, scalar_tree}
+use Rattle.macho_stub_lines.proofs.UnplacedScalars.{scalar_spelled, scalar_tree}
+use Rattle.macho_stub_lines.proofs.ListTreesTails.{tail_begins}
+use Rattle.macho_stub_lines.proofs.ScalarTrees.{slice_text}
 
 -- ---- flow lists
 
@@ -196,18 +198,10 @@ spaced_passed b rest e = rw e (ap (λ (k : ℕ). is_blank_or_comment (drop k (sp
     one_more : (n : ℕ) → 1 + n ≡ suc n
     one_more n = omega arith
 
-tail_first : (b : ℕ) (rest : List ℕ) → is_tail (b ∷ rest) ≡ true → (b ≡ space) × (is_passed rest ≡ true)
-unfolding is_tail
-tail_first b rest e = by (eqb b space) refl e
-  where
-    by : (t : Bool) → eqb b space ≡ t → (t && is_passed rest) ≡ true → (b ≡ space) × (is_passed rest ≡ true)
-    by true h e = (eq_at b space h, e)
-    by false h e = absurd cc
-
 tail_passed : (tail : List ℕ) → is_tail tail ≡ true → is_passed tail ≡ true
 unfolding is_passed unspaced indent is_blank_or_comment
 tail_passed [] e = refl
-tail_passed (b ∷ rest) e = let f = tail_first b rest e in spaced_passed b rest f.0 ∙ f.1
+tail_passed (b ∷ rest) e = let f = tail_begins b rest e in spaced_passed b rest f.0 ∙ f.1
 
 passed_tail : (behind : List ℕ) → IsSpaced behind → is_passed behind ≡ true → is_tail behind ≡ true
 unfolding is_tail
@@ -217,7 +211,7 @@ passed_tail (b ∷ rest) (inr s) e = rw (s) (sym (spaced_passed b rest s) ∙ e)
 
 pub spaced_of : (behind : Behind) → IsBehind behind → IsSpaced (behind_bytes behind)
 spaced_of (NoValue []) h = inl refl
-spaced_of (NoValue (b ∷ tail)) h = inr (tail_first b tail h).0
+spaced_of (NoValue (b ∷ tail)) h = inr (tail_begins b tail h).0
 spaced_of (Value zero value) h = absurd (omega (arith, h.0))
 spaced_of (Value (suc gap) value) h = inr refl
 

@@ -1,10 +1,10 @@
 -- Plain scalars, scalars and numbers by their bytes, and with places: where a text is one of those with places, it is one by its bytes, and
 -- a text by its bytes has such places, wherever it begins.
 use Rattle.std.proofs.Common.{◌≡◌, ◌≢◌, ℕ, ◌+◌, ◌&&◌, Bool, true, false, List, [], ◌∷◌, ◌++◌, length, replicate, slice_index, refl, sym, ap, ◌∙◌, append_assoc, subst, arith, length-append}
-use Rattle.std.specs.List.{AllByRecursion}
+use Rattle.std.specs.List.{AllByRecursion, list_any}
 use Rattle.std.specs.Char.{is_ascii_digit}
 use Rattle.std.proofs.lemmas.List.{length-replicate}
-use Rattle.macho_stub_lines.specs.Bytes.{space, zero_digit, is_tail}
+use Rattle.macho_stub_lines.specs.Bytes.{space, zero_digit, is_tail, is_mark, is_plain_byte, has_late_control_after}
 use Rattle.macho_stub_lines.specs.Slices.{Slice}
 use Rattle.macho_stub_lines.specs.Spelling as old
 use Rattle.macho_stub_lines.specs.Spelling.{ScalarTree, Plain, Single, Double, scalar_bytes, slice_of, HasNoZeroInFront, IsNumberValue, IsScalarValue}
@@ -13,9 +13,9 @@ use Rattle.macho_stub_lines.specs.Values.{IsPlain, IsScalar, plain, single, doub
 use Rattle.macho_stub_lines.proofs.Bind.{eq_at, eq_true}
 use Rattle.std.proofs.lemmas.Bool.Decides.{nat_tests}
 use Rattle.std.specs.Prelude.{codes, ◌==◌, nat_lt, not, ◌||◌, ◌≤◌}
-use Rattle.std.specs.List.{list_any}
-use Rattle.macho_stub_lines.specs.Bytes.{is_mark, is_plain_byte, has_late_control_after}
-use Rattle.macho_stub_lines.proofs.Runs.{all_weaker, all_append, all_behind, all_replicate}
+use Rattle.macho_stub_lines.proofs.Runs.{all_append, all_behind, all_replicate}
+use Rattle.macho_stub_lines.proofs.ScalarTrees.{slice_text}
+use Rattle.macho_bytes.proofs.Maps.{all_weaker}
 
 -- ---- plain scalars
 
@@ -109,11 +109,6 @@ pub scalar_spelled : (s : ScalarTree) → old.IsScalar s → IsScalar (scalar_by
 scalar_spelled (Plain text) i = plain text (plain_alone text i)
 scalar_spelled (Single text) i = single text i
 scalar_spelled (Double text) i = double text i
-
-pub slice_text : (at : ℕ) (s : ScalarTree) → (slice_of at s).text ≡ text_of s
-slice_text at (Plain text) = refl
-slice_text at (Single text) = refl
-slice_text at (Double text) = refl
 
 pub record ScalarTreeOf (bytes text : List ℕ) : Type 0 where
   pub tree : ScalarTree

@@ -1,7 +1,6 @@
 -- The bytes that a stub text (the `.tbd` format, version 4) is made of. In the files on text stubs a thing stands behind another where it
 -- comes after it in the text.
-use Rattle.std.specs.Prelude.{ℕ, ◌+◌, Bool, true, false, ◌&&◌, ◌||◌, not, List, [], ◌∷◌, drop, slice_index, codes, ◌==◌}
-use Rattle.std.specs.Prelude.{nat_lt}
+use Rattle.std.specs.Prelude.{ℕ, ◌+◌, Bool, true, false, ◌&&◌, ◌||◌, not, List, [], ◌∷◌, drop, slice_index, codes, ◌==◌, nat_lt}
 use Rattle.std.specs.List.{prefix_len, list_any}
 use Rattle.std.specs.Char.{is_ascii_alphanumeric}
 

@@ -1,6 +1,5 @@
 -- Keys and their values on a line: `key: value`.
-use Rattle.std.specs.Prelude.{ℕ, ◌+◌, Bool, true, false, ◌&&◌, ◌||◌, not, List, [], take, drop, Option, Some, None, Ok}
-use Rattle.std.specs.Prelude.{◌==◌, slice_index, if◌then◌else◌, codes}
+use Rattle.std.specs.Prelude.{ℕ, ◌+◌, Bool, true, false, ◌&&◌, ◌||◌, not, List, [], take, drop, Option, Some, None, Ok, ◌==◌, slice_index, if◌then◌else◌, codes}
 use Rattle.std.specs.List.{prefix_len}
 use Rattle.std.specs.Char.{is_ascii_digit}
 use Rattle.std.specs.Str.{bytes_eq}

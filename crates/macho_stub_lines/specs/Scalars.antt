@@ -1,6 +1,5 @@
 -- Scalars: plain, in single quotes, or in double quotes.
-use Rattle.std.specs.Prelude.{ℕ, ◌+◌, Bool, ◌&&◌, ◌||◌, not, List, [], ◌∷◌, take, Option, Some, None, ◌==◌, slice_index}
-use Rattle.std.specs.Prelude.{if◌then◌else◌}
+use Rattle.std.specs.Prelude.{ℕ, ◌+◌, Bool, ◌&&◌, ◌||◌, not, List, [], ◌∷◌, take, Option, Some, None, ◌==◌, slice_index, if◌then◌else◌}
 use Rattle.std.specs.List.{prefix_len}
 use Rattle.macho_stub_lines.specs.declared.scalar.Scalar.{Scalar}
 use Rattle.macho_stub_lines.specs.Bytes.{is_plain_byte, has_late_control, single_quote, double_quote, backslash}

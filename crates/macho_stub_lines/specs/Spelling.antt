@@ -3,8 +3,7 @@
 use Rattle.std.specs.Prelude.{◌≡◌, ◌≢◌, ℕ, ◌+◌, ◌<◌, true, false, List, [], ◌∷◌, ◌++◌, length, replicate}
 use Rattle.std.specs.List.{AllByRecursion}
 use Rattle.std.specs.Char.{is_ascii_digit}
-use Rattle.macho_stub_lines.specs.Bytes.{space, colon, zero_digit, number_sign, single_quote, double_quote, backslash}
-use Rattle.macho_stub_lines.specs.Bytes.{is_plain_byte, is_key_byte, has_late_control, is_tail}
+use Rattle.macho_stub_lines.specs.Bytes.{space, colon, zero_digit, number_sign, single_quote, double_quote, backslash, is_plain_byte, is_key_byte, has_late_control, is_tail}
 use Rattle.macho_stub_lines.specs.Slices.{Slice}
 
 -- ---- scalars

@@ -9,14 +9,14 @@ use Rattle.std.proofs.lemmas.List.Elements.{All-push, All-weaker, All-nil, filte
 use Rattle.std.proofs.lemmas.List.Quantifiers.{all_pairs_push}
 use Rattle.macho_model.specs.Resolution.{SymbolId, same_symbol}
 use Rattle.macho_symbols.specs.declared.solved.Common.{Common}
-use Rattle.macho_names.specs.Kept.{FileRows}
-use Rattle.macho_names.specs.Events.{Event, event_at, events_of_file, events_of, row_count}
+use Rattle.macho_symbol_names.specs.Kept.{FileRows}
+use Rattle.macho_symbol_names.specs.Events.{Event, event_at, events_of_file, events_of, row_count}
 use Rattle.macho_symbols.specs.steps.Solved.{common_id, is_before, AreAscending, IsPlaceOf}
 use Rattle.macho_symbols.specs.Targets.{id_of, chosen_in}
 use Rattle.macho_symbols.specs.steps.Targets.{is_chosen_in}
 use Rattle.macho_symbols.proofs.Leading.{common_found, common_missing}
-use Rattle.macho_names.proofs.Lists.{filter_one, filter_none}
-use Rattle.macho_names.proofs.Taking.{file_rows_more, files_more, file_rows_none, files_none}
+use Rattle.macho_symbol_names.proofs.Lists.{filter_one, filter_none}
+use Rattle.macho_symbol_names.proofs.Taking.{file_rows_more, files_more, file_rows_none, files_none}
 
 -- the order
 pub before_then : (a b c d e f : ℕ) → (nat_lt a c || ((a == c) && nat_lt b d)) ≡ true → (nat_lt c e || ((c == e) && nat_lt d f)) ≡ true

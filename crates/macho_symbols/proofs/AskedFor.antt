@@ -9,20 +9,21 @@ use Rattle.macho_model.specs.declared.targets.Target.{Target}
 use Rattle.macho_model.specs.declared.targets.Target.TheVariants as target
 use Rattle.macho_model.specs.Links.{Link}
 use Rattle.macho_model.specs.Resolution.{definition_of}
-use Rattle.macho_exports.specs.Entries.{texts_of}
-use Rattle.macho_names.specs.declared.fault.SymbolFault.{SymbolFault}
-use Rattle.macho_names.specs.declared.fault.SymbolFault.TheVariants.{DuplicateSymbol, UndefinedSymbol, ExportListMissing, OutOfMemory}
+use Rattle.macho_export_lists.specs.Entries.{texts_of}
+use Rattle.macho_symbol_names.specs.declared.fault.SymbolFault.{SymbolFault}
+use Rattle.macho_symbol_names.specs.declared.fault.SymbolFault.TheVariants.{DuplicateSymbol, UndefinedSymbol, ExportListMissing, OutOfMemory}
 use Rattle.macho_symbols.specs.declared.solved.Solved.{Solved}
-use Rattle.macho_names.specs.Kept.{FileRows, kept_of}
+use Rattle.macho_symbol_names.specs.Kept.{FileRows, kept_of}
 use Rattle.macho_symbols.specs.Kept.{ResolvedRows, IsResolved, noted_of}
 use Rattle.macho_symbols.specs.Told.{noting_name, noting_names, AreDefined, IsMissing}
-use Rattle.macho_names.specs.Events.{events, best_of}
-use Rattle.macho_names.specs.Tables.{heads_of}
+use Rattle.macho_symbol_names.specs.Events.{events, best_of}
+use Rattle.macho_symbol_names.specs.Tables.{heads_of}
 use Rattle.macho_symbols.specs.Targets.{named_in}
 use Rattle.macho_symbols.specs.steps.Targets.{is_next, is_nothing, is_missing_in, noting_name_in, noting_names_in}
 use Rattle.macho_symbols.specs.steps.Solved.{IsSolved, IsUnchanged, HasGrown, HaveNoted, IsMissingIn}
 use Rattle.macho_symbols.proofs.Defined.{definition_is}
 use Rattle.macho_symbols.proofs.UsesHere.{nothing_by, next_is}
+use Rattle.macho_bytes.proofs.Comparing.{vec_len_is}
 
 -- a name leads to nothing where it has no definition
 pub missing_is : (files : List FileRows) (noted : List (List ℕ)) (name : List ℕ)
@@ -49,9 +50,6 @@ noting_one : (files : List FileRows) (noted : List (List ℕ)) (name : List ℕ)
     → noting_names_in files noted (name ∷ []) ≡ (if t then noted ++ name ∷ [] else noted)
 unfolding noting_names_in
 noting_one files noted name t is = ap (λ u. if u then noted ++ name ∷ [] else noted) is
-
-vec_len_is : {X A : Type 0} (v : Vec X A) → vec_len v ≡ length v.items
-vec_len_is v = omega arith
 
 -- the number of imports is that of the noted names
 pub count_is : (s : Solved) (n : ℕ) → n ≡ vec_len s.imports → n ≡ length (noted_of s.imports.items)

@@ -8,10 +8,12 @@ use Rattle.std.proofs.lemmas.List.FromFn.{length-map-range_with_len, get_or-map-
 use Rattle.macho_model.specs.Links.{Input, Object, Dylib, Stub, StubReading, Link, no_input, object_bytes}
 use Rattle.macho_model.specs.Objects.{num_symbols, symbol_name}
 use Rattle.macho_model.specs.Resolution.{SymbolId, symbols_of, symbols_of_file}
-use Rattle.macho_names.specs.Kept.{Row, no_file, no_row, kept_of, row_of_symbol, rows_of_object, rows_of_dylib, rows_of_stub, offered_row, is_offered}
-use Rattle.macho_names.specs.Events.{Event, row_at, row_count, event_at, events_of_file, events_of, events}
+use Rattle.macho_symbol_names.specs.Kept.{Row, no_file, no_row, kept_of, row_of_symbol, rows_of_object, rows_of_dylib, rows_of_stub, offered_row, is_offered}
+use Rattle.macho_symbol_names.specs.Events.{Event, row_at, row_count, event_at, events_of_file, events_of, events}
 use Rattle.macho_symbols.specs.steps.Targets.{row_of, event_of}
-use Rattle.macho_symbols.proofs.ListsMore.{enumerated, flat_map-map, filter-flat_map, map-flat_map, flat_map_same, filter_made, filter_nothing}
+use Rattle.macho_symbols.proofs.ListsMore.{flat_map_same, filter_made, filter_nothing}
+use Rattle.macho_bytes.proofs.Maps.{filter-flat_map, enumerated, flat_map-map}
+use Rattle.macho_model.proofs.Uses.{map_flat}
 
 -- what is kept of an input, by its number
 pub file_at : (inputs : List Input) (i : ℕ) → i < length inputs → get_or (map kept_of inputs) i no_file ≡ kept_of (get_or inputs i no_input)
@@ -101,7 +103,7 @@ passing l test none =
     (flat_map-map (λ (i : ℕ × Input). symbols_of_file i.0 i.1) (λ i. (i, get_or l.inputs i no_input))
     (range_with_len 0 (length l.inputs)))
     ∙ ap (map (event_of l)) (filter-flat_map p of_file (range_with_len 0 (length l.inputs)))
-    ∙ map-flat_map (event_of l) (λ i. filter p (of_file i)) (range_with_len 0 (length l.inputs))
+    ∙ map_flat (event_of l) (λ i. filter p (of_file i)) (range_with_len 0 (length l.inputs))
     ∙ flat_map_same _ _ 0 (length l.inputs)
     (λ i low high. passing_file l test none i (omega (arith, high)) (get_or l.inputs i no_input) refl)
     ∙ sym (filter-flat_map (λ (e : Event). test e.row) (λ i. events_of_file files i (row_count files i))

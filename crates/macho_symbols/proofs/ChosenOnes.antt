@@ -3,12 +3,12 @@ use Rattle.std.proofs.Common.{◌≡◌, ℕ, ◌+◌, true, false, List, [], �
 use Rattle.std.proofs.lemmas.List.{map-append}
 use Rattle.std.proofs.lemmas.List.Elements.{filter-append}
 use Rattle.macho_symbols.specs.declared.solved.Common.{Common}
-use Rattle.macho_names.specs.Kept.{FileRows}
-use Rattle.macho_names.specs.Events.{row_count, event_at, events_of_file, events_of}
+use Rattle.macho_symbol_names.specs.Kept.{FileRows}
+use Rattle.macho_symbol_names.specs.Events.{row_count, event_at, events_of_file, events_of}
 use Rattle.macho_symbols.specs.steps.Targets.{is_chosen_in}
 use Rattle.macho_symbols.specs.steps.Solved.{common_told}
-use Rattle.macho_names.proofs.Lists.{filter_one, filter_none}
-use Rattle.macho_names.proofs.Taking.{file_rows_more, files_more}
+use Rattle.macho_symbol_names.proofs.Lists.{filter_one, filter_none}
+use Rattle.macho_symbol_names.proofs.Taking.{file_rows_more, files_more}
 
 pub chosen_more : (files : List FileRows) (file row : ℕ) (old : List Common) (c : Common)
     → is_chosen_in files (event_at files file row) ≡ true → c ≡ common_told (event_at files file row)

@@ -13,14 +13,14 @@ use Rattle.macho_model.specs.Links.{Link, object_of, is_carried}
 use Rattle.macho_model.specs.Objects.{section_at}
 use Rattle.macho_model.specs.Resolution.{SymbolId, symbols_of, strong_of, commons_of, has_name, entry_at, name_at}
 use Rattle.macho_model.specs.steps.Resolved.{weak_of, is_strong, is_weak}
-use Rattle.macho_names.specs.declared.notes.Sort.{Sort}
-use Rattle.macho_names.specs.declared.notes.Sort.TheVariants.{Section, Absolute, Common, Nowhere}
-use Rattle.macho_names.specs.Kept.{Row, kept_of, row_of_symbol, in_carried}
-use Rattle.macho_names.specs.Events.{strength, strength_of, is_of, events}
+use Rattle.macho_symbol_names.specs.declared.notes.Sort.{Sort}
+use Rattle.macho_symbol_names.specs.declared.notes.Sort.TheVariants.{Section, Absolute, Common, Nowhere}
+use Rattle.macho_symbol_names.specs.Kept.{Row, kept_of, row_of_symbol, in_carried}
+use Rattle.macho_symbol_names.specs.Events.{strength, strength_of, is_of, events}
 use Rattle.macho_symbols.specs.steps.Targets.{row_of, event_of}
-use Rattle.macho_names.proofs.Best.{and_false}
+use Rattle.macho_symbol_names.proofs.Best.{and_false}
 use Rattle.macho_symbols.proofs.Bridge.{passing, PassesNone}
-use Rattle.macho_names.proofs.KnowingBetter.{filter_same_test}
+use Rattle.macho_bytes.proofs.Maps.{filter_same_test}
 
 -- a row of a strength, with a name
 abbrev pub is_class : ℕ → List ℕ → Row → Bool

@@ -5,30 +5,25 @@ use Rattle.std.proofs.Common.{◌≡◌, ℕ, ◌<◌, Bool, true, false, ◌&&�
 use Rattle.std.proofs.lemmas.Bool.{false≢true}
 use Rattle.macho_model.specs.Links.{Link}
 use Rattle.macho_model.specs.Resolution.{SymbolId, Definition, Symbol, Library, definition_of, strong_of, commons_of, greatest_of, libraries_with}
-use Rattle.macho_model.specs.steps.Resolved.{first_or, weak_of}
-use Rattle.macho_names.specs.declared.notes.Sort.{Sort}
-use Rattle.macho_names.specs.declared.notes.Sort.TheVariants.{Section, Absolute, Common, Offered, Nowhere}
-use Rattle.macho_names.specs.Kept.{kept_of}
-use Rattle.macho_names.specs.Events.{Event, strength, strength_of, beats, is_of, events, best_of}
-use Rattle.macho_names.specs.steps.Levels.{is_level}
+use Rattle.macho_model.specs.steps.Resolved.{first_or, weak_of, first_definition}
+use Rattle.macho_symbol_names.specs.declared.notes.Sort.{Sort}
+use Rattle.macho_symbol_names.specs.declared.notes.Sort.TheVariants.{Section, Absolute, Common, Offered, Nowhere}
+use Rattle.macho_symbol_names.specs.Kept.{kept_of}
+use Rattle.macho_symbol_names.specs.Events.{Event, strength, strength_of, beats, is_of, events, best_of}
+use Rattle.macho_symbol_names.specs.steps.Levels.{is_level}
 use Rattle.macho_symbols.specs.steps.Targets.{event_of}
 use Rattle.macho_symbols.specs.Targets.{id_of, image_base, defined_as, definition_by}
-use Rattle.macho_names.proofs.Order.{equal_by_test, stronger_beats, ties_strength}
-use Rattle.macho_names.proofs.Best.{best_is, IsBest, none_of, and_false}
+use Rattle.macho_symbol_names.proofs.Order.{stronger_beats, ties_strength}
+use Rattle.macho_symbol_names.proofs.Best.{best_is, IsBest, none_of, and_false}
 use Rattle.macho_symbols.proofs.Classes.{strong_class, weak_class, common_class}
-use Rattle.macho_names.proofs.KnowingBetter.{filter_same_test}
 use Rattle.macho_symbols.proofs.Greatest.{greatest_first}
 use Rattle.macho_symbols.proofs.Offering.{libraries_empty, libraries_first}
 use Rattle.macho_model.proofs.Resolved.{definition_is_first}
-use Rattle.macho_model.specs.steps.Resolved.{first_definition}
+use Rattle.macho_bytes.proofs.Maps.{filter_same_test}
+use Rattle.macho_bytes.proofs.Bools.{is_equal, both_parts}
 
 abbrev of_class : ℕ → List ℕ → Event → Bool
 of_class c name e = (strength e.row == c) && is_of name e
-
-both : (u v : Bool) → (u && v) ≡ true → (u ≡ true) × (v ≡ true)
-both true true e = (refl, refl)
-both true false e = cc
-both false v e = cc
 
 -- no event is of a class above the best's
 pub none_above : (name : List ℕ) (es : List Event) (b : Event) (c : ℕ) → All (λ x. is_of name x ≡ true → beats x.row b.row ≡ false) es
@@ -41,8 +36,8 @@ none_above name (x ∷ xs) b c unbeaten above =
     of : (t : Bool) → of_class c name x ≡ t → filter (of_class c name) xs ≡ [] → filter (of_class c name) (x ∷ xs) ≡ []
     of false is rest = rw is rest
     of true is rest =
-        let parts = both (strength x.row == c) (is_of name x) is in
-        let strong : strength x.row ≡ c = equal_by_test (strength x.row) c parts.0 in
+        let parts = both_parts (strength x.row == c) (is_of name x) is in
+        let strong : strength x.row ≡ c = is_equal (strength x.row) c parts.0 in
         absurd (false≢true (sym (unbeaten 0 x (omega arith) parts.1) ∙ stronger_beats x.row b.row (omega (arith, strong, above))))
 
 -- no event is of any class, where there is no best

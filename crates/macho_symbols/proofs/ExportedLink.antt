@@ -17,21 +17,21 @@ use Rattle.macho_model.specs.Exports.{has_lists, is_listed}
 use Rattle.macho_model.specs.Links.{Link}
 use Rattle.macho_model.specs.Resolution.{SymbolId, Symbol, Library, ImageBase, definition_of, entry_at}
 use Rattle.macho_model.specs.steps.Resolved.{DSO_HANDLE}
-use Rattle.macho_exports.specs.Entries.{ListEntries}
-use Rattle.macho_exports.proofs.Listed.{listed_is}
+use Rattle.macho_export_lists.specs.Entries.{ListEntries}
+use Rattle.macho_export_lists.proofs.Listed.{listed_is}
 use Rattle.macho_symbols.specs.declared.exports.ExportName.{ExportName}
-use Rattle.macho_names.specs.declared.notes.Sort.{Sort}
-use Rattle.macho_names.specs.declared.notes.Sort.TheVariants.{Section, Absolute, Common, Offered, Nowhere}
+use Rattle.macho_symbol_names.specs.declared.notes.Sort.{Sort}
+use Rattle.macho_symbol_names.specs.declared.notes.Sort.TheVariants.{Section, Absolute, Common, Offered, Nowhere}
 use Rattle.macho_symbols.specs.declared.solved.Import.{Import}
 use Rattle.macho_symbols.specs.Exported.{AreLists, IsFromObject, IsReexport, AreExports, export_names}
-use Rattle.macho_names.specs.Kept.{FileRows, kept_of, row_of_symbol}
+use Rattle.macho_symbol_names.specs.Kept.{FileRows, kept_of, row_of_symbol}
 use Rattle.macho_symbols.specs.Kept.{ResolvedRows, IsResolved, noted_of}
-use Rattle.macho_names.specs.Events.{Event, events, best_of}
+use Rattle.macho_symbol_names.specs.Events.{Event, events, best_of}
 use Rattle.macho_symbols.specs.steps.Exporting.{open_by, open_of, is_open_in, is_exported_in, is_listed_in, weak_of, weak_in, IsToldIn, AreInOrder, required_in}
 use Rattle.macho_symbols.specs.steps.Solved.{IsImportIn}
 use Rattle.macho_symbols.specs.steps.Targets.{event_of, is_of_object}
 use Rattle.macho_symbols.specs.Targets.{id_of, image_base, defined_as, definition_by, named_in, led_in, lead_in}
-use Rattle.macho_names.proofs.Best.{best_is}
+use Rattle.macho_symbol_names.proofs.Best.{best_is}
 use Rattle.macho_symbols.proofs.Defined.{definition_is}
 use Rattle.macho_symbols.proofs.Targeted.{best_symbol, named_is}
 

@@ -8,17 +8,18 @@ use Rattle.std.proofs.lemmas.List.Elements.{filter_passes, All-filter}
 use Rattle.macho_records.specs.Symbols.{is_common_of}
 use Rattle.macho_model.specs.Links.{Link, object_of}
 use Rattle.macho_model.specs.Resolution.{SymbolId, symbols_of, commons_of, greatest_of, entry_at, has_name}
-use Rattle.macho_names.specs.declared.notes.Sort.TheVariants.{Common}
-use Rattle.macho_names.specs.Kept.{Row, kept_of, row_of_symbol, sort_of, value_of}
-use Rattle.macho_names.specs.Events.{Event, strength, beats, common_size, size_of_common, is_of, events}
-use Rattle.macho_names.specs.steps.Levels.{is_level}
+use Rattle.macho_symbol_names.specs.declared.notes.Sort.TheVariants.{Common}
+use Rattle.macho_symbol_names.specs.Kept.{Row, kept_of, row_of_symbol, sort_of, value_of}
+use Rattle.macho_symbol_names.specs.Events.{Event, strength, beats, common_size, size_of_common, is_of, events}
+use Rattle.macho_symbol_names.specs.steps.Levels.{is_level}
 use Rattle.macho_symbols.specs.steps.Targets.{row_of, event_of}
 use Rattle.macho_symbols.specs.Targets.{id_of}
-use Rattle.macho_names.proofs.Order.{equal_by_test}
-use Rattle.macho_names.proofs.Best.{IsBest}
+use Rattle.macho_symbol_names.proofs.Best.{IsBest}
 use Rattle.macho_symbols.proofs.Classes.{common_class, common_alone}
-use Rattle.macho_names.proofs.KnowingBetter.{filter_same_test}
-use Rattle.macho_symbols.proofs.ListsMore.{filter-map, filter-filter, filter_same_on}
+use Rattle.macho_symbols.proofs.ListsMore.{filter-filter, filter_same_on}
+use Rattle.macho_bytes.proofs.Maps.{filter_same_test, filter-map}
+use Rattle.macho_bytes.proofs.Bools.{and_left, is_equal, both_parts}
+use Rattle.macho_bytes.proofs.Comparing.{at_most, unequal}
 
 filter_from : {X : Type 0} (p : X → Bool) (xs : List X) (y d : X) (ys : List X) → filter p xs ≡ y ∷ ys
     → (k : ℕ) × (k < length xs) × (get_or xs k d ≡ y)
@@ -51,10 +52,6 @@ size_is l s common =
     let sort : sort_of (object_of l s.file) (entry_at l s) ≡ Common = rw (parts.1, parts.2, common) refl in
     ap (λ x. size_of_common x (value_of (object_of l s.file) (entry_at l s) x)) sort
 
-first_part : (u v : Bool) → (u && v) ≡ true → u ≡ true
-first_part true v e = refl
-first_part false v e = cc
-
 -- of two commons, neither beating the other says which is greater
 not_greater : (a b : Row) → strength a ≡ 2 → strength b ≡ 2 → beats a b ≡ false → common_size a ≤ common_size b
 not_greater a b s t e = by (strength a) (strength b) (common_size a) (common_size b) s t e
@@ -71,19 +68,8 @@ level_test s z o = of (2 == s) refl z o
     of false is true o = let back : (s == 2) ≡ false = grind (arith, nat_tests) in rw (is, back) refl
     of false is false o = rw is refl
 
-both : (u v : Bool) → (u && v) ≡ true → (u ≡ true) × (v ≡ true)
-both true true e = (refl, refl)
-both true false e = cc
-both false v e = cc
-
-below : (m n : ℕ) → m ≤ n → nat_le m n ≡ true
-below m n h = grind (arith, nat_tests)
-
 above : (m n : ℕ) → n < m → nat_le m n ≡ false
 above m n h = grind (arith, nat_tests)
-
-unequal : (m n : ℕ) → (m == n) ≡ false → m ≢ n
-unequal m n h = grind (arith, nat_tests)
 
 -- a symbol among the commons of a name: its row, as the best event sees it
 common_row : (l : Link) (name : List ℕ) (b : Event) → IsBest name (events (map kept_of l.inputs)) b → strength b.row ≡ 2
@@ -95,15 +81,15 @@ common_row l name b is s k d within =
     let es = events (map kept_of l.inputs) in
     let symbol = get_or (commons_of l name) k d in
     let common : is_common_of (entry_at l symbol) ≡ true =
-    first_part _ _ (filter_passes (λ (t : SymbolId). is_common_of (entry_at l t) && has_name l name t) (symbols_of l) k d within) in
+    and_left _ _ (filter_passes (λ (t : SymbolId). is_common_of (entry_at l t) && has_name l name t) (symbols_of l) k d within) in
     let test : Event → Bool = λ e. (strength e.row == 2) && is_of name e in
     let long : length (filter test es) ≡ length (commons_of l name) = ap length (sym (common_class l name))
     ∙ length-map (commons_of l name) (event_of l) in
     let here : get_or (filter test es) k (event_of l d) ≡ event_of l symbol =
     ap (λ xs. get_or xs k (event_of l d)) (sym (common_class l name))
     ∙ get_or-map (event_of l) (commons_of l name) k d (event_of l d) within in
-    let passes = both _ _ (filter_passes test es k (event_of l d) (omega (arith, within, long))) in
-    let strong : strength (row_of l symbol) ≡ 2 = ap (λ e. strength e.row) (sym here) ∙ equal_by_test _ 2 passes.0 in
+    let passes = both_parts _ _ (filter_passes test es k (event_of l d) (omega (arith, within, long))) in
+    let strong : strength (row_of l symbol) ≡ 2 = ap (λ e. strength e.row) (sym here) ∙ is_equal _ 2 passes.0 in
     let beaten = All-filter test (λ x. is_of name x ≡ true → beats x.row b.row ≡ false) es is.unbeaten k (event_of l d)
     (omega (arith, within, long)) passes.1 in
     let fails : beats (row_of l symbol) b.row ≡ false = ap (λ e. beats e.row b.row) (sym here) ∙ beaten in
@@ -146,7 +132,7 @@ greatest_first l name b is s = (
             (omega (arith, ap length e)) in
             let here : (common_size b.row == common_size (row_of l x)) ≡ true = ap
             (λ ys. common_size b.row == common_size (row_of l (get_or ys 0 x))) (sym e) ∙ passes in
-            (from.0, from.1, ap (λ y. common_size (row_of l y)) from.2 ∙ sym (equal_by_test _ _ here))
+            (from.0, from.1, ap (λ y. common_size (row_of l y)) from.2 ∙ sym (is_equal _ _ here))
 
     agree : (k : ℕ) (d : SymbolId) → k < length (commons_of l name) → (t : Bool)
         → (common_size b.row == common_size (row_of l (get_or (commons_of l name) k d))) ≡ t
@@ -155,8 +141,8 @@ greatest_first l name b is s = (
     agree k d h true same =
         let own = common_row l name b is s k d h in
         all_pass _ (commons_of l name)
-        (λ j e g. let other = common_row l name b is s j e g in below _ _
-        (omega (arith, own.1, other.1, other.0, equal_by_test _ _ same))) ∙ sym same
+        (λ j e g. let other = common_row l name b is s j e g in at_most _ _
+        (omega (arith, own.1, other.1, other.0, is_equal _ _ same))) ∙ sym same
     agree k d h false apart =
         let own = common_row l name b is s k d h in
         let most = common_row l name b is s first_there.0 (id_of b) first_there.1 in

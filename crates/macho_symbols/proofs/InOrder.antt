@@ -20,11 +20,11 @@ use Rattle.std.proofs.lemmas.Map.Keys.{IsDistinct-IsPermutation, IsDistinct-from
 use Rattle.std.proofs.lemmas.Map.Made.{AllPairs-from_IsDistinct}
 use Rattle.std.proofs.lemmas.Map.Views.{any-filter_same, Contains-from_any}
 use Rattle.macho_symbols.specs.declared.exports.ExportName.{ExportName}
-use Rattle.macho_names.specs.declared.table.Entry.{Entry}
-use Rattle.macho_names.specs.Kept.{FileRows}
+use Rattle.macho_symbol_names.specs.declared.table.Entry.{Entry}
+use Rattle.macho_symbol_names.specs.Kept.{FileRows}
 use Rattle.macho_symbols.specs.Exported.{AreRising}
 use Rattle.macho_symbols.specs.steps.Exporting.{IsToldIn, AreTold, IsPairIn, AreFound, AreInOrder, pair_names}
-use Rattle.macho_names.specs.Tables.{Heads, IsTable, IsNowhere, names_of, entry_name}
+use Rattle.macho_symbol_names.specs.Tables.{Heads, IsTable, IsNowhere, names_of, entry_name}
 
 -- gathering, one entry further
 pub found_none : (files : List FileRows) (entries : List Entry) (test : List ℕ → Bool) → AreFound files entries test 0 []

@@ -11,8 +11,8 @@ use Rattle.std.proofs.lemmas.List.Elements.{filter_map-append}
 use Rattle.macho_model.specs.Links.{Input, Object, Dylib, Stub}
 use Rattle.macho_model.specs.Objects.{install_name_of}
 use Rattle.macho_model.specs.Resolution.{library_of_input}
-use Rattle.macho_names.specs.Kept.{FileRows, kept_of}
-use Rattle.macho_names.specs.Events.{library_text}
+use Rattle.macho_symbol_names.specs.Kept.{FileRows, kept_of}
+use Rattle.macho_symbol_names.specs.Events.{library_text}
 use Rattle.macho_symbols.specs.steps.Solved.{install_name_in}
 
 -- the names of one file more

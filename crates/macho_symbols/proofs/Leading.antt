@@ -2,22 +2,21 @@
 -- is of no event.
 use Rattle.std.proofs.Common.{◌≡◌, ℕ, ◌+◌, ◌<◌, inl, inr, true, false, Some, None, List, [], ◌∷◌, length, map, get_or, refl, ap, subst, sym, ◌∙◌, arith}
 use Rattle.std.specs.List.{position_or_len}
-use Rattle.std.proofs.lemmas.List.{get_or-map, length-map, get_or_default}
+use Rattle.std.proofs.lemmas.List.{get_or-map, length-map}
 use Rattle.std.proofs.lemmas.List.Sums.{position_or_len_is}
 use Rattle.macho_model.specs.Resolution.{SymbolId, same_symbol}
 use Rattle.macho_symbols.specs.declared.solved.Common.{Common}
 use Rattle.macho_symbols.specs.declared.solved.Solved.{Solved}
-use Rattle.macho_names.specs.declared.notes.Sort.{Sort}
-use Rattle.macho_names.specs.declared.notes.Sort.TheVariants.{Section, Absolute, Common as CommonSort, Offered, Nowhere}
-use Rattle.macho_names.specs.declared.table.Entry.{Entry}
-use Rattle.macho_names.specs.Kept.{FileRows}
-use Rattle.macho_names.specs.Events.{Event, row_at, event_at, events, best_of}
-use Rattle.macho_names.specs.Tables.{Heads, heads_of, IsEntryOf, IsKnown, IsNowhere, names_of, entry_name, no_entry}
+use Rattle.macho_symbol_names.specs.declared.notes.Sort.{Sort}
+use Rattle.macho_symbol_names.specs.declared.notes.Sort.TheVariants.{Section, Absolute, Common as CommonSort, Offered, Nowhere}
+use Rattle.macho_symbol_names.specs.declared.table.Entry.{Entry}
+use Rattle.macho_symbol_names.specs.Kept.{FileRows}
+use Rattle.macho_symbol_names.specs.Events.{Event, row_at, event_at, events, best_of}
+use Rattle.macho_symbol_names.specs.Tables.{Heads, heads_of, IsEntryOf, IsKnown, IsNowhere, names_of, entry_name, no_entry}
 use Rattle.macho_symbols.specs.Targets.{named_in, led_in, lead_in, own_in, chosen_in, id_of}
 use Rattle.macho_symbols.specs.steps.Solved.{IsSolved, common_id, common_told}
 use Rattle.macho_symbols.specs.Kept.{noted_of}
-use Rattle.macho_names.proofs.Chains.{name_of_entry}
-use Rattle.macho_names.proofs.ChainsMore.{below_more}
+use Rattle.macho_symbol_names.proofs.Chains.{name_of_entry}
 
 -- the first common of a place
 pub common_found : (commons : List Common) (s : SymbolId) (i : ℕ) (c : Common) → i < length commons
@@ -37,16 +36,6 @@ common_missing commons s d others =
     position_or_len_is (same_symbol s) (map common_id commons) (length commons) d (omega (arith, length-map commons common_id))
     (λ k h. ap (same_symbol s) (get_or-map common_id commons k none d h) ∙ others k none h)
     (λ h. absurd (omega (arith, h, length-map commons common_id)))
-
-pub not_at_more : (commons : List Common) (s : SymbolId) (i : ℕ) (c : Common) → i < length commons
-    → ((k : ℕ) (d : Common) → k < i → same_symbol s (common_id (get_or commons k d)) ≡ false)
-    → same_symbol s (common_id (get_or commons i c)) ≡ false → (k : ℕ) (d : Common) → k < i + 1
-    → same_symbol s (common_id (get_or commons k d)) ≡ false
-not_at_more commons s i c within others other k d h = elim (below_more k i h) [
-  | inl less ↦ others k d less
-  | inr last ↦ ap (λ j. same_symbol s (common_id (get_or commons j d))) last
-      ∙ ap (λ x. same_symbol s (common_id x)) (get_or_default commons i d c within) ∙ other
-]
 
 -- the ids of the commons that were chosen
 pub common_ids : (s : Solved) → IsSolved s → map common_id s.commons.items ≡ map id_of (chosen_in s.files.items)

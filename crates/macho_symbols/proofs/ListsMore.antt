@@ -1,28 +1,6 @@
 -- Lists: filters and maps of lists that are joined, or made of a range of indexes.
 use Rattle.std.proofs.Common.{◌≡◌, ℕ, ◌+◌, ◌<◌, ◌≤◌, Bool, true, false, cond, ◌&&◌, List, [], ◌∷◌, ◌++◌, length, map, filter, get_or, refl, ap, sym, ◌∙◌, arith, suc, zero}
 use Rattle.std.specs.List.{flat_map, enumerate_from, range_with_len}
-use Rattle.std.proofs.lemmas.List.Elements.{filter-append}
-use Rattle.std.proofs.lemmas.List.{map-append}
-use Rattle.std.proofs.lemmas.List.FromFn.{fill_by_all, length-enumerate_from, get_or-enumerate_from}
-
--- a list with the indexes of its elements
-pub enumerated : {X : Type 0} (xs : List X) (d : X) → enumerate_from 0 xs ≡ map (λ i. (i, get_or xs i d)) (range_with_len 0 (length xs))
-enumerated xs d =
-    fill_by_all (λ i. (i, get_or xs i d)) (enumerate_from 0 xs) (length xs) (0, d) (length-enumerate_from 0 xs)
-    (λ k h. get_or-enumerate_from 0 xs k (0, d) h ∙ ap (λ n. (n, get_or xs k d)) (omega arith))
-
-pub flat_map-map : {X Y Z : Type 0} (f : Y → List Z) (g : X → Y) (xs : List X) → flat_map f (map g xs) ≡ flat_map (λ x. f (g x)) xs
-flat_map-map f g [] = refl
-flat_map-map f g (x ∷ xs) = ap (λ ys. f (g x) ++ ys) (flat_map-map f g xs)
-
-pub filter-flat_map : {X Y : Type 0} (p : Y → Bool) (f : X → List Y) (xs : List X)
-    → filter p (flat_map f xs) ≡ flat_map (λ x. filter p (f x)) xs
-filter-flat_map p f [] = refl
-filter-flat_map p f (x ∷ xs) = filter-append p (f x) (flat_map f xs) ∙ ap (λ ys. filter p (f x) ++ ys) (filter-flat_map p f xs)
-
-pub map-flat_map : {X Y Z : Type 0} (h : Y → Z) (f : X → List Y) (xs : List X) → map h (flat_map f xs) ≡ flat_map (λ x. map h (f x)) xs
-map-flat_map h f [] = refl
-map-flat_map h f (x ∷ xs) = map-append h (f x) (flat_map f xs) ∙ ap (λ ys. map h (f x) ++ ys) (map-flat_map h f xs)
 
 -- two functions that agree on each index
 pub flat_map_same : {Y : Type 0} (f g : ℕ → List Y) (a n : ℕ) → ((k : ℕ) → a ≤ k → k < a + n → f k ≡ g k)
@@ -64,16 +42,6 @@ pub filter_same_on : {X : Type 0} (p q : X → Bool) (xs : List X)
 filter_same_on p q [] agree = refl
 filter_same_on p q (x ∷ xs) agree =
     rw (agree 0 x (omega arith), filter_same_on p q xs (λ k d h. agree (suc k) d (omega (arith, h)))) refl
-
--- a filter of a map, and a filter of a filter
-pub filter-map : {X Y : Type 0} (p : Y → Bool) (f : X → Y) (xs : List X) → filter p (map f xs) ≡ map f (filter (λ x. p (f x)) xs)
-filter-map p f [] = refl
-filter-map p f (x ∷ xs) = of (p (f x)) refl (filter-map p f xs)
-  where
-    of : (t : Bool) → p (f x) ≡ t → filter p (map f xs) ≡ map f (filter (λ y. p (f y)) xs)
-        → filter p (f x ∷ map f xs) ≡ map f (filter (λ y. p (f y)) (x ∷ xs))
-    of true passes rest = rw (passes, rest) refl
-    of false fails rest = rw (fails, rest) refl
 
 pub filter-filter : {X : Type 0} (p q : X → Bool) (xs : List X) → filter p (filter q xs) ≡ filter (λ x. p x && q x) xs
 filter-filter p q [] = refl

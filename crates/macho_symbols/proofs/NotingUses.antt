@@ -10,18 +10,18 @@ use Rattle.macho_stub_lines.proofs.Bind.{bytes_same, bytes_differ}
 use Rattle.macho_model.specs.declared.targets.Target.TheVariants as target
 use Rattle.macho_model.specs.Resolution.{Library}
 use Rattle.macho_model.specs.steps.Resolved.{DSO_HANDLE}
-use Rattle.macho_names.specs.declared.notes.Sort.{Sort}
-use Rattle.macho_names.specs.declared.notes.Sort.TheVariants.{Section, Absolute, Common as CommonSort, Offered, Nowhere}
+use Rattle.macho_symbol_names.specs.declared.notes.Sort.{Sort}
+use Rattle.macho_symbol_names.specs.declared.notes.Sort.TheVariants.{Section, Absolute, Common as CommonSort, Offered, Nowhere}
 use Rattle.macho_symbols.specs.declared.solved.Solved.{Solved}
 use Rattle.macho_symbols.specs.declared.solved.TheConstants.{UNNUMBERED}
-use Rattle.macho_names.specs.Kept.{FileRows}
-use Rattle.macho_names.specs.Events.{Event, events, best_of}
-use Rattle.macho_names.specs.Tables.{IsEntryOf, IsNowhere, names_of, no_entry}
+use Rattle.macho_symbol_names.specs.Kept.{FileRows}
+use Rattle.macho_symbol_names.specs.Events.{Event, events, best_of}
+use Rattle.macho_symbol_names.specs.Tables.{IsEntryOf, IsNowhere, names_of, no_entry}
 use Rattle.macho_symbols.specs.Targets.{named_in, lead_in, image_base, definition_by, defined_as}
 use Rattle.macho_symbols.specs.steps.Solved.{IsSolved, IsNumbered}
 use Rattle.macho_symbols.specs.Kept.{noted_of}
 use Rattle.macho_symbols.proofs.Leading.{entry_best, leads_nowhere}
-use Rattle.macho_names.proofs.ChainsMore.{same_or_not}
+use Rattle.macho_bytes.proofs.Comparing.{same_or_not}
 
 -- the number of a name among the noted ones, with one more
 number_more : (noted : List (List ℕ)) (name other : List ℕ) (n : ℕ) → position_or_len (bytes_eq other) noted ≡ n → n < length noted

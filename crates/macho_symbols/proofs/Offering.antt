@@ -9,15 +9,16 @@ use Rattle.std.proofs.lemmas.List.Folds.{list_any-append}
 use Rattle.macho_model.specs.Links.{Input, Object, Dylib, Stub, Link, no_input, object_of}
 use Rattle.macho_model.specs.Objects.{num_symbols, symbol_name, symbol_at}
 use Rattle.macho_model.specs.Resolution.{offers, libraries_with}
-use Rattle.macho_names.specs.declared.notes.Sort.TheVariants.{Section, Absolute, Common, Nowhere}
-use Rattle.macho_names.specs.Kept.{FileRows, no_file, no_row, kept_of, row_of_symbol, rows_of_dylib, rows_of_stub, offered_row, is_offered, sort_of, in_carried}
-use Rattle.macho_names.specs.Events.{Event, row_at, row_count, event_at, events_of_file, events_of, events, strength, strength_of, is_of}
+use Rattle.macho_symbol_names.specs.declared.notes.Sort.TheVariants.{Section, Absolute, Common, Nowhere}
+use Rattle.macho_symbol_names.specs.Kept.{FileRows, no_file, no_row, kept_of, row_of_symbol, rows_of_dylib, rows_of_stub, offered_row, is_offered, sort_of, in_carried}
+use Rattle.macho_symbol_names.specs.Events.{Event, row_at, row_count, event_at, events_of_file, events_of, events, strength, strength_of, is_of}
 use Rattle.macho_records.specs.declared.symbols.SymtabEntry.{SymtabEntry}
 use Rattle.macho_records.specs.Symbols.{is_common_of, is_weak_of, has_type}
 use Rattle.macho_records.specs.declared.constants.TheConstants.{N_ABS}
-use Rattle.macho_names.proofs.Chains.{cases_eq}
+use Rattle.macho_symbol_names.proofs.Chains.{cases_eq}
 use Rattle.macho_symbols.proofs.Bridge.{file_at, row_kept, count_kept}
-use Rattle.macho_symbols.proofs.ListsMore.{enumerated, filter-flat_map, filter-map, filter_nothing}
+use Rattle.macho_symbols.proofs.ListsMore.{filter_nothing}
+use Rattle.macho_bytes.proofs.Maps.{filter-flat_map, enumerated, filter-map, any_filter, map_map}
 
 abbrev is_offering : List ℕ → Event → Bool
 is_offering name e = (strength e.row == 1) && is_of name e
@@ -31,19 +32,6 @@ names_offered (Stub text says) = says.names ++ says.weak_names
 any_map : {X : Type 0} (p : List ℕ → Bool) (f : X → List ℕ) (xs : List X) → list_any p (map f xs) ≡ list_any (λ x. p (f x)) xs
 any_map p f [] = refl
 any_map p f (x ∷ xs) = ap (λ t. p (f x) || t) (any_map p f xs)
-
-any_filter : {X : Type 0} (p q : X → Bool) (xs : List X) → list_any p (filter q xs) ≡ list_any (λ x. q x && p x) xs
-any_filter p q [] = refl
-any_filter p q (x ∷ xs) = of (q x) refl (any_filter p q xs)
-  where
-    of : (t : Bool) → q x ≡ t → list_any p (filter q xs) ≡ list_any (λ y. q y && p y) xs
-        → list_any p (filter q (x ∷ xs)) ≡ ((q x && p x) || list_any (λ y. q y && p y) xs)
-    of true is rest =
-        ap (λ t. list_any p (cond t (x ∷ filter q xs) (filter q xs))) is ∙ ap (λ u. p x || u) rest
-        ∙ ap (λ t. (t && p x) || list_any (λ y. q y && p y) xs) (sym is)
-    of false is rest =
-        ap (λ t. list_any p (cond t (x ∷ filter q xs) (filter q xs))) is ∙ rest
-        ∙ ap (λ t. (t && p x) || list_any (λ y. q y && p y) xs) (sym is)
 
 -- an input offers a name where it is among those
 offers_is : (name : List ℕ) (x : Input) → offers name x ≡ list_any (λ n. bytes_eq n name) (names_offered x)
@@ -60,17 +48,13 @@ library_row : (l : Link) (i k : ℕ) (x : Input) (names : List (List ℕ)) → i
     → row_at (map kept_of l.inputs) i k ≡ offered_row (get_or names k [])
 library_row l i k x names within rows among = ap (λ rs. get_or rs k no_row) rows ∙ get_or-map offered_row names k [] no_row among
 
-map-map : {X Y Z : Type 0} (f : Y → Z) (g : X → Y) (xs : List X) → map f (map g xs) ≡ map (λ x. f (g x)) xs
-map-map f g [] = refl
-map-map f g (x ∷ xs) = ap (λ ys. f (g x) ∷ ys) (map-map f g xs)
-
 library_rows : (l : Link) (i : ℕ) (x : Input) → i < length l.inputs → get_or l.inputs i no_input ≡ x → ((b : List ℕ) → x ≡ Object b → ⊥)
     → (get_or (map kept_of l.inputs) i no_file).rows ≡ map offered_row (names_offered x)
 unfolding rows_of_dylib rows_of_stub
 library_rows l i (Object b) within is other = absurd (other b refl)
 library_rows l i (Dylib b) within is other =
     ap (λ f. f.rows) (file_at l.inputs i within ∙ ap kept_of is)
-    ∙ sym (map-map offered_row (symbol_name b) (filter (is_offered b) (range_with_len 0 (num_symbols b))))
+    ∙ sym (map_map offered_row (symbol_name b) (filter (is_offered b) (range_with_len 0 (num_symbols b))))
 library_rows l i (Stub text says) within is other = ap (λ f. f.rows) (file_at l.inputs i within ∙ ap kept_of is)
 
 -- the first that passes, in a list made of a range
@@ -178,7 +162,7 @@ offering_numbers l name =
     let g : ℕ → ℕ × Input = λ i. (i, get_or l.inputs i no_input) in
     ap (λ xs. map (λ (i : ℕ × Input). i.0) (filter (λ (i : ℕ × Input). offers name i.1) xs)) (enumerated l.inputs no_input)
     ∙ ap (map (λ (i : ℕ × Input). i.0)) (filter-map (λ (i : ℕ × Input). offers name i.1) g r)
-    ∙ map-map (λ (i : ℕ × Input). i.0) g (filter (λ i. offers name (get_or l.inputs i no_input)) r)
+    ∙ map_map (λ (i : ℕ × Input). i.0) g (filter (λ i. offers name (get_or l.inputs i no_input)) r)
     ∙ map-id (filter (λ i. offers name (get_or l.inputs i no_input)) r)
 
 -- what joined lists begin with

@@ -4,19 +4,19 @@ use Rattle.std.proofs.Common.{◌≡◌, ℕ, ◌&&◌, ◌==◌, not, Bool, tru
 use Rattle.std.proofs.lemmas.Bool.{not-true, not-false, eqb-true, eqb-false, ne_eqb, and_left}
 use Rattle.std.specs.List.{list_any}
 use Rattle.std.specs.Str.{bytes_eq}
-use Rattle.macho_exports.specs.Entries.{ListEntries}
-use Rattle.macho_names.specs.declared.notes.Sort.{Sort}
-use Rattle.macho_names.specs.declared.notes.Sort.TheVariants.{Section, Absolute, Common, Offered, Nowhere}
+use Rattle.macho_export_lists.specs.Entries.{ListEntries}
+use Rattle.macho_symbol_names.specs.declared.notes.Sort.{Sort}
+use Rattle.macho_symbol_names.specs.declared.notes.Sort.TheVariants.{Section, Absolute, Common, Offered, Nowhere}
 use Rattle.macho_symbols.specs.declared.solved.Solved.{Solved}
 use Rattle.macho_symbols.specs.declared.solved.TheConstants.{UNNUMBERED}
-use Rattle.macho_names.specs.declared.table.Entry.{Entry}
-use Rattle.macho_names.specs.Events.{Event, row_at, event_at}
+use Rattle.macho_symbol_names.specs.declared.table.Entry.{Entry}
+use Rattle.macho_symbol_names.specs.Events.{Event, row_at, event_at}
 use Rattle.macho_symbols.specs.steps.Exporting.{open_by, open_of, is_open_in, is_exported_in, is_listed_in, weak_of, weak_in}
 use Rattle.macho_symbols.specs.steps.Solved.{IsSolved, IsNumbered}
 use Rattle.macho_symbols.specs.Kept.{noted_of}
-use Rattle.macho_names.specs.Tables.{IsEntryOf, IsNowhere, names_of, no_entry}
+use Rattle.macho_symbol_names.specs.Tables.{IsEntryOf, IsNowhere, names_of, no_entry}
 use Rattle.macho_symbols.specs.steps.Targets.{is_of_object}
-use Rattle.macho_names.specs.Kept.{FileRows}
+use Rattle.macho_symbol_names.specs.Kept.{FileRows}
 use Rattle.macho_symbols.proofs.Leading.{entry_best}
 use Rattle.macho_symbols.proofs.UsesHere.{next_number}
 

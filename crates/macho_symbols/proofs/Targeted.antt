@@ -14,27 +14,28 @@ use Rattle.macho_model.specs.Links.{Link, Input, Object, Dylib, Stub, no_input, 
 use Rattle.macho_model.specs.Resolution.{SymbolId, ImageBase, symbols_of, entry_at, name_at, same_symbol, is_symbol, defines, definition_of, chosen_commons, strong_of}
 use Rattle.macho_model.specs.steps.Resolved.{DSO_HANDLE}
 use Rattle.macho_model.specs.Faults.{IsDuplicate}
-use Rattle.macho_names.specs.declared.fault.SymbolFault.{SymbolFault}
-use Rattle.macho_names.specs.declared.fault.SymbolFault.TheVariants.{DuplicateSymbol, UndefinedSymbol, ExportListMissing, OutOfMemory}
-use Rattle.macho_names.specs.Tables.{IsClash}
+use Rattle.macho_symbol_names.specs.declared.fault.SymbolFault.{SymbolFault}
+use Rattle.macho_symbol_names.specs.declared.fault.SymbolFault.TheVariants.{DuplicateSymbol, UndefinedSymbol, ExportListMissing, OutOfMemory}
+use Rattle.macho_symbol_names.specs.Tables.{IsClash}
 use Rattle.macho_model.specs.Targets.{own_target, definition_target}
 use Rattle.macho_model.specs.Uses.{target_with}
-use Rattle.macho_names.specs.declared.notes.Sort.{Sort}
-use Rattle.macho_names.specs.declared.notes.Sort.TheVariants.{Section, Absolute, Common, Offered, Nowhere}
-use Rattle.macho_names.specs.Kept.{kept_of, row_of_symbol, sort_of, in_carried, kept_name, no_file}
+use Rattle.macho_symbol_names.specs.declared.notes.Sort.{Sort}
+use Rattle.macho_symbol_names.specs.declared.notes.Sort.TheVariants.{Section, Absolute, Common, Offered, Nowhere}
+use Rattle.macho_symbol_names.specs.Kept.{kept_of, row_of_symbol, sort_of, in_carried, kept_name, no_file}
 use Rattle.macho_symbols.specs.Kept.{ResolvedRows, IsResolved, HasSymbol, symbol_id}
 use Rattle.macho_symbols.specs.Told.{common_of, IsDuplicateOf}
 use Rattle.macho_symbols.specs.steps.Solved.{common_told}
-use Rattle.macho_names.specs.Events.{Event, event_at, row_count, events, strength, strength_of, best_of, is_strong_of}
-use Rattle.macho_names.specs.steps.Levels.{is_level}
+use Rattle.macho_symbol_names.specs.Events.{Event, event_at, row_count, events, strength, strength_of, best_of, is_strong_of}
+use Rattle.macho_symbol_names.specs.steps.Levels.{is_level}
 use Rattle.macho_symbols.specs.steps.Targets.{row_of, event_of, is_of_object}
 use Rattle.macho_symbols.specs.Targets.{id_of, image_base, defined_as, definition_by, defines_in, chosen_in, own_in, base_target, lead_in, led_in, named_in, target_in}
-use Rattle.macho_names.proofs.Best.{best_is, IsBest}
+use Rattle.macho_symbol_names.proofs.Best.{best_is, IsBest}
 use Rattle.macho_symbols.proofs.Bridge.{passing, row_kept, count_kept, file_at}
 use Rattle.macho_symbols.proofs.Classes.{common_alone, strong_class}
 use Rattle.macho_symbols.proofs.Defined.{definition_is}
-use Rattle.macho_names.proofs.KnowingBetter.{filter_same_test}
-use Rattle.macho_symbols.proofs.ListsMore.{filter-map, filter-filter}
+use Rattle.macho_symbols.proofs.ListsMore.{filter-filter}
+use Rattle.macho_bytes.proofs.Maps.{filter_same_test, filter-map}
+use Rattle.macho_bytes.proofs.Bools.{and_left}
 
 swap : (u v : Bool) → (u && v) ≡ (v && u)
 swap true true = refl
@@ -67,7 +68,7 @@ best_symbol l name b is object = of
     of (z ∷ zs) e = let same : event_of l z ≡ b = cc in sym same ∙ ap (λ x. event_of l (id_of x)) same
 
 -- a symbol defines its name by its row where it does by the link
-defines_is : (l : Link) (s : SymbolId) → defines_in (map kept_of l.inputs) (event_of l s) ≡ defines l s
+pub defines_is : (l : Link) (s : SymbolId) → defines_in (map kept_of l.inputs) (event_of l s) ≡ defines l s
 unfolding row_of_symbol
 defines_is l s = of (is_global (entry_at l s)) refl
   where
@@ -81,9 +82,6 @@ defines_is l s = of (is_global (entry_at l s)) refl
         ap (λ n. is_global (entry_at l s) && is_symbol s (definition_by n (best_of n (events (map kept_of l.inputs))))) named
         ∙ ap (λ d. is_global (entry_at l s) && is_symbol s d) (sym (definition_is l (name_at l s)))
     of false global = rw global refl
-
-pub defines_by_rows : (l : Link) (s : SymbolId) → defines_in (map kept_of l.inputs) (event_of l s) ≡ defines l s
-defines_by_rows l s = defines_is l s
 
 common_strength : (carried absolute common weak : Bool) → (common ≡ true → (carried ≡ false) × (absolute ≡ false))
     → (strength_of (if carried then Section else if absolute then Absolute else if common then Common else Nowhere) weak == 2) ≡ common
@@ -192,10 +190,6 @@ common_row l s common =
     let sort : sort_of (object_of l s.file) (entry_at l s) ≡ Common = rw (parts.1, parts.2, common) refl in
     rw sort refl
 
-first_part : (u v : Bool) → (u && v) ≡ true → u ≡ true
-first_part true v e = refl
-first_part false v e = cc
-
 each_common : (l : Link) (xs : List SymbolId) → All (λ s. is_common_of (entry_at l s) ≡ true) xs
     → map common_told (map (event_of l) xs) ≡ map (common_of l) xs
 each_common l [] all = refl
@@ -206,7 +200,7 @@ unfolding chosen_commons
 commons_are l =
     ap (map common_told) (chosen_is l)
     ∙ each_common l (chosen_commons l)
-    (λ k d h. first_part _ _ (filter_passes (λ (s : SymbolId). is_common_of (entry_at l s) && defines l s) (symbols_of l) k d h))
+    (λ k d h. and_left _ _ (filter_passes (λ (s : SymbolId). is_common_of (entry_at l s) && defines l s) (symbols_of l) k d h))
 
 -- a symbol of an object is kept with its row
 pub symbol_kept : (l : Link) (noted : List (List ℕ)) (r : ResolvedRows) (file symbol : ℕ) → IsResolved l noted r → HasSymbol r file symbol
@@ -250,7 +244,7 @@ pub defines_here : (l : Link) (noted : List (List ℕ)) (r : ResolvedRows) (file
 defines_here l noted r file symbol is there =
     ap (defines_in r.files) (symbol_kept l noted r file symbol is there)
     ∙ ap (λ fs. defines_in fs (event_of l (symbol_id file symbol))) is.keeps
-    ∙ defines_by_rows l (symbol_id file symbol)
+    ∙ defines_is l (symbol_id file symbol)
 
 -- the name that is kept of a global symbol is the symbol's own
 pub name_here : (l : Link) (noted : List (List ℕ)) (r : ResolvedRows) (file symbol : ℕ) → IsResolved l noted r → HasSymbol r file symbol

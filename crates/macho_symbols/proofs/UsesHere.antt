@@ -11,20 +11,18 @@ use Rattle.std.proofs.lemmas.Bool.Decides.{nat_tests}
 use Rattle.macho_records.specs.Symbols.{is_global}
 use Rattle.macho_model.specs.declared.targets.Target.TheVariants as target
 use Rattle.macho_model.specs.Links.{Link, Input, Object, Dylib, Stub, no_input, object_of}
-use Rattle.macho_model.specs.Resolution.{SymbolId, ImageBase, entry_at, name_at, definition_of, library_of_input}
-use Rattle.macho_model.specs.steps.Resolved.{DSO_HANDLE}
-use Rattle.macho_model.specs.Resolution.{library_name}
+use Rattle.macho_model.specs.Resolution.{SymbolId, ImageBase, entry_at, name_at, definition_of, library_of_input, library_name}
+use Rattle.macho_model.specs.steps.Resolved.{DSO_HANDLE, is_library}
 use Rattle.macho_model.specs.Needs.{is_imported}
-use Rattle.macho_model.specs.steps.Resolved.{is_library}
-use Rattle.macho_names.specs.declared.notes.Sort.{Sort}
-use Rattle.macho_names.specs.declared.notes.Sort.TheVariants.{Section, Absolute, Common, Offered, Nowhere}
-use Rattle.macho_names.specs.declared.fault.SymbolFault.{SymbolFault}
-use Rattle.macho_names.specs.declared.fault.SymbolFault.TheVariants.{DuplicateSymbol, UndefinedSymbol, ExportListMissing, OutOfMemory}
-use Rattle.macho_names.specs.Kept.{FileRows, kept_of, kept_name, row_of_symbol, no_file}
+use Rattle.macho_symbol_names.specs.declared.notes.Sort.{Sort}
+use Rattle.macho_symbol_names.specs.declared.notes.Sort.TheVariants.{Section, Absolute, Common, Offered, Nowhere}
+use Rattle.macho_symbol_names.specs.declared.fault.SymbolFault.{SymbolFault}
+use Rattle.macho_symbol_names.specs.declared.fault.SymbolFault.TheVariants.{DuplicateSymbol, UndefinedSymbol, ExportListMissing, OutOfMemory}
+use Rattle.macho_symbol_names.specs.Kept.{FileRows, kept_of, kept_name, row_of_symbol, no_file}
 use Rattle.macho_symbols.specs.Kept.{ResolvedRows, IsResolved, HasSymbol, symbol_id, noted_of}
 use Rattle.macho_symbols.specs.Told.{noting, IsDefined, IsUndefined, ImportsAre}
 use Rattle.macho_symbols.specs.declared.solved.Import.{Import}
-use Rattle.macho_names.specs.Events.{Event, event_at, events, best_of, library_text}
+use Rattle.macho_symbol_names.specs.Events.{Event, event_at, events, best_of, library_text}
 use Rattle.macho_symbols.specs.steps.Targets.{event_of, is_next, is_nothing, noting_in}
 use Rattle.macho_symbols.specs.Targets.{defined_as, definition_by, lead_in, led_in, named_in}
 use Rattle.macho_symbols.specs.steps.Solved.{IsFoundIn, IsUndefinedIn, IsImportIn, library_in}
@@ -136,10 +134,6 @@ noted_here l noted r q file symbol is there files notes = record {
 pub same_ok : {X E : Type 0} (r : Result X E) (a b : X) → a ≡ b → IfOk r (λ t. t ≡ a) → IfOk r (λ t. t ≡ b)
 same_ok (Ok x) a b e p = p ∙ e
 same_ok (Err y) a b e p = tt
-
-pub if_err : {X E : Type 0} (P Q : E → Type 0) (r : Result X E) → ((e : E) → P e → Q e) → IfErr r P → IfErr r Q
-if_err P Q (Ok x) f p = tt
-if_err P Q (Err e) f p = f e p
 
 pub both_ok : {X E : Type 0} (r : Result X E) (P Q R : X → Type 0) → ((x : X) → P x → Q x → R x) → IfOk r P → IfOk r Q → IfOk r R
 both_ok (Ok x) P Q R f p q = f x p q

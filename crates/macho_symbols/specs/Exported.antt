@@ -11,7 +11,7 @@ use Rattle.macho_model.specs.Exports.{has_lists, is_listed, IsExported}
 use Rattle.macho_model.specs.Links.{Link}
 use Rattle.macho_model.specs.Resolution.{SymbolId, definition_of, entry_at}
 use Rattle.macho_model.specs.Targets.{definition_target}
-use Rattle.macho_exports.specs.Entries.{ListEntries, IsListOf}
+use Rattle.macho_export_lists.specs.Entries.{ListEntries, IsListOf}
 use Rattle.macho_symbols.specs.declared.exports.ExportName.{ExportName}
 
 -- the export lists of a link are given as one list of their entries, or as none where there are none

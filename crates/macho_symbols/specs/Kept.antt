@@ -2,7 +2,7 @@
 use Rattle.std.specs.Prelude.{◌≡◌, ℕ, ◌<◌, true, List, length, map, is_none, get_or}
 use Rattle.macho_model.specs.Links.{Link}
 use Rattle.macho_model.specs.Resolution.{SymbolId}
-use Rattle.macho_names.specs.Kept.{FileRows, kept_of, no_file}
+use Rattle.macho_symbol_names.specs.Kept.{FileRows, kept_of, no_file}
 use Rattle.macho_symbols.specs.declared.solved.Import.{Import}
 
 -- What resolved symbols keep: the rows of the files, and the names of the imports noted so far.

@@ -6,10 +6,10 @@ use Rattle.std.specs.Str.{bytes_eq}
 use Rattle.macho_model.specs.declared.targets.Target.{Target}
 use Rattle.macho_model.specs.declared.targets.Target.TheVariants as target
 use Rattle.macho_model.specs.Resolution.{SymbolId, Definition, Symbol, Library, ImageBase, same_symbol, is_symbol}
-use Rattle.macho_names.specs.declared.notes.Sort.{Sort}
-use Rattle.macho_names.specs.declared.notes.Sort.TheVariants.{Section, Absolute, Common, Offered, Nowhere}
-use Rattle.macho_names.specs.Kept.{FileRows}
-use Rattle.macho_names.specs.Events.{Event, events, best_of, strength}
+use Rattle.macho_symbol_names.specs.declared.notes.Sort.{Sort}
+use Rattle.macho_symbol_names.specs.declared.notes.Sort.TheVariants.{Section, Absolute, Common, Offered, Nowhere}
+use Rattle.macho_symbol_names.specs.Kept.{FileRows}
+use Rattle.macho_symbol_names.specs.Events.{Event, events, best_of, strength}
 
 abbrev pub id_of : Event → SymbolId
 id_of e = record { file = e.file; symbol = e.at }

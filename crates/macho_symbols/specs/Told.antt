@@ -5,13 +5,12 @@ use Rattle.std.specs.Str.{bytes_eq}
 use Rattle.macho_model.specs.Needs.{is_imported}
 use Rattle.macho_records.specs.Symbols.{common_size_of, common_exponent_of, is_global}
 use Rattle.macho_model.specs.Links.{Link}
-use Rattle.macho_model.specs.Resolution.{SymbolId, entry_at, name_at, definition_of, chosen_commons, Library}
-use Rattle.macho_model.specs.Resolution.{library_name}
+use Rattle.macho_model.specs.Resolution.{SymbolId, entry_at, name_at, definition_of, chosen_commons, Library, library_name}
 use Rattle.macho_model.specs.Faults.{IsDuplicate}
 use Rattle.macho_symbols.specs.declared.solved.Common.{Common}
 use Rattle.macho_symbols.specs.declared.solved.Import.{Import}
-use Rattle.macho_names.specs.declared.fault.SymbolFault.{SymbolFault}
-use Rattle.macho_names.specs.declared.fault.SymbolFault.TheVariants.{DuplicateSymbol, UndefinedSymbol, ExportListMissing, OutOfMemory}
+use Rattle.macho_symbol_names.specs.declared.fault.SymbolFault.{SymbolFault}
+use Rattle.macho_symbol_names.specs.declared.fault.SymbolFault.TheVariants.{DuplicateSymbol, UndefinedSymbol, ExportListMissing, OutOfMemory}
 
 -- a common with its size, rounded up to its alignment, and the exponent of that
 abbrev pub common_of : Link → SymbolId → Common

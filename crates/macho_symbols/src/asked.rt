@@ -1,11 +1,11 @@
 //! Names that export lists ask for: each is to be defined, and each that a library defines is an import.
 ghost use Rattle.std.specs.Prelude.{◌≡◌, OnOk, OnErr, IfErr, All, [], ◌∷◌};
-ghost use Rattle.macho_exports.specs.Entries.{texts_of};
+ghost use Rattle.macho_export_lists.specs.Entries.{texts_of};
 ghost use Rattle.macho_symbols.specs.steps.Solved.{IsSolved, IsUnchanged, HasGrown, HaveNoted, IsMissingIn};
 ghost use Rattle.macho_symbols.specs.Kept.{noted_of};
 
 use crate::solved::{Solved, is_import, is_nothing};
-use macho_names::SymbolFault;
+use macho_symbol_names::SymbolFault;
 
 impl<'data> Solved<'data> {
     /// Notes a name, where a library defines it and it isn't noted yet.

@@ -1,16 +1,16 @@
 //! Which symbols define their names, and the commons among them.
 ghost use Rattle.std.specs.Prelude.{◌≡◌, ◌^◌, ◌<◌, ◌++◌, ◌&&◌, ◌==◌, map, filter, length, true, Some, IfOk, IfErr, OnOk};
 ghost use Rattle.macho_bytes.specs.Numbers.{rounded_up};
-ghost use Rattle.macho_names.specs.Events.{row_at, row_count, event_at, events, events_of_file, best_of, strength};
-ghost use Rattle.macho_names.specs.Found.{AreFound};
-ghost use Rattle.macho_names.specs.Tables.{heads_of, IsKnown};
+ghost use Rattle.macho_symbol_names.specs.Events.{row_at, row_count, event_at, events, events_of_file, best_of, strength};
+ghost use Rattle.macho_symbol_names.specs.Found.{AreFound};
+ghost use Rattle.macho_symbol_names.specs.Tables.{heads_of, IsKnown};
 ghost use Rattle.macho_symbols.specs.Targets.{defines_in, chosen_in};
 ghost use Rattle.macho_symbols.specs.steps.Targets.{is_chosen_in, is_of_object};
 ghost use Rattle.macho_symbols.specs.steps.Solved.{common_told};
 
 use crate::solved::Common;
-use macho_names::{Entry, FileNames, Sort, SymbolFault, Table, note_in, rows_in};
 use macho_records::rounded_up;
+use macho_symbol_names::{Entry, FileNames, Sort, SymbolFault, Table, note_in, rows_in};
 use std::alloc::Global;
 
 /// Whether a row of such a sort defines a name in an object.

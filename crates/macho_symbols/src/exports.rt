@@ -3,19 +3,19 @@ ghost use Rattle.std.specs.Prelude.{◌≡◌, ◌<◌, ℕ, List, All, IfOk, If
 ghost use Rattle.std.specs.List.{list_any};
 ghost use Rattle.std.specs.Str.{bytes_eq};
 ghost use Rattle.std.specs.Option.{option_copied};
-ghost use Rattle.macho_exports.specs.Entries.{texts_of};
+ghost use Rattle.macho_export_lists.specs.Entries.{texts_of};
 ghost use Rattle.macho_symbols.specs.steps.Exporting.{is_listed_in, is_open_in, is_exported_in, IsToldIn, IsPairIn, AreInOrder, AreTold, pair_names, required_in};
 ghost use Rattle.macho_symbols.specs.steps.Solved.{IsSolved, IsMissingIn};
 ghost use Rattle.macho_symbols.specs.Kept.{noted_of};
-ghost use Rattle.macho_names.specs.Tables.{names_of, IsEntryOf};
+ghost use Rattle.macho_symbol_names.specs.Tables.{names_of, IsEntryOf};
 ghost use Rattle.macho_symbols.specs.steps.Targets.{is_missing_in, is_of_object};
 ghost use Rattle.macho_symbols.specs.Exported.{export_names};
 
 use crate::choosing::is_of_object;
 use crate::solved::{Solved, UNNUMBERED, is_nothing};
-use macho_exports::ExportList;
+use macho_export_lists::ExportList;
 use macho_model::Target;
-use macho_names::{Note, Sort, SymbolFault, note_in};
+use macho_symbol_names::{Note, Sort, SymbolFault, note_in};
 use std::alloc::Global;
 
 /// A name that an image exports.

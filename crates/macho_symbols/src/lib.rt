@@ -10,9 +10,9 @@ mod resolver;
 mod solved;
 
 pub use exports::ExportName;
-pub use macho_exports::ExportList;
+pub use macho_export_lists::ExportList;
 pub use macho_model::Target;
-pub use macho_names::SymbolFault;
+pub use macho_symbol_names::SymbolFault;
 pub use resolved::Resolved;
 pub use resolver::Resolver;
 pub use solved::{Common, Import, OwnEntry};

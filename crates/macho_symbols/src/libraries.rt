@@ -3,7 +3,7 @@ ghost use Rattle.std.specs.Prelude.{◌≡◌, map, IfOk};
 ghost use Rattle.std.specs.List.{filter_map};
 ghost use Rattle.macho_symbols.specs.steps.Solved.{install_name_in};
 
-use macho_names::FileNames;
+use macho_symbol_names::FileNames;
 use std::alloc::{AllocError, Global};
 
 /// The install names of the files that are libraries, in order.

@@ -15,9 +15,9 @@ ghost use Rattle.macho_symbols.specs.Told.{CommonsAre, ImportsAre, IsDefined, Is
 use crate::exports::ExportName;
 use crate::libraries::library_names;
 use crate::solved::{Common, Import, Solved};
-use macho_exports::ExportList;
+use macho_export_lists::ExportList;
 use macho_model::Target;
-use macho_names::SymbolFault;
+use macho_symbol_names::SymbolFault;
 use std::alloc::{AllocError, Global};
 use std::marker::Model;
 

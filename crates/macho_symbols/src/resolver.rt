@@ -3,13 +3,13 @@ ghost use Rattle.std.specs.Prelude.{◌≡◌, ℕ, ◌+◌, ◌^◌, ◌-◌, �
 ghost use Rattle.macho_model.specs.Links.{Input, Link, Object, Dylib, Stub};
 ghost use Rattle.macho_model.specs.Resolution.{strong_of};
 ghost use Rattle.macho_symbols.specs.Told.{IsDuplicateOf};
-ghost use Rattle.macho_names.specs.Kept.{Keeps, reading_of};
+ghost use Rattle.macho_symbol_names.specs.Kept.{Keeps, reading_of};
 ghost use Rattle.macho_symbols.specs.Kept.{IsResolved};
 
 use crate::choosing::chosen_commons;
 use crate::resolved::Resolved;
 use crate::solved::{Solved, UNNUMBERED};
-use macho_names::{DefinedStubLibrary, File, FileNames, SymbolFault, Table};
+use macho_symbol_names::{DefinedStubLibrary, File, FileNames, SymbolFault, Table};
 use std::alloc::{AllocError, Global};
 use std::marker::Model;
 
@@ -23,7 +23,7 @@ pub struct Resolver<'data> {
 
 impl<'data> Model for Resolver<'data> {
     ghost use Rattle.std.specs.Prelude.{List, length, ◌<◌, ◌^◌};
-    ghost use Rattle.macho_names.specs.Kept.{FileRows};
+    ghost use Rattle.macho_symbol_names.specs.Kept.{FileRows};
 
     ghost Value = { List FileRows };
 

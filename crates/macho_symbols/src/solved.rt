@@ -1,8 +1,8 @@
 //! What is known once all rows were taken in: where names and symbols lead, and which imports are noted.
 ghost use Rattle.std.specs.Prelude.{◌≡◌, ◌^◌, ◌<◌, ◌++◌, ◌∷◌, [], true, length, map, get_or, OnOk, OnErr, IfOk, IfErr};
 ghost use Rattle.std.specs.Str.{bytes_eq};
-ghost use Rattle.macho_names.specs.Events.{row_at, row_count, event_at};
-ghost use Rattle.macho_names.specs.Tables.{IsEntryOf, names_of};
+ghost use Rattle.macho_symbol_names.specs.Events.{row_at, row_count, event_at};
+ghost use Rattle.macho_symbol_names.specs.Tables.{IsEntryOf, names_of};
 ghost use Rattle.macho_symbols.specs.Targets.{named_in, target_in, own_in, base_target, defines_in, chosen_in, id_of};
 ghost use Rattle.macho_symbols.specs.steps.Targets.{is_next, is_nothing, noting_in};
 ghost use Rattle.macho_symbols.specs.steps.Solved.{IsSolved, IsUnchanged, HasGrown, IsFoundIn, IsUndefinedIn, common_id, library_in, is_before, AreAscending, IsPlaceOf};
@@ -12,7 +12,7 @@ ghost use Rattle.macho_model.specs.Resolution.{same_symbol};
 
 use crate::choosing::is_definition;
 use macho_model::Target;
-use macho_names::{FileNames, Sort, SymbolFault, Table, name_in, note_in};
+use macho_symbol_names::{FileNames, Sort, SymbolFault, Table, name_in, note_in};
 
 /// A symbol of a library that something of the link uses.
 #[derive(Drop)]

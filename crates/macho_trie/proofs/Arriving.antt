@@ -3,21 +3,16 @@
 -- Two names that are equal up to a depth have the same ways up to it, so what is known of the open nodes above that depth
 -- holds for both. The lesser name leaves the way there, at a byte below that of the closed child, or ends there. At the
 -- end only the root is open, and its row is the first of the table.
-use Rattle.std.proofs.Common.{◌≡◌, ℕ, ◌<◌, ◌≤◌, nat_lt, if◌then◌else◌, true, false, List, [], ◌∷◌, ◌++◌, length, take, slice_index, refl}
-use Rattle.std.proofs.Common.{sym, ap, subst, ◌∙◌, arith, inl, inr}
+use Rattle.std.proofs.Common.{◌≡◌, ℕ, ◌<◌, ◌≤◌, nat_lt, if◌then◌else◌, true, false, List, [], ◌∷◌, ◌++◌, length, take, slice_index, refl, sym, ap, subst, ◌∙◌, arith, inl, inr}
 use Rattle.std.proofs.lemmas.Bool.{cases_lt, lt-ltb}
-use Rattle.std.proofs.lemmas.Bool.Decides.{nat_tests}
 use Rattle.std.proofs.lemmas.List.{take-take, get_or-take}
 use Rattle.macho_trie.specs.Trees.{Edges, no_edge, edge, edge_count, BeginsAbove}
 use Rattle.macho_trie.specs.Tables.{first_edges, later_edges, name_at, trees_of}
-use Rattle.macho_trie.specs.steps.Building.{names_along, names_open, AreAbove, BeginsWith, IsOpenAt, IsClosing, IsClosed, IsReady}
-use Rattle.macho_trie.specs.steps.Building.{arrived, AreOpenAt, AreClosing, AreReady, root_node}
+use Rattle.macho_trie.specs.steps.Building.{names_along, names_open, AreAbove, BeginsWith, IsOpenAt, IsClosing, IsClosed, IsReady, arrived, AreOpenAt, AreClosing, AreReady, root_node}
 use Rattle.macho_trie.proofs.Building.{node_count-rows}
 use Rattle.macho_trie.specs.declared.table.Row.{Row}
 use Rattle.macho_trie.specs.declared.build.Open.{Open}
-
-not_below : (a b : ℕ) → b ≤ a → nat_lt a b ≡ false
-not_below a b h = grind (arith, nat_tests)
+use Rattle.macho_bytes.proofs.Groups.{not_below}
 
 -- names that are equal up to a depth are equal up to a lesser one, and have the same bytes below it
 same_way : (n m : List ℕ) (shared depth : ℕ) → take shared n ≡ take shared m → depth ≤ shared → take depth n ≡ take depth m
@@ -144,31 +139,6 @@ names_arrived name count trees (node ∷ nodes) =
       | true ↦ refl
       | false ↦ refl
     ]
-
--- the root alone, before the first name
-pub root_ready : (names : List (List ℕ)) (name : List ℕ) → IsReady names name [] (root_node) []
-root_ready names name = record {
-  sound = tt;
-  within = omega arith;
-  group = record { children = refl; opened = refl; radix = tt };
-  begins = λ h. tt;
-  some = inr refl;
-  above = (refl, refl);
-}
-
--- a name's node may be closed where a lesser name leaves the way above it, and so may a closed node below that depth
-pub closing_at : (names : List (List ℕ)) (symbol least : ℕ) (rows : List Row) (nodes : List Open) → AreOpenAt names symbol rows nodes
-    → least < length (name_at names symbol) → AreClosing names symbol true least rows nodes
-closing_at names symbol least rows [] o deep = absurd o
-closing_at names symbol least rows (node ∷ nodes) o deep = record {
-  here = o.here;
-  sound = o.sound;
-  deep = omega (arith, o.depth);
-  within = omega (arith, o.depth);
-  group = o.group;
-  ends = inl (refl, o.depth);
-  above = o.above;
-}
 
 pub closing_on : (names : List (List ℕ)) (symbol least : ℕ) (rows : List Row) (node : Open) (nodes : List Open)
     → IsClosed names symbol least rows node nodes

@@ -4,21 +4,16 @@
 -- tree with that node as its root, in front of the trees of the nodes above. It hangs at the next open node, or at a new
 -- one where the next name leaves the way. The names at the trees stay the same, but for the one that ends at the node.
 -- A name that is less takes the way up to where both are equal, and its node is then the deepest one.
-use Rattle.std.proofs.Common.{◌≡◌, ◌⊎◌, ℕ, zero, suc, ◌+◌, ◌-◌, ◌<◌, ◌≤◌, nat_lt, Bool, true, false, List, [], ◌∷◌, ◌++◌, length, take}
-use Rattle.std.proofs.Common.{drop, slice_index, slice_range, Option, IsSome, refl, sym, ap, subst, append_assoc, ◌∙◌, arith, inl, inr}
+use Rattle.std.proofs.Common.{◌≡◌, ◌⊎◌, ℕ, zero, suc, ◌+◌, ◌-◌, ◌<◌, ◌≤◌, nat_lt, Bool, true, false, List, [], ◌∷◌, ◌++◌, length, take, drop, slice_index, slice_range, Option, IsSome, refl, sym, ap, subst, append_assoc, ◌∙◌, arith, inl, inr}
 use Rattle.std.proofs.lemmas.Bool.{cases_lt, lt-ltb}
-use Rattle.std.proofs.lemmas.Bool.Decides.{nat_tests}
 use Rattle.std.proofs.lemmas.List.{append-nil, take-take, drop-take, get_or-take, get_or-drop, length-take, length-drop, take-append-drop}
 use Rattle.macho_trie.specs.steps.Symbols.{IsPlain}
 use Rattle.macho_trie.specs.Trees.{Edges, no_edge, edge, edge_count, node_count, IsLabel, BeginsAbove, AreRadix}
 use Rattle.macho_trie.specs.Tables.{first_edges, later_edges, name_at, symbol_at, trees_of}
-use Rattle.macho_trie.specs.steps.Building.{ending, names_along, names_open, IsGroup, AreAbove, BeginsWith, IsClosing, IsClosed}
-use Rattle.macho_trie.specs.steps.Building.{closed_row, hanging_depth, adopted, AreClosed, AreClosedRows}
+use Rattle.macho_trie.specs.steps.Building.{ending, names_along, names_open, IsGroup, AreAbove, BeginsWith, IsClosing, IsClosed, closed_row, hanging_depth, adopted, AreClosed, AreClosedRows}
 use Rattle.macho_trie.specs.declared.table.Row.{Row}
 use Rattle.macho_trie.specs.declared.build.Open.{Open}
-
-not_below : (a b : ℕ) → b ≤ a → nat_lt a b ≡ false
-not_below a b h = grind (arith, nat_tests)
+use Rattle.macho_bytes.proofs.Groups.{not_below}
 
 -- the nodes of some trees and of the others are all nodes, and rows spell one node each
 pub node_count-split : (k : ℕ) (es : Edges) → node_count (first_edges k es) + node_count (later_edges k es) ≡ node_count es

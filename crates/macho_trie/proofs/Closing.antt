@@ -3,15 +3,13 @@
 -- The builder pushes rows and open nodes at the ends of lists that are read backwards. So its last open node is the
 -- deepest one, and the row that it pushes stands in front. A group has fewer than 256 edges, since their labels begin
 -- with rising bytes.
-use Rattle.std.proofs.Common.{◌≡◌, ◌⊎◌, ℕ, ◌+◌, ◌<◌, ◌≤◌, if◌then◌else◌, Bool, true, false, List, [], ◌∷◌, ◌++◌, length, take, reverse}
-use Rattle.std.proofs.Common.{max, slice_index, refl, sym, ap, subst, ◌∙◌, arith, inl, inr}
+use Rattle.std.proofs.Common.{◌≡◌, ◌⊎◌, ℕ, ◌+◌, ◌<◌, ◌≤◌, if◌then◌else◌, Bool, true, false, List, [], ◌∷◌, ◌++◌, length, take, reverse, max, slice_index, refl, sym, ap, subst, ◌∙◌, arith, inl, inr}
 use Rattle.std.proofs.lemmas.Bool.Decides.{nat_tests}
 use Rattle.std.proofs.lemmas.List.{reverse-append, take_all}
 use Rattle.macho_trie.specs.steps.Symbols.{IsPlain}
 use Rattle.macho_trie.specs.Trees.{Edges, no_edge, edge, edge_count, BeginsAbove, AreRadix}
 use Rattle.macho_trie.specs.Tables.{first_edges, later_edges, name_at, symbol_at, trees_of}
-use Rattle.macho_trie.specs.steps.Building.{ending, names_open, IsGroup, IsClosing, closed_row, hanging_depth, adopted, AreClosing}
-use Rattle.macho_trie.specs.steps.Building.{AreClosed, ClosedAs}
+use Rattle.macho_trie.specs.steps.Building.{ending, names_open, IsGroup, IsClosing, closed_row, hanging_depth, adopted, AreClosing, AreClosed, ClosedAs}
 use Rattle.macho_trie.specs.declared.table.Row.{Row}
 use Rattle.macho_trie.specs.declared.build.Open.{Open}
 use Rattle.macho_trie.proofs.Building.{closes, names_closed}
@@ -52,10 +50,6 @@ last_two names symbol terminal least rows all mid back node next last before c =
 pub next_group : (names : List (List ℕ)) (symbol : ℕ) (terminal : Bool) (least : ℕ) (rows : List Row) (node next : Open) (nodes : List Open)
     → IsClosing names symbol terminal least rows node (next ∷ nodes) → IsGroup next (later_edges node.children (trees_of names rows))
 next_group names symbol terminal least rows node next nodes c = c.above.1
-
-pub next_depth : (names : List (List ℕ)) (symbol : ℕ) (terminal : Bool) (least : ℕ) (rows : List Row) (node next : Open) (nodes : List Open)
-    → IsClosing names symbol terminal least rows node (next ∷ nodes) → next.depth < node.depth
-next_depth names symbol terminal least rows node next nodes c = c.above.0
 
 -- the name that ends at the node that is closed
 ending_is : (name : List ℕ) (symbol : ℕ) (terminal : Bool) (node : Open)

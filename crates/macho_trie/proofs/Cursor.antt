@@ -3,8 +3,7 @@
 -- The trees that rows from a place on spell begin with the tree of the row there. Its children are the first trees of the
 -- rows behind it, so the other trees are spelled by the rows after those of its subtree, and their number is known by the
 -- row. So the rows of a node's children are found one after the other.
-use Rattle.std.proofs.Common.{◌≡◌, ℕ, zero, suc, ◌+◌, ◌<◌, ◌≤◌, List, [], ◌∷◌, length, drop, get_or, refl, sym, ap, subst, ◌∙◌, arith}
-use Rattle.std.proofs.Common.{drop-cons, inl, inr}
+use Rattle.std.proofs.Common.{◌≡◌, ℕ, zero, suc, ◌+◌, ◌<◌, ◌≤◌, List, [], ◌∷◌, length, drop, get_or, refl, sym, ap, subst, ◌∙◌, arith, drop-cons, inl, inr}
 use Rattle.std.proofs.lemmas.Bool.{cases_lt}
 use Rattle.std.proofs.lemmas.List.{drop-drop, drop_all, length-drop}
 use Rattle.macho_trie.specs.Trees.{Edges, no_edge, edge, edge_count, node_count}
@@ -76,10 +75,6 @@ pub record IsCursor (names : List (List ℕ)) (rows : List Row) (k c : ℕ) (row
       names rows (row.after)))
   pub count : edge_count (first_edges k (trees_at names rows (row.after))) ≡ k
   pub next : row.after ≤ length rows
-
-first-none : (k : ℕ) → first_edges k no_edge ≡ no_edge
-first-none zero = refl
-first-none (suc k) = refl
 
 pub cursor : (names : List (List ℕ)) (rows : List Row) (k c : ℕ) → AreRows names rows
     → edge_count (first_edges (suc k) (trees_at names rows c)) ≡ suc k

@@ -4,8 +4,7 @@
 -- length, since each node has as many bytes as its size says. The tree that the rows spell is the radix tree of the
 -- names, so the bytes are its exports trie. Terminal parts that are nowhere longer have no greater size, and the one for
 -- the greatest address is at least as long as that for any other.
-use Rattle.std.proofs.Common.{◌≡◌, ◌⊎◌, ◌↔◌, ℕ, zero, suc, ◌+◌, ◌^◌, ◌<◌, ◌≤◌, List, [], ◌∷◌, ◌++◌, length, sum, map, slice_index, get_or, take, drop}
-use Rattle.std.proofs.Common.{Option, Some, None, Contains, refl, sym, ap, subst, ◌∙◌, arith, inl, inr}
+use Rattle.std.proofs.Common.{◌≡◌, ◌⊎◌, ◌↔◌, ℕ, zero, suc, ◌+◌, ◌^◌, ◌<◌, ◌≤◌, List, [], ◌∷◌, ◌++◌, length, sum, map, slice_index, get_or, take, drop, Option, Some, None, Contains, refl, sym, ap, subst, ◌∙◌, arith, inl, inr}
 use Rattle.std.specs.Option.{option_map}
 use Rattle.std.specs.List.{All}
 use Rattle.std.proofs.lemmas.Bool.{cases_lt}
@@ -21,8 +20,7 @@ use Rattle.macho_trie.specs.steps.Says.{IsSound}
 use Rattle.macho_trie.specs.Symbols.{symbols_of, names_of}
 use Rattle.macho_trie.specs.Trees.{Edges, no_edge, edge, LeadsTo, edge_count, node_count}
 use Rattle.macho_trie.specs.Tables.{name_at, trees_of, IsTable}
-use Rattle.macho_trie.specs.Encoding.{export_bytes, terminal_bytes, says_of, edges_bytes, node_bytes, tree_bytes, node_sizes, place_of}
-use Rattle.macho_trie.specs.Encoding.{total_of, terminal_size, AreLeast, IsExportsTrie}
+use Rattle.macho_trie.specs.Encoding.{export_bytes, terminal_bytes, says_of, edges_bytes, node_bytes, tree_bytes, node_sizes, place_of, total_of, terminal_size, AreLeast, IsExportsTrie}
 use Rattle.macho_trie.specs.steps.Layouts.{names_at, says_at, size_at, tree_at, AreLaidOut}
 use Rattle.macho_trie.specs.Tries.{IsTrieOf, IsSizeOf, IsLengthOfTrie, IsShortest, IsRoomFor, AreNoLarger, Reserves, AreReserved, IsTextOf}
 use Rattle.macho_trie.specs.declared.layout.Layout.{Layout}
@@ -323,7 +321,7 @@ found_all trie l places out t same a is small name x c =
     (exports_trie l places out (table_of_trie trie l t same (omega (arith, c.1, names_long l.symbols.now))) a is) small (all_sound
     l.symbols.now) name x c
 
-nothing_read : node_at [] 0 ≡ None
+pub nothing_read : node_at [] 0 ≡ None
 unfolding node_at terminal_at uleb_at
 nothing_read = refl
 

@@ -3,8 +3,7 @@
 -- At a node with nothing left of the name, the relation's first rule alone can have held, since a step takes at least one
 -- byte of what is left. With something left, the second rule alone can have held, and its edge is the one of the step.
 -- So the answer from the node is the answer from the child, or none where there is no node or no step.
-use Rattle.std.proofs.Common.{◌≡◌, ℕ, ◌+◌, List, [], ◌∷◌, length, take, drop, ◌-◌, slice_index, Option, Some, None, IfSome, refl, sym, ap}
-use Rattle.std.proofs.Common.{subst, ◌∙◌, arith}
+use Rattle.std.proofs.Common.{◌≡◌, ℕ, ◌+◌, List, [], ◌∷◌, length, take, drop, ◌-◌, slice_index, Option, Some, None, IfSome, refl, sym, ap, subst, ◌∙◌, arith}
 use Rattle.std.specs.Option.{option_map, option_and_then}
 use Rattle.std.specs.List.{find}
 use Rattle.macho_trie.specs.Exports.{Exported, exported_of}
@@ -13,6 +12,7 @@ use Rattle.std.proofs.lemmas.List.{take_rest}
 use Rattle.macho_trie.specs.Nodes.{Edge, Node, edges_at, terminal_at, node_at}
 use Rattle.macho_trie.specs.Lookup.{leads, Finds, here, along}
 use Rattle.macho_trie.specs.steps.Lookup.{step_of, step_among, IsStep, Visits}
+use Rattle.macho_bytes.proofs.Comparing.{no_elements, same_some}
 
 -- what maps to something is something
 from_map : {X Y : Type 0} (f : X → Y) (o : Option X) (y : Y) → Some y ≡ option_map f o → (x : X) × (o ≡ Some x) × (y ≡ f x)
@@ -22,10 +22,6 @@ from_map f (Some x) y is = (x, refl, cc)
 from_none : {X Y : Type 0} (f : X → Y) (o : Option X) → None ≡ option_map f o → o ≡ None
 from_none f None is = refl
 from_none f (Some x) is = absurd (cc)
-
--- two values of one thing are one value
-same_some : {X : Type 0} (o : Option X) (x y : X) → o ≡ Some x → o ≡ Some y → x ≡ y
-same_some o x y p q = cc
 
 not_both : {X : Type 0} (o : Option X) (x : X) → o ≡ None → o ≡ Some x → ⊥
 not_both o x p q = cc
@@ -55,7 +51,7 @@ visited bytes rest at end e s read is =
     seen es read_es = rw (← read) (rw read_es refl)
 
 pub nothing_found : (bytes rest : List ℕ) (at : ℕ) (x : Exported) → node_at bytes at ≡ None → Finds bytes x at rest → ⊥
-nothing_found bytes rest at x none (here _ _ node is empty exports) = not_both (node_at bytes at) node none is
+nothing_found bytes rest at x none (here _ _ node is no_elements exports) = not_both (node_at bytes at) node none is
 nothing_found bytes rest at x none (along _ _ node e is leading further) = not_both (node_at bytes at) node none is
 
 -- the edge that a step is along
@@ -76,7 +72,7 @@ empty_step rest s t is part = let P : Option (ℕ × ℕ) → Type 0 = λ o. IfS
 pub answer_is : (bytes rest : List ℕ) (at : ℕ) (x : Exported) (e : Option Exported) (s : Option (ℕ × ℕ)) → Visits bytes at rest e s
     → IfSome s (IsStep rest)
     → length rest ≡ 0 → Finds bytes x at rest → e ≡ Some x
-answer_is bytes rest at x e s v part end (here _ _ node is empty exports) =
+answer_is bytes rest at x e s v part end (here _ _ node is no_elements exports) =
     v.exports ∙ ap (λ (n : Node). n.export) (same_some (node_at bytes at) v.node node v.is is) ∙ exports
 answer_is bytes rest at x e s v part end (along _ _ node edge is leading further) =
     let same : v.node ≡ node = same_some (node_at bytes at) v.node node v.is is in
@@ -101,7 +97,7 @@ leads_back bytes rest at child taken x e v further =
 pub leads_to : (bytes rest : List ℕ) (at child taken : ℕ) (x : Exported) (e : Option Exported)
     → Visits bytes at rest e (Some (child, taken))
     → IsStep rest (child, taken) → Finds bytes x at rest → Finds bytes x child (drop taken rest)
-leads_to bytes rest at child taken x e v part (here _ _ node is empty exports) = absurd (omega (arith, ap length empty))
+leads_to bytes rest at child taken x e v part (here _ _ node is no_elements exports) = absurd (omega (arith, ap length no_elements))
 leads_to bytes rest at child taken x e v part (along _ _ node edge is leading further) =
     let same : v.node ≡ node = same_some (node_at bytes at) v.node node v.is is in
     let step : Some (child, taken) ≡ Some (step_of edge)
@@ -112,23 +108,19 @@ leads_to bytes rest at child taken x e v part (along _ _ node edge is leading fu
 
 pub no_step : (bytes rest : List ℕ) (at : ℕ) (x : Exported) (e : Option Exported) → Visits bytes at rest e None → (length rest ≡ 0 → ⊥)
     → Finds bytes x at rest → ⊥
-no_step bytes rest at x e v some (here _ _ node is empty exports) = some (ap length empty)
+no_step bytes rest at x e v some (here _ _ node is no_elements exports) = some (ap length no_elements)
 no_step bytes rest at x e v some (along _ _ node edge is leading further) =
     let same : v.node ≡ node = same_some (node_at bytes at) v.node node v.is is in
     let step : None ≡ Some (step_of edge) = v.leads_on ∙ ap (λ (n : Node). step_among rest n.edges) same
     ∙ step_is rest node.edges edge leading in
     cc
 
--- the steps of the walk: at the end of the name, at a node without a step, and onto the next node
-empty : (xs : List ℕ) → length xs ≡ 0 → xs ≡ []
-empty [] none = refl
-empty (x ∷ xs) none = absurd (omega arith)
-
 pub found_at_end : (bytes rest name : List ℕ) (at : ℕ) (e : Option Export) (s : Option (ℕ × ℕ))
     → Visits bytes at rest (option_map exported_of e) s
     → length rest ≡ 0 → ((x : Exported) → Finds bytes x at rest → Finds bytes x 0 name) → IfSome e (λ x. Finds bytes (exported_of x) 0 name)
 found_at_end bytes rest name at None s v end back = tt
-found_at_end bytes rest name at (Some x) s v end back = back (exported_of x) (answers bytes rest at (exported_of x) s v (empty rest end))
+found_at_end bytes rest name at (Some x) s v end back = back (exported_of x)
+    (answers bytes rest at (exported_of x) s v (no_elements rest end))
 
 pub none_beyond : (bytes rest : List ℕ) (at : ℕ) (x : Exported) (e : Option Exported) (s : Option (ℕ × ℕ)) → Visits bytes at rest e s
     → s ≡ None

@@ -4,8 +4,7 @@
 -- labels begin with different bytes. So that edge is the first, and what is left of the name is found from its child on.
 -- The other way round, the edge that is taken is one of the tree, its label is the name's beginning, and what is found
 -- from its child on is what the rest leads to.
-use Rattle.std.proofs.Common.{◌≡◌, ◌⊎◌, ℕ, ◌+◌, ◌<◌, ◌≤◌, ◌&&◌, nat_lt, nat_eq, Bool, true, false, List, [], ◌++◌, length, take, drop}
-use Rattle.std.proofs.Common.{slice_index, Option, Some, None, refl, sym, ap, subst, ◌∙◌, arith, inl, inr}
+use Rattle.std.proofs.Common.{◌≡◌, ◌⊎◌, ℕ, ◌+◌, ◌<◌, ◌≤◌, ◌&&◌, nat_lt, nat_eq, Bool, true, false, List, [], ◌++◌, length, take, drop, slice_index, Option, Some, None, refl, sym, ap, subst, ◌∙◌, arith, inl, inr}
 use lib.Pointwise.{pointwise, bytes_decides}
 use Rattle.std.specs.Option.{option_map}
 use Rattle.std.specs.List.{find, starts_with}
@@ -17,6 +16,7 @@ use Rattle.macho_trie.specs.Nodes.{Edge, Node, node_at}
 use Rattle.macho_trie.specs.Lookup.{leads, Finds, here, along}
 use Rattle.macho_trie.specs.Trees.{Edges, no_edge, edge, LeadsTo, node_count, IsLabel, BeginsAbove, AreRadix}
 use Rattle.macho_trie.proofs.Readback.{edge_list, node_of}
+use Rattle.macho_bytes.proofs.Comparing.{same_some}
 
 -- the nodes stand at their places
 abbrev pub AllStand : List ℕ → (ℕ → Exported) → (ℕ → ℕ) → ℕ → Edges → Type 0
@@ -26,10 +26,10 @@ AllStand bytes says place i (edge label symbol below rest) =
     × AllStand bytes says place (i + (node_count below + 1)) rest
 
 -- an edge is taken where the name begins with its label
-begins-true : (label left : List ℕ) → starts_with nat_eq (label ++ left) label ≡ true
+pub begins-true : (label left : List ℕ) → starts_with nat_eq (label ++ left) label ≡ true
 begins-true label left = ap (λ (xs : List ℕ). pointwise nat_eq label xs) (take-append_seam label left) ∙ (bytes_decides label label).1 refl
 
-begins-is : (label name : List ℕ) → starts_with nat_eq name label ≡ true → name ≡ label ++ drop (length label) name
+pub begins-is : (label name : List ℕ) → starts_with nat_eq name label ≡ true → name ≡ label ++ drop (length label) name
 begins-is label name begins =
     let cut : label ≡ take (length label) name = (bytes_decides label (take (length label) name)).0 begins in
     sym (take-append-drop (length label) name) ∙ ap (λ (xs : List ℕ). xs ++ drop (length label) name) (sym cut)
@@ -104,9 +104,6 @@ leads_found bytes says place i (edge label symbol below rest) name s r a (inr ot
 from_map : {X Y : Type 0} (f : X → Y) (o : Option X) (y : Y) → option_map f o ≡ Some y → (x : X) × (o ≡ Some x) × (y ≡ f x)
 from_map f None y is = absurd (cc)
 from_map f (Some x) y is = (x, refl, cc)
-
-same_some : {X : Type 0} (o : Option X) (x y : X) → o ≡ Some x → o ≡ Some y → x ≡ y
-same_some o x y p q = cc
 
 pub at_child : (bytes : List ℕ) (says : ℕ → Exported) (place : ℕ → ℕ) (i : ℕ) (symbol : Option ℕ) (below : Edges) (left : List ℕ) (x :
     Exported)

@@ -2,8 +2,7 @@
 --
 -- The names along a way are those that end at an edge's child, those below it, and those at the edges after it. A name
 -- that leads to a symbol is in one of the three, with the way in front, and what is in one of them leads there.
-use Rattle.std.proofs.Common.{◌≡◌, ℕ, List, [], ◌∷◌, ◌++◌, get_or, Option, Some, None, Contains, refl, sym, ap, subst, append_assoc, ◌∙◌}
-use Rattle.std.proofs.Common.{arith, inl, inr}
+use Rattle.std.proofs.Common.{◌≡◌, ℕ, List, [], ◌∷◌, ◌++◌, get_or, Option, Some, None, Contains, refl, sym, ap, subst, append_assoc, ◌∙◌, arith, inl, inr}
 use Rattle.std.proofs.lemmas.List.{append-nil}
 use Rattle.std.proofs.lemmas.List.Elements.{Contains-append_left, Contains-append_right, Contains-append_cases}
 use Rattle.macho_trie.specs.Trees.{Edges, no_edge, edge, LeadsTo}

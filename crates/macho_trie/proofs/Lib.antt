@@ -23,3 +23,14 @@ pub mod Following
 pub mod Standing
 pub mod Encodes
 pub mod EncodingRows
+pub mod Parting
+pub mod Turning
+pub mod Reaching
+pub mod Apart
+pub mod Walking
+pub mod Walked
+pub mod Stacks
+pub mod Firsts
+pub mod EdgeLists
+pub mod Followed
+pub mod WalkRows

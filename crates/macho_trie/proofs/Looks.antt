@@ -4,14 +4,11 @@
 -- list, and the first of them grows. To work off the list keeps what is known of the widths, and their sum rises whenever one of
 -- them grows. It is at most ten for each row. Where none grows, no place is another one, so the list comes out empty. So both come
 -- to an end. Nothing is said of the edges that aren't on the list: that none is too narrow is seen by the last look.
-use Rattle.std.proofs.Common.{◌≡◌, ◌⊎◌, ℕ, ◌+◌, ◌-◌, ◌*◌, ◌<◌, ◌≤◌, List, [], ◌∷◌, length, map, sum, slice_index, refl, sym, ap, subst}
-use Rattle.std.proofs.Common.{◌∙◌, arith, inl, inr}
+use Rattle.std.proofs.Common.{◌≡◌, ◌⊎◌, ℕ, ◌+◌, ◌-◌, ◌*◌, ◌<◌, ◌≤◌, List, [], ◌∷◌, length, map, sum, slice_index, refl, sym, ap, subst, ◌∙◌, arith, inl, inr}
 use Rattle.std.specs.List.{All, range_with_len}
 use Rattle.macho_trie.specs.Trees.{node_count}
 use Rattle.macho_trie.specs.Encoding.{place_of}
-use Rattle.macho_trie.specs.steps.Layouts.{names_at, size_at, tree_at, ArePlaces, AreLaidOut, AreLow, AreLowWidths, AreListed, AreGrown}
-use Rattle.macho_trie.specs.steps.Layouts.{AreSizes, AreSums}
-use Rattle.macho_trie.specs.steps.Layouts.{IsNarrow, needed}
+use Rattle.macho_trie.specs.steps.Layouts.{names_at, size_at, tree_at, ArePlaces, AreLaidOut, AreLow, AreLowWidths, AreListed, AreGrown, AreSizes, AreSums, IsNarrow, needed}
 use Rattle.macho_trie.specs.declared.layout.Layout.{Layout}
 use Rattle.macho_trie.proofs.Building.{node_count-rows}
 use Rattle.macho_trie.proofs.Parents.{sums_are_places}
@@ -76,10 +73,6 @@ fewer_left l widths now long low more =
     let all : 10 * length now ≡ 10 * length l.rows.now = ap (λ (n : ℕ). 10 * n) long in
     omega (arith, bound, all)
 
-pub nothing_in : (xs : List ℕ) → length xs ≡ 0 → xs ≡ []
-nothing_in [] none = refl
-nothing_in (x ∷ xs) none = absurd (omega arith)
-
 -- what is left of a list counts once
 abbrev pub rank : List ℕ → ℕ
 rank [] = 0
@@ -133,31 +126,3 @@ moved_long l was now places moved seen moved_seen at to seen_is moved_is =
     ∙ length-places (place_of (size_at l) (slice_index was) (tree_at l)) places (length l.rows.now) at
     ∙ sym (length-places (place_of (size_at l) (slice_index now) (tree_at l)) moved (length l.rows.now) to)
     ∙ ap (λ (xs : List ℕ). length xs) (sym moved_is)
-
--- the list that a look has made
-pub record AreReady (l : Layout) (at places list : List ℕ) : Type 0 where
-  pub placed : ArePlaces l (slice_index at) places
-  pub low : AreLowWidths l at
-  pub listed : AreListed (length l.rows.now) list
-  pub narrow : IsNarrow places at (slice_index list 0)
-  pub some : 1 ≤ length list
-
-pub ready : (l : Layout) (widths seen placed places at list : List ℕ) → AreSeen l widths seen placed places → AreLowWidths l widths
-    → at ≡ widths
-    → 1 ≤ length list → All (IsNarrow placed seen) list → AreListed (length seen) list → AreReady l at places list
-ready l widths seen placed places at list s low at_is some all listed =
-    let P : List ℕ → Type 0 = λ ws. ArePlaces l (slice_index ws) places in
-    let W : List ℕ → Type 0 = λ ws. AreLowWidths l ws in
-    let L : ℕ → Type 0 = λ n. AreListed n list in
-    let N : List ℕ × List ℕ → Type 0 = λ p. IsNarrow p.0 p.1 (slice_index list 0) in
-    let both : (let p : List ℕ × List ℕ = (placed, seen) in p) ≡ (places, at) = pair s.placed_is (s.seen_is ∙ sym at_is) in
-    record {
-      placed = subst P (sym at_is) s.under;
-      low = subst W (sym at_is) low;
-      listed = subst L (ap length s.seen_is ∙ low.long) listed;
-      narrow = subst N both (all 0 0 some);
-      some = some;
-    }
-  where
-    pair : {A B : Type 0} {a b : A} {c d : B} → a ≡ b → c ≡ d → (let r : A × B = (a, c) in r ≡ (b, d))
-    pair p q = cc

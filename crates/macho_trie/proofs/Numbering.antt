@@ -3,8 +3,7 @@
 -- While the table is built, a row tells how many rows stand behind its subtree, since these are there already. The rows behind
 -- a row spell the trees of its children and those beside it, one node each. So with n rows in all, those that stand behind the
 -- subtree begin at n less their number, which is the row itself and the nodes of its children further on.
-use Rattle.std.proofs.Common.{◌≡◌, ℕ, zero, suc, ◌+◌, ◌<◌, ◌≤◌, false, List, [], ◌∷◌, length, drop, get_or, refl, sym, ap, subst, ◌∙◌}
-use Rattle.std.proofs.Common.{arith}
+use Rattle.std.proofs.Common.{◌≡◌, ℕ, zero, suc, ◌+◌, ◌<◌, ◌≤◌, false, List, [], ◌∷◌, length, drop, get_or, refl, sym, ap, subst, ◌∙◌, arith}
 use Rattle.std.specs.List.{All}
 use Rattle.std.proofs.lemmas.List.{length-map, length-drop, get_or-map, drop-map}
 use Rattle.macho_trie.specs.Trees.{Edges, edge, node_count}

@@ -4,8 +4,7 @@
 -- that it leaves grows by d bytes, and all nodes together grow by d bytes. So no other node has another size, and the sizes are
 -- kept by one sum. Each row but the first is a child of some row: else no size would change with its width, but their sum does.
 -- So when the children of all rows are named, each has a parent.
-use Rattle.std.proofs.Common.{◌≡◌, ◌⊎◌, ℕ, zero, suc, ◌+◌, ◌<◌, ◌≤◌, List, [], ◌∷◌, length, take, sum, map, set, slice_index}
-use Rattle.std.proofs.Common.{replicate, get_or, Option, refl, sym, ap, subst, ◌∙◌, arith, inl, inr}
+use Rattle.std.proofs.Common.{◌≡◌, ◌⊎◌, ℕ, zero, suc, ◌+◌, ◌<◌, ◌≤◌, List, [], ◌∷◌, length, take, sum, map, set, slice_index, replicate, get_or, Option, refl, sym, ap, subst, ◌∙◌, arith, inl, inr}
 use Rattle.std.specs.List.{range_with_len}
 use Rattle.std.proofs.lemmas.Bool.{cases_lt}
 use Rattle.std.proofs.lemmas.List.{length-set, length-replicate, get_or-set_same, get_or-set_other, ext_get_or, take_all}
@@ -16,13 +15,13 @@ use Rattle.macho_trie.specs.Tables.{first_edges, label_of, symbol_at, row_at, tr
 use Rattle.macho_trie.specs.Encoding.{edges_size, node_sizes, place_of}
 use Rattle.macho_trie.specs.declared.table.Row.{Row}
 use Rattle.macho_trie.specs.declared.layout.Layout.{Layout}
-use Rattle.macho_trie.specs.steps.Layouts.{names_at, size_at, tree_at, children_of, IsLaid, IsChild, AreNamed, AreParents, AreSizes}
-use Rattle.macho_trie.specs.steps.Layouts.{AreSums, ArePlaces, IsLookedAt}
+use Rattle.macho_trie.specs.steps.Layouts.{names_at, size_at, tree_at, children_of, IsLaid, IsChild, AreNamed, AreParents, AreSizes, AreSums, ArePlaces, IsLookedAt}
 use Rattle.macho_trie.proofs.Building.{node_count-rows}
 use Rattle.macho_trie.proofs.Cursor.{IsCursor}
 use Rattle.macho_trie.proofs.Sizes.{length-node_sizes, node_size_at}
-use Rattle.macho_trie.proofs.Widths.{AreAtMost, sum_cons, sum-at_most, node_sizes-grow}
+use Rattle.macho_trie.proofs.Widths.{AreAtMost, sum-at_most, node_sizes-grow}
 use Rattle.macho_trie.proofs.Raising.{IsRaised, raised_set, edges_size-apart, place-raised}
+use Rattle.macho_bytes.proofs.Maps.{sum-cons}
 
 -- numbers that are at most others are these, where their sum is not less
 same_sum : (xs ys : List ℕ) → length xs ≡ length ys → AreAtMost xs ys → sum ys ≤ sum xs → ys ≡ xs
@@ -31,9 +30,9 @@ same_sum [] (y ∷ ys) same most less = absurd (omega arith)
 same_sum (x ∷ xs) [] same most less = absurd (omega arith)
 same_sum (x ∷ xs) (y ∷ ys) same most less =
     let rest = sum-at_most xs ys most.1 in
-    let first : y ≡ x = omega (arith, most.0, rest, sum_cons x xs, sum_cons y ys, less) in
+    let first : y ≡ x = omega (arith, most.0, rest, sum-cons x xs, sum-cons y ys, less) in
     ap (λ (n : ℕ). n ∷ ys) first
-    ∙ ap (λ (zs : List ℕ). x ∷ zs) (same_sum xs ys (omega arith) most.1 (omega (arith, most.0, sum_cons x xs, sum_cons y ys, less)))
+    ∙ ap (λ (zs : List ℕ). x ∷ zs) (same_sum xs ys (omega arith) most.1 (omega (arith, most.0, sum-cons x xs, sum-cons y ys, less)))
 
 at_most-set : (xs ys : List ℕ) (p v : ℕ) → AreAtMost xs ys → v ≤ slice_index ys p → AreAtMost (set xs p v) ys
 at_most-set [] ys p v most there = tt

@@ -4,9 +4,7 @@
 -- terminal part between the two places is the one that was written, and it says what was exported: its numbers are
 -- read, and the name of a reexport ends at the NUL behind it. The byte behind the part is the number of edges, and each edge
 -- is its label up to the NUL, which has none itself, and the number of its child's place.
-use Rattle.std.proofs.Common.{◌≡◌, ℕ, suc, ◌+◌, ◌-◌, ◌^◌, ◌<◌, ◌≤◌, ◌==◌, true, false, List, [], ◌∷◌, ◌++◌, length, take, drop}
-use Rattle.std.proofs.Common.{slice_index, slice_range, get_or, Option, Some, None, IfSome, refl, sym, ap, append_assoc, ◌∙◌, arith}
-use Rattle.std.proofs.Common.{eq-eqb}
+use Rattle.std.proofs.Common.{◌≡◌, ℕ, suc, ◌+◌, ◌-◌, ◌^◌, ◌<◌, ◌≤◌, ◌==◌, true, false, List, [], ◌∷◌, ◌++◌, length, take, drop, slice_index, slice_range, get_or, Option, Some, None, IfSome, refl, sym, ap, append_assoc, ◌∙◌, arith, eq-eqb}
 use Rattle.std.specs.Option.{option_map}
 use Rattle.std.proofs.lemmas.Bool.{lt-ltb}
 use Rattle.std.proofs.lemmas.Bool.Decides.{nat_tests}

@@ -3,38 +3,16 @@
 -- Closing a further node keeps the names that are in the tree, so after all of them the tree has these and the one that
 -- ended at the first. Where the deepest node is of depth 0, no node can be above it, so it is the root, and no tree is
 -- left beside its children.
-use Rattle.std.proofs.Common.{◌≡◌, ℕ, suc, ◌+◌, ◌-◌, ◌<◌, ◌≤◌, nat_lt, if◌then◌else◌, Bool, true, false, List, [], ◌∷◌, ◌++◌, length}
-use Rattle.std.proofs.Common.{take, slice_range, reverse, Option, refl, sym, ap, subst, ◌∙◌, arith}
+use Rattle.std.proofs.Common.{◌≡◌, ℕ, suc, ◌+◌, ◌-◌, ◌<◌, ◌≤◌, nat_lt, if◌then◌else◌, Bool, true, false, List, [], ◌∷◌, ◌++◌, length, take, slice_range, reverse, Option, refl, sym, ap, subst, ◌∙◌, arith}
 use Rattle.std.proofs.lemmas.Bool.{lt-ltb}
-use Rattle.std.proofs.lemmas.Bool.Decides.{nat_tests}
 use Rattle.macho_trie.specs.Trees.{Edges, no_edge, edge}
 use Rattle.macho_trie.specs.Tables.{first_edges, later_edges, name_at, symbol_at, trees_of}
-use Rattle.macho_trie.specs.steps.Building.{ending, names_along, AreAbove, IsRoot, closed_row, deepest, arrived, AreOpenAt, AreClosing}
-use Rattle.macho_trie.specs.steps.Building.{AreClosed, AreReady, AreRoot, AreClosedRows, ClosedAs, ArrivedAs, RootedAs, numbered_rows}
+use Rattle.macho_trie.specs.steps.Building.{ending, names_along, AreAbove, IsRoot, closed_row, deepest, arrived, AreOpenAt, AreClosing, AreClosed, AreReady, AreRoot, AreClosedRows, ClosedAs, ArrivedAs, RootedAs, numbered_rows}
 use Rattle.macho_trie.specs.declared.table.Row.{Row}
 use Rattle.macho_trie.specs.declared.build.Open.{Open}
 use Rattle.macho_trie.proofs.Numbering.{trees-numbered, numbered_sound}
-use Rattle.macho_trie.proofs.Arriving.{arrives, names_arrived, closing_on}
+use Rattle.macho_trie.proofs.Arriving.{arrives, names_arrived}
 use Rattle.macho_trie.proofs.Closing.{reverse-last}
-
--- one node more is closed
-pub closes_on : (names same : List (List ℕ)) (symbol least : ℕ) (before rows next : List Row) (was now after : List Open) → same ≡ names
-    → ClosedAs names symbol true least before was rows now → ClosedAs same symbol false least rows now next after
-    → ClosedAs same symbol true least before was next after
-closes_on names same symbol least before rows next was now after is first further =
-    let F : List (List ℕ) → Type 0 = λ ns. ClosedAs ns symbol true least before was rows now in
-    let moved : ClosedAs same symbol true least before was rows now = subst F (sym is) first in
-    record { closed = further.closed; built = further.built ∙ moved.built }
-
-pub may_close : (names : List (List ℕ)) (symbol least : ℕ) (rows : List Row) (nodes : List Open) → AreClosed names symbol least rows nodes
-    → least < deepest nodes → AreClosing names symbol false least rows nodes
-may_close names symbol least rows [] c deep = absurd c
-may_close names symbol least rows (node ∷ nodes) c deep = closing_on names symbol least rows node nodes c deep
-
-pub no_deeper : (names : List (List ℕ)) (symbol least : ℕ) (rows : List Row) (nodes : List Open) → AreClosed names symbol least rows nodes
-    → deepest nodes ≤ least → deepest nodes ≡ least
-no_deeper names symbol least rows [] c low = absurd c
-no_deeper names symbol least rows (node ∷ nodes) c low = omega (arith, c.deep)
 
 -- on to a name, with a new node or without
 pub arrives_as : (names same : List (List ℕ)) (symbol : ℕ) (before rows : List Row) (was now : List Open) → symbol < length names
@@ -55,14 +33,6 @@ pub arrives_deeper : (names : List (List ℕ)) (name : List ℕ) (before : List 
     → deepest was < length name → arrived (length name) count was ≡ record { depth = length name; children = 0; opened = count } ∷ was
 arrives_deeper names name before [] count r deep = absurd r
 arrives_deeper names name before (node ∷ nodes) count r deep = rw (lt-ltb node.depth (length name) deep) refl
-
-pub arrives_same : (names : List (List ℕ)) (name : List ℕ) (before : List Row) (was : List Open) (count : ℕ)
-    → AreReady names name before was
-    → length name ≤ deepest was → arrived (length name) count was ≡ was
-arrives_same names name before [] count r deep = absurd r
-arrives_same names name before (node ∷ nodes) count r deep =
-    let past : nat_lt node.depth (length name) ≡ false = grind (arith, nat_tests) in
-    rw past refl
 
 -- nothing is above the root
 above_none : (name : List ℕ) (depth : ℕ) (trees : Edges) (nodes : List Open) → depth ≡ 0 → AreAbove name depth trees nodes
@@ -202,19 +172,3 @@ rooted_after names symbol terminal rows pushed after all mid node last r row_is 
     let O : List Open → Type 0 = λ os. RootedAs names symbol terminal (reverse rows) os
     (numbered_rows (suc (length (reverse rows))) (closed_row symbol terminal 0 node ∷ reverse rows)) in
     subst R (sym all_rows) (subst O (sym alone) (rooted names symbol terminal (reverse rows) node (subst I at.alone at)))
-
--- the root after the other nodes
-pub rooted_on : (names same : List (List ℕ)) (symbol : ℕ) (before rows : List Row) (was now : List Open) (after : List Row) → same ≡ names
-    → ClosedAs same symbol true 0 before was rows now → RootedAs same symbol false rows now after
-    → RootedAs names symbol true before was after
-rooted_on names same symbol before rows was now after is first last =
-    let R : List (List ℕ) → Type 0 = λ ns. RootedAs ns symbol true before was after in
-    subst R is (record {
-      sound = last.sound;
-      mark = last.mark;
-      below = last.below;
-      root = last.root;
-      radix = last.radix;
-      built =
-          last.built ∙ first.built;
-    })

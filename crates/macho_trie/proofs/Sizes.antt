@@ -2,16 +2,14 @@
 --
 -- A row's tree stands before the trees behind it, its children first. So the sizes of the nodes in preorder are those of
 -- the rows in order, and the edges of a row are those of its children's rows, one after the other.
-use Rattle.std.proofs.Common.{◌≡◌, ℕ, zero, suc, ◌+◌, ◌-◌, ◌<◌, ◌≤◌, List, [], ◌∷◌, ◌++◌, length, drop, map, slice_index}
-use Rattle.std.proofs.Common.{get_or, Option, Some, true, refl, sym, ap, subst, append_assoc, ◌∙◌, arith}
+use Rattle.std.proofs.Common.{◌≡◌, ℕ, zero, suc, ◌+◌, ◌-◌, ◌<◌, ◌≤◌, List, [], ◌∷◌, ◌++◌, length, drop, map, slice_index, get_or, Option, Some, true, refl, sym, ap, subst, append_assoc, ◌∙◌, arith}
 use Rattle.std.proofs.lemmas.List.{length-take, length-drop, length-append, get_or-drop, get_or-map}
 use Rattle.macho_bytes.specs.Uleb.{uleb_of}
 use Rattle.macho_trie.specs.Exports.{Exported, as_value}
 use Rattle.macho_trie.specs.Says.{symbol_of, said_of}
 use Rattle.macho_trie.specs.declared.symbols.Symbol.{Symbol}
 use Rattle.macho_trie.specs.Trees.{Edges, no_edge, edge, edge_count, node_count}
-use Rattle.macho_trie.specs.Tables.{first_edges, later_edges, label_of, symbol_at, trees_of, name_at, row_at, trees_from, children_at}
-use Rattle.macho_trie.specs.Tables.{IsRow, SpellTrees, AreRows}
+use Rattle.macho_trie.specs.Tables.{first_edges, later_edges, label_of, symbol_at, trees_of, name_at, row_at, trees_from, children_at, IsRow, SpellTrees, AreRows}
 use Rattle.macho_trie.specs.Encoding.{edges_size, node_sizes, says_of, export_bytes, terminal_size}
 use Rattle.macho_trie.specs.declared.table.Row.{Row}
 use Rattle.macho_trie.proofs.Cursor.{cursor, row_sound, trees_cons, IsCursor}
@@ -71,19 +69,6 @@ counted_at names rows width row left child size sound some c =
     let is : left ≡ suc (left - 1) = omega arith in
     let Count : ℕ → Type 0 = λ n. edge_count (first_edges n (trees_from names rows child)) ≡ n in
     cursor names rows (left - 1) child sound (subst Count is c.count)
-
--- the sizes of a row's tree and of those behind it are those of all: the row's own, and then those of the rows behind
-edges_size-split : (width : ℕ → ℕ) (i k : ℕ) (es : Edges)
-    → edges_size width i (first_edges k es) + edges_size width (i + node_count (first_edges k es)) (later_edges k es) ≡ edges_size
-    width i es
-edges_size-split width i zero es =
-    let same : i + 0 ≡ i = omega arith in
-    omega (arith, ap (λ (n : ℕ). edges_size width n es) same)
-edges_size-split width i (suc k) no_edge = refl
-edges_size-split width i (suc k) (edge label symbol below rest) =
-    let same : i + (node_count below + 1) + node_count (first_edges k rest) ≡ i + (1 + (node_count below + node_count (first_edges k
-    rest))) = omega arith in
-    omega (arith, edges_size-split width (i + (node_count below + 1)) k rest, ap (λ (n : ℕ). edges_size width n (later_edges k rest)) same)
 
 node_sizes-split : (size : Option ℕ → ℕ) (width : ℕ → ℕ) (i k : ℕ) (es : Edges)
     → node_sizes size width i (first_edges k es) ++ node_sizes size width (i + node_count (first_edges k es)) (later_edges k es) ≡

@@ -4,8 +4,7 @@
 -- less than the first. Were their names equal, they would be one name with one number, since names are distinct; but
 -- the numbers of two places differ. So the first name is the lesser one. Two such names are equal up to the first byte in
 -- which they differ, or up to the end of the first one, and there the first one's byte is the lesser.
-use Rattle.std.proofs.Common.{◌≡◌, ◌≢◌, ◌⊎◌, ℕ, zero, suc, ◌+◌, ◌<◌, ◌≤◌, ◌==◌, true, false, nat_lt, List, [], ◌∷◌, ◌++◌, length, take}
-use Rattle.std.proofs.Common.{map, slice_index, get_or, Contains, IsPermutation, refl, sym, ap, subst, ◌∙◌, arith, inl, inr, Bor}
+use Rattle.std.proofs.Common.{◌≡◌, ◌≢◌, ◌⊎◌, ℕ, zero, suc, ◌+◌, ◌<◌, ◌≤◌, ◌==◌, true, false, nat_lt, List, [], ◌∷◌, ◌++◌, length, take, map, slice_index, get_or, Contains, IsPermutation, refl, sym, ap, subst, ◌∙◌, arith, inl, inr, Bor}
 use Rattle.std.specs.List.{AllPairs, range_with_len}
 use Rattle.std.specs.List.Sorted.{IsSorted}
 use Rattle.std.specs.Cmp.Lexicographic.{slice_cmp}

@@ -3,8 +3,7 @@
 -- As with sizes: the bytes of the nodes in preorder are those of the rows in order, and the edges of a row are those of its
 -- children's rows, one after the other. What is written so far and the bytes of what is left are the bytes of all. A node is put
 -- where the one before it ends, so that all of them are one text at the place of the first.
-use Rattle.std.proofs.Common.{◌≡◌, ℕ, zero, suc, ◌+◌, ◌-◌, ◌<◌, ◌≤◌, List, [], ◌∷◌, ◌++◌, length, drop, true, Option, Some, refl, sym, ap}
-use Rattle.std.proofs.Common.{subst, append_assoc, ◌∙◌, arith}
+use Rattle.std.proofs.Common.{◌≡◌, ℕ, zero, suc, ◌+◌, ◌-◌, ◌<◌, ◌≤◌, List, [], ◌∷◌, ◌++◌, length, drop, true, Option, Some, refl, sym, ap, subst, append_assoc, ◌∙◌, arith}
 use Rattle.std.specs.Option.{option_map}
 use Rattle.std.proofs.lemmas.List.{append-nil, length-append}
 use Rattle.macho_bytes.specs.Texts.{put}

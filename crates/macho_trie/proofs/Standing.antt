@@ -3,23 +3,22 @@
 -- With consistent widths a node has as many bytes as its size says, so the place of a node, which is the sum of the sizes of
 -- those before it, is where its bytes begin. Each node is read there: the places that edges name are within the bytes,
 -- so they are numbers of 64 bits, and so is the size of each terminal part.
-use Rattle.std.proofs.Common.{◌≡◌, ℕ, suc, ◌+◌, ◌^◌, ◌<◌, ◌≤◌, List, [], ◌∷◌, ◌++◌, length, take, drop, sum, get_or, Option, Some, None}
-use Rattle.std.proofs.Common.{IfSome, Contains, refl, sym, ap, subst, append_assoc, ◌∙◌, arith, inl, inr}
+use Rattle.std.proofs.Common.{◌≡◌, ℕ, suc, ◌+◌, ◌^◌, ◌<◌, ◌≤◌, List, [], ◌∷◌, ◌++◌, length, take, drop, sum, get_or, Option, Some, None, IfSome, Contains, refl, sym, ap, subst, append_assoc, ◌∙◌, arith, inl, inr}
 use Rattle.std.specs.Option.{option_map}
 use Rattle.std.proofs.lemmas.List.{append-nil, length-append, take-append-le, get_or_default}
 use Rattle.std.proofs.Math.Seq.{take-append-add}
-use Rattle.std.proofs.lemmas.List.Sums.{sum_by-cons, sum_by-append, sum_by-take-le}
+use Rattle.std.proofs.lemmas.List.Sums.{sum_by-append, sum_by-take-le}
 use Rattle.macho_bytes.specs.Uleb.{uleb_of}
 use Rattle.macho_trie.specs.Exports.{Exported, as_value}
 use Rattle.macho_trie.specs.steps.Says.{IsSound}
 use Rattle.macho_trie.specs.Nodes.{node_at}
 use Rattle.macho_trie.specs.Lookup.{Finds, here, along, trie_finds}
 use Rattle.macho_trie.specs.Trees.{Edges, no_edge, edge, LeadsTo, edge_count, node_count, AreRadix}
-use Rattle.macho_trie.specs.Encoding.{export_bytes, terminal_bytes, says_of, edges_bytes, node_bytes, tree_bytes, edges_size, node_sizes}
-use Rattle.macho_trie.specs.Encoding.{place_of, total_of, terminal_size, IsExportsTrie}
+use Rattle.macho_trie.specs.Encoding.{export_bytes, terminal_bytes, says_of, edges_bytes, node_bytes, tree_bytes, edges_size, node_sizes, place_of, total_of, terminal_size, IsExportsTrie}
 use Rattle.macho_trie.proofs.Sizes.{length-node_sizes}
 use Rattle.macho_trie.proofs.Readback.{drop_more, node_here, node_of}
 use Rattle.macho_trie.proofs.Following.{AllStand, leads_found, found_leads, at_child}
+use Rattle.macho_bytes.proofs.Maps.{sum-cons}
 
 -- widths are those of the places, in a range of numbers
 abbrev pub AreFitting : (ℕ → ℕ) → (ℕ → ℕ) → ℕ → Edges → Type 0
@@ -47,9 +46,6 @@ node_long says place width i symbol below f =
       length-append (terminal_bytes (option_map says symbol)) (edge_count below ∷ edges_bytes place (i + 1) below),
       edges_long place width (i + 1) below f,
     )
-
-sum-cons : (x : ℕ) (xs : List ℕ) → sum (x ∷ xs) ≡ x + sum xs
-sum-cons x xs = sum_by-cons (λ y. y) x xs
 
 sum-append : (xs ys : List ℕ) → sum (xs ++ ys) ≡ sum xs + sum ys
 sum-append xs ys = sum_by-append (λ y. y) xs ys

@@ -3,8 +3,7 @@
 -- The nodes below the depth that both names share are closed, which puts the greater name into the tree, and the lesser
 -- name's node is reached from there. After each step the name at hand and the names in the tree are a tail of the sorted
 -- list. At the end they are the whole list, so a name leads to a symbol exactly where the list has the pair.
-use Rattle.std.proofs.Common.{◌≡◌, ℕ, suc, ◌+◌, ◌-◌, ◌<◌, ◌≤◌, true, List, [], ◌∷◌, ◌++◌, length, drop, get_or, Result, Ok, Err, OnOk}
-use Rattle.std.proofs.Common.{IfOk, Contains, refl, sym, ap, subst, ◌∙◌, arith, map, Bor, drop-cons}
+use Rattle.std.proofs.Common.{◌≡◌, ℕ, suc, ◌+◌, ◌-◌, ◌<◌, ◌≤◌, true, List, [], ◌∷◌, ◌++◌, length, drop, get_or, Result, Ok, Err, OnOk, IfOk, Contains, refl, sym, ap, subst, ◌∙◌, arith, map, Bor, drop-cons}
 use Rattle.std.proofs.Math.ListN.{get_or-map}
 use Rattle.std.proofs.lemmas.List.{get_or_default, length-map, drop_all}
 use Rattle.std.specs.Cmp.Lexicographic.{slice_cmp}
@@ -13,8 +12,7 @@ use Rattle.std.specs.declared.cmp.Ordering.TheVariants.{Less}
 use Rattle.std.specs.declared.alloc.AllocError.{AllocError}
 use Rattle.macho_trie.specs.Trees.{no_edge, LeadsTo}
 use Rattle.macho_trie.specs.Tables.{name_at, trees_of, IsTable}
-use Rattle.macho_trie.specs.steps.Building.{names_along, names_open, deepest, AreOpenAt, AreClosed, AreReady, ClosedAs, ArrivedAs}
-use Rattle.macho_trie.specs.steps.Building.{StepsAs, RootedAs, root_node}
+use Rattle.macho_trie.specs.steps.Building.{names_along, names_open, deepest, AreOpenAt, AreClosed, AreReady, ClosedAs, ArrivedAs, StepsAs, RootedAs, root_node}
 use Rattle.macho_trie.specs.steps.Sorting.{pair_at, AreSorted, AreShared}
 use Rattle.macho_trie.specs.Sorting.{HaveNoNul}
 use Rattle.macho_trie.specs.Exports.{HasNoNul}

@@ -2,8 +2,7 @@
 --
 -- The part is read by two numbers and, for a reexport, a name. Each lemma here follows one way through the definition:
 -- the first number isn't there, the second isn't, there is no reexport, the name has no end, or all stands.
-use Rattle.std.proofs.Common.{◌≡◌, ℕ, ◌+◌, ◌-◌, ◌<◌, ◌≤◌, ◌/◌, ◌%◌, ◌==◌, nat_lt, true, false, List, length, take, drop, slice_index}
-use Rattle.std.proofs.Common.{slice_range, Option, Some, None, refl, sym, ap, ◌∙◌, arith, eq-eqb}
+use Rattle.std.proofs.Common.{◌≡◌, ℕ, ◌+◌, ◌-◌, ◌<◌, ◌≤◌, ◌/◌, ◌%◌, ◌==◌, nat_lt, true, false, List, length, take, drop, slice_index, slice_range, Option, Some, None, refl, sym, ap, ◌∙◌, arith, eq-eqb}
 use Rattle.std.specs.Option.{option_map}
 use Rattle.std.proofs.lemmas.Bool.{lt-ltb}
 use Rattle.std.proofs.lemmas.Bool.Decides.{nat_tests}
@@ -13,9 +12,7 @@ use Rattle.macho_bytes.specs.Uleb.{uleb_at}
 use Rattle.macho_bytes.proofs.Names.{name_of-ends, name_of-whole}
 use Rattle.macho_trie.specs.Exports.{Exported, as_value, as_reexport}
 use Rattle.macho_trie.specs.Nodes.{ended_name, export_with, export_in, terminal_between, terminal_at}
-
-not_below : (a b : ℕ) → b ≤ a → nat_lt a b ≡ false
-not_below a b h = grind (arith, nat_tests)
+use Rattle.macho_bytes.proofs.Groups.{not_below}
 
 -- a name that ends before the end of the bytes
 pub name_ends : (bytes : List ℕ) (k : ℕ) → k < length bytes → ((i : ℕ) → i < k → slice_index bytes i ≡ 0 → ⊥) → slice_index bytes k ≡ 0

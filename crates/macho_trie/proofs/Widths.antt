@@ -4,10 +4,8 @@
 -- them is at most that under those, so what it needs is at most what they give. So widths that are raised to what the
 -- present places need stay at most any that are wide enough. They also stay at most what the present places need, since
 -- places only grow. When no edge is too narrow, each width is what its place needs.
-use Rattle.std.proofs.Common.{◌≡◌, ◌⊎◌, ℕ, zero, suc, ◌+◌, ◌*◌, ◌<◌, ◌≤◌, List, [], ◌∷◌, ◌++◌, length, take, sum, map, slice_index}
-use Rattle.std.proofs.Common.{replicate, Option, sym, ap, ◌∙◌, arith, inl, inr}
+use Rattle.std.proofs.Common.{◌≡◌, ◌⊎◌, ℕ, zero, suc, ◌+◌, ◌*◌, ◌<◌, ◌≤◌, List, [], ◌∷◌, ◌++◌, length, take, sum, map, slice_index, replicate, Option, sym, ap, ◌∙◌, arith, inl, inr}
 use Rattle.std.specs.List.{range_with_len}
-use Rattle.std.proofs.lemmas.List.Sums.{sum_by-cons}
 use Rattle.std.proofs.lemmas.List.FromFn.{get_or-map-range_with_len, length-map-range_with_len}
 use Rattle.macho_bytes.specs.Uleb.{uleb_of}
 use Rattle.macho_bytes.proofs.Ulebs.{length-uleb_of, uleb_of-grows}
@@ -15,6 +13,7 @@ use Rattle.macho_trie.specs.Trees.{Edges, no_edge, edge, node_count}
 use Rattle.macho_trie.specs.Encoding.{edges_size, node_sizes, place_of, total_of, AreWide, AreLeast}
 use Rattle.macho_trie.proofs.Sizes.{length-node_sizes}
 use Rattle.macho_trie.specs.steps.Layouts.{needed, AreLow}
+use Rattle.macho_bytes.proofs.Maps.{sum-cons}
 
 -- each number of a list is at most that of another one
 abbrev pub AreAtMost : List ℕ → List ℕ → Type 0
@@ -28,9 +27,6 @@ at_most-append [] (y ∷ ys) us vs same a b = absurd (omega arith)
 at_most-append (x ∷ xs) [] us vs same a b = absurd a
 at_most-append (x ∷ xs) (y ∷ ys) us vs same a b = (a.0, at_most-append xs ys us vs (omega arith) a.1 b)
 
-pub sum_cons : (x : ℕ) (xs : List ℕ) → sum (x ∷ xs) ≡ x + sum xs
-sum_cons x xs = sum_by-cons (λ y. y) x xs
-
 sum_take-at_most : (k : ℕ) (xs ys : List ℕ) → AreAtMost xs ys → sum (take k xs) ≤ sum (take k ys)
 sum_take-at_most zero xs ys a = omega arith
 sum_take-at_most (suc k) [] ys a = omega arith
@@ -39,15 +35,15 @@ sum_take-at_most (suc k) (x ∷ xs) (y ∷ ys) a = omega (
   arith,
   a.0,
   sum_take-at_most k xs ys a.1,
-  sum_cons x (take k xs),
-  sum_cons y
+  sum-cons x (take k xs),
+  sum-cons y
       (take k ys),
 )
 
 pub sum-at_most : (xs ys : List ℕ) → AreAtMost xs ys → sum xs ≤ sum ys
 sum-at_most [] ys a = omega arith
 sum-at_most (x ∷ xs) [] a = absurd a
-sum-at_most (x ∷ xs) (y ∷ ys) a = omega (arith, a.0, sum-at_most xs ys a.1, sum_cons x xs, sum_cons y ys)
+sum-at_most (x ∷ xs) (y ∷ ys) a = omega (arith, a.0, sum-at_most xs ys a.1, sum-cons x xs, sum-cons y ys)
 
 -- wider edges make no node smaller
 edges_size-grows : (w v : ℕ → ℕ) (i : ℕ) (es : Edges) → ((j : ℕ) → i ≤ j → j < i + node_count es → w j ≤ v j)
@@ -61,16 +57,14 @@ edges_size-grows w v i (edge label symbol below rest) h =
           (omega arith)),
     )
 
-length-sizes : (size : Option ℕ → ℕ) (w : ℕ → ℕ) (i : ℕ) (es : Edges) → length (node_sizes size w i es) ≡ node_count es
-length-sizes size w i es = length-node_sizes size w i es
-
 pub node_sizes-grow : (size more : Option ℕ → ℕ) (w v : ℕ → ℕ) (i : ℕ) (es : Edges) → ((m : Option ℕ) → size m ≤ more m)
     → ((j : ℕ) → i + 1 ≤ j → j < i + node_count es → w j ≤ v j) → AreAtMost (node_sizes size w i es) (node_sizes more v i es)
 node_sizes-grow size more w v i no_edge s h = tt
 node_sizes-grow size more w v i (edge label symbol below rest) s h = (
   omega (arith, s symbol, edges_size-grows w v (i + 1) below (λ j a b. h j (omega arith) (omega arith))),
   at_most-append (node_sizes size w (i + 1) below) (node_sizes more v (i + 1) below) (node_sizes size w (i + (node_count below + 1)) rest)
-      (node_sizes more v (i + (node_count below + 1)) rest) (length-sizes size w (i + 1) below ∙ sym (length-sizes more v (i + 1) below))
+      (node_sizes more v (i + (node_count below + 1)) rest) (length-node_sizes size w (i + 1) below ∙ sym
+      (length-node_sizes more v (i + 1) below))
       (node_sizes-grow size more w v (i + 1) below s (λ j a b. h j (omega arith) (omega arith)))
       (node_sizes-grow size more w v (i + (node_count below + 1)) rest s (λ j a b. h j (omega arith) (omega arith))),
 )
@@ -163,7 +157,7 @@ least-grows size more w v tree s a b =
 -- the sum of small widths
 pub sum_few : (widths : List ℕ) → ((k : ℕ) → slice_index widths k ≤ 10) → sum widths ≤ 10 * length widths
 sum_few [] few = omega arith
-sum_few (w ∷ widths) few = omega (arith, sum_cons w widths, few 0, sum_few widths (λ k. few (suc k)))
+sum_few (w ∷ widths) few = omega (arith, sum-cons w widths, few 0, sum_few widths (λ k. few (suc k)))
 
 -- the places of a list, at the nodes
 pub place_at : (f : ℕ → ℕ) (places : List ℕ) (n k : ℕ) → places ≡ map f (range_with_len 0 (n + 1)) → k < n + 1 → slice_index places k ≡ f k

@@ -1,6 +1,8 @@
 pub mod Exports
 pub mod Nodes
 pub mod Lookup
+pub mod Walks
+pub mod Lists
 pub mod Says
 pub mod Symbols
 pub mod Trees

@@ -6,3 +6,5 @@ pub mod Says
 pub mod Sorting
 pub mod Symbols
 pub mod Trees
+pub mod Walking
+pub mod Stacks

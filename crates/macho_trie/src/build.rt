@@ -14,8 +14,7 @@ ghost use Rattle.std.specs.Cmp.Lexicographic.{slice_cmp};
 ghost use Rattle.std.specs.List.{All};
 ghost use Rattle.std.specs.Ordering.{nat_cmp};
 ghost use Rattle.std.specs.declared.cmp.Ordering.TheVariants.{Less};
-ghost use Rattle.macho_trie.specs.steps.Building.{numbered_rows, names_in, rows_in, open_in, root_node, deepest, adopted, MayClose, Closes, IsAt};
-ghost use Rattle.macho_trie.specs.steps.Building.{IsReadyFor, Arrives, Steps, IsAtRoot, IsRooted};
+ghost use Rattle.macho_trie.specs.steps.Building.{numbered_rows, names_in, rows_in, open_in, root_node, deepest, adopted, MayClose, Closes, IsAt, IsReadyFor, Arrives, Steps, IsAtRoot, IsRooted};
 
 use crate::sort::shared_length;
 use crate::symbols::Symbols;

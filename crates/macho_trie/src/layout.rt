@@ -2,9 +2,7 @@
 ghost use Rattle.std.specs.Prelude.{◌≡◌, ℕ, ◌+◌, ◌<◌, ◌≤◌, ◌++◌, ◌-◌, List, [], OnOk, IfOk, length, slice_index, sum};
 ghost use Rattle.macho_trie.specs.Symbols.{names_of};
 ghost use Rattle.macho_trie.specs.Tables.{symbol_at};
-ghost use Rattle.macho_trie.specs.steps.Layouts.{names_at, size_at, children_of, IsLaid, AreSizes, AreParents, AreNamed, AreSums};
-ghost use Rattle.macho_trie.specs.steps.Layouts.{tree_at, ArePlaces, AreLaidOut, IsNarrow, NoneNarrow, AreListed, AreLowWidths};
-ghost use Rattle.macho_trie.specs.steps.Layouts.{AreGrown, FirstGrows, IsLookedAt};
+ghost use Rattle.macho_trie.specs.steps.Layouts.{names_at, size_at, children_of, IsLaid, AreSizes, AreParents, AreNamed, AreSums, tree_at, ArePlaces, AreLaidOut, IsNarrow, NoneNarrow, AreListed, AreLowWidths, AreGrown, FirstGrows, IsLookedAt};
 ghost use Rattle.macho_trie.specs.Encoding.{edges_size, export_bytes};
 ghost use Rattle.macho_trie.specs.steps.Trees.{IsOneTree};
 ghost use Rattle.macho_trie.specs.Says.{said_of};

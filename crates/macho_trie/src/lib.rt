@@ -5,6 +5,7 @@ mod build;
 mod laws;
 mod layout;
 mod lookup;
+mod names;
 mod sort;
 mod spelling;
 mod symbols;
@@ -13,5 +14,6 @@ mod trie;
 
 pub use laws::sizes_are_one;
 pub use lookup::{Export, trie_lookup};
+pub use names::{NamedExport, TrieNames, list_exports};
 pub use symbols::Symbols;
 pub use trie::Trie;

@@ -75,7 +75,7 @@ fn visit<'a>(
 }
 
 /// What a node exports, and the place after its terminal part.
-fn read_terminal(bytes: &[u8], at: usize) -> Option<(Option<Export<'_>>, usize)>
+pub(crate) fn read_terminal(bytes: &[u8], at: usize) -> Option<(Option<Export<'_>>, usize)>
     ensures is { option_map (λ t. (option_map exported_of t.0, t.1)) result ≡ terminal_at bytes.now at }
     ensures within { IfSome result (λ t. t.1 < length bytes.now) }
 {
@@ -121,7 +121,7 @@ fn note(known: Option<(u64, usize)>, label: &[u8], child: u64, rest: &[u8]) -> O
 }
 
 /// An edge's label, the place of its child, and the place after the edge.
-fn read_edge(bytes: &[u8], at: usize) -> Option<(&[u8], u64, usize)>
+pub(crate) fn read_edge(bytes: &[u8], at: usize) -> Option<(&[u8], u64, usize)>
     requires { at ≤ length bytes.now }
     ensures is { option_map (λ e. (record { label = e.0.now; child = e.1 }, e.2)) result ≡ edge_at bytes.now at }
     ensures within { IfSome result (λ e. e.2 ≤ length bytes.now) }

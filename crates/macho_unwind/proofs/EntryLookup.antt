@@ -5,7 +5,6 @@
 -- offset's entry; look-up finds it, and finds one thing at most.
 use Rattle.std.proofs.Common.{◌≡◌, ℕ, ◌+◌, ◌<◌, ◌≤◌, List, [], ◌∷◌, length, get_or, None, ap, subst, ◌∙◌, arith}
 use Rattle.macho_bytes.specs.Texts.{Stands}
-use Rattle.macho_bytes.proofs.Puts.{stands_by_bytes}
 use Rattle.macho_unwind_pages.specs.declared.entries.ResolvedUnwindInfo.{ResolvedUnwindInfo}
 use Rattle.macho_unwind_pages.specs.Entries.{AreEntries, inputs_of, ids_of}
 use Rattle.macho_unwind_pages.specs.declared.paging.Row.{Row}
@@ -21,12 +20,6 @@ use Rattle.macho_unwind.proofs.EntryRows.{IsMadeOf, made_of, row-of-entry, entry
 use Rattle.macho_unwind.proofs.PlanRows.{row_there}
 use Rattle.std.proofs.lemmas.List.{get_or_default}
 use Rattle.macho_unwind_pages.specs.Orders.{in_order}
-
--- a list stands at 0 of itself
-pub stands-whole : (bytes text : List ℕ) → bytes ≡ text → Stands bytes (record { at = 0; text = text })
-stands-whole bytes text is =
-    stands_by_bytes bytes (record { at = 0; text = text }) (omega (arith, ap (λ (t : List ℕ). length t) is))
-    (λ i h. ap (λ (k : ℕ). get_or bytes k 0) (omega arith) ∙ ap (λ (t : List ℕ). get_or t i 0) is)
 
 -- an entry that isn't there
 abbrev pub no_entry : ResolvedUnwindInfo
@@ -97,9 +90,6 @@ sections_are_read text entries section are s =
 -- no bytes say anything
 pub nothing-finds : (bytes : List ℕ) → bytes ≡ [] → FindsNothing bytes
 nothing-finds bytes empty offset x finds = absurd (omega (arith, finds.tables.header, ap (λ (t : List ℕ). length t) empty))
-
-pub no-entry-of : (text : ℕ) (entries : List ResolvedUnwindInfo) (section : List ℕ) → length entries ≡ 0 → FindsEntries text entries section
-no-entry-of text entries section none bytes begins offset e of = absurd (omega (arith, of.one.1))
 
 -- no entries name no personality
 pub no-ids : (entries : List ResolvedUnwindInfo) → length entries ≡ 0 → length (ids_of (inputs_of entries)) ≤ 3

@@ -29,6 +29,7 @@ use Rattle.macho_unwind.proofs.Members.{found_in, found_from}
 use Rattle.macho_unwind.proofs.Greatest.{top-of}
 use Rattle.macho_unwind_pages.specs.steps.Plans.{row_from, HasSlot}
 use Rattle.macho_unwind.specs.steps.Sections.{without_personality}
+use Rattle.macho_bytes.proofs.Members.{all_contains, contains_map}
 
 -- A plan of entries that can be written, by the functions that its words tell.
 pub record IsMadeOf (text : ℕ) (entries : List ResolvedUnwindInfo) (plan : PlanList) : Type 0 where
@@ -88,10 +89,6 @@ pub from_run : (text : ℕ) (entries : List ResolvedUnwindInfo) (plan : PlanList
     → Contains p.run e → Contains entries e
 from_run text entries plan p e c = Contains-permutation p.run entries e (IsPermutation-sym entries p.run p.same) c
 
--- what holds of all items holds of one that is there
-pub holds_of : {X : Type 0} (P : X → Type 0) (xs : List X) (x : X) → All P xs → Contains xs x → P x
-holds_of P xs x all (k, lt, is) = subst P is (all k x lt)
-
 -- two entries of a run with one start are one
 run-distinct : (run : List ResolvedUnwindInfo) (e f : ResolvedUnwindInfo) → AllPairs (λ x y. x.start < y.start) run
     → Contains run e → Contains run f → e.start ≡ f.start → e ≡ f
@@ -106,11 +103,7 @@ run-distinct run e f rising (i, i_lt, i_is) (j, j_lt, j_is) same =
       ]
     ]
 
--- an item of a list that is mapped, and the other way round
-mapped : {X Y : Type 0} (f : X → Y) (xs : List X) (x : X) → Contains xs x → Contains (map f xs) (f x)
-mapped f xs x (k, lt, is) = (k, omega (arith, length-map xs f), get_or-map f xs k x (f x) lt ∙ ap f is)
-
--- An item that a mapped one comes from.
+-- An item that a contains_map one comes from.
 pub record IsMapped {X Y : Type 0} (f : X → Y) (xs : List X) (y : Y) : Type 0 where
   pub item : X
   pub one : Contains xs item
@@ -131,7 +124,7 @@ pub row-of-entry : (text : ℕ) (entries : List ResolvedUnwindInfo) (plan : Plan
     → Contains (rows_of plan) (row_from text (ids_of (inputs_of entries)) e)
 row-of-entry text entries plan p e c =
     let row = row_from text (ids_of (inputs_of entries)) in
-    subst (λ (rows : List Row). Contains rows (row e)) (sym p.rows) (mapped row p.run e (in_run text entries plan p e c))
+    subst (λ (rows : List Row). Contains rows (row e)) (sym p.rows) (contains_map row p.run e (in_run text entries plan p e c))
 
 -- a row that is there is that of an entry
 pub entry-of-row : (text : ℕ) (entries : List ResolvedUnwindInfo) (plan : PlanList) (p : IsMadeOf text entries plan)
@@ -200,7 +193,7 @@ last-of : (text : ℕ) (entries : List ResolvedUnwindInfo) (e : ResolvedUnwindIn
     → Contains entries e → HasLast entries
 last-of text entries e are one =
     let top = top-of (λ (x : ResolvedUnwindInfo). x.start) (2 ^ 64) entries e one
-    (omega (arith, holds_of (λ (x : ResolvedUnwindInfo). x.start + x.length < 2 ^ 64) entries e are.ends one)) in record {
+    (omega (arith, all_contains (λ (x : ResolvedUnwindInfo). x.start + x.length < 2 ^ 64) entries e are.ends one)) in record {
       item = top.item;
       one = top.one;
       last = λ k d lt. top.greatest k d lt (omega (arith, are.ends k d lt));
@@ -212,15 +205,15 @@ pub said-of-entry : (text : ℕ) (entries : List ResolvedUnwindInfo) (plan : Pla
     → IsMadeOf text entries plan → IsEntryOf text entries offset e → PlanSays plan offset (found_for text e)
 said-of-entry text entries plan offset e are p of =
     let ids = ids_of (inputs_of entries) in
-    let has = holds_of (HasSlot text ids plan.personalities) entries e p.slots of.one in
-    let clear = holds_of (λ (f : ResolvedUnwindInfo). f.encoding / 2 ^ 28 % 4 ≡ 0) entries e are.clear of.one in
+    let has = all_contains (HasSlot text ids plan.personalities) entries e p.slots of.one in
+    let clear = all_contains (λ (f : ResolvedUnwindInfo). f.encoding / 2 ^ 28 % 4 ≡ 0) entries e are.clear of.one in
     let few = slot-number plan.personalities ids text e.personality p.formed.personalities has in
     let above : (f : ResolvedUnwindInfo) → Contains entries f → text ≤ f.start
-    = λ f c. holds_of (λ (x : ResolvedUnwindInfo). text ≤ x.start) entries f are.starts c in
+    = λ f c. all_contains (λ (x : ResolvedUnwindInfo). text ≤ x.start) entries f are.starts c in
     let end = last-of text entries e are of.one in
-    let ends = holds_of (λ (x : ResolvedUnwindInfo). IsLast entries x → plan.end ≡ x.start + x.length - text) entries
+    let ends = all_contains (λ (x : ResolvedUnwindInfo). IsLast entries x → plan.end ≡ x.start + x.length - text) entries
     end.item p.end end.one end.last in
-    let before = holds_of (λ (x : ResolvedUnwindInfo). IsLast entries x → text + offset < x.start + x.length) entries
+    let before = all_contains (λ (x : ResolvedUnwindInfo). IsLast entries x → text + offset < x.start + x.length) entries
     end.item of.before_end end.one end.last in record {
       row = row_from text ids e;
       one = row-of-entry text entries plan p e of.one;
@@ -230,7 +223,7 @@ said-of-entry text entries plan offset e are p of =
           let r : Row = get_or rows k d in
           let m = entry-of-row text entries plan p e r (k, lt, get_or_default rows k r d lt) in
           let start = ap (λ (x : Row). x.start) m.is in
-          let not_greater = holds_of (λ (x : ResolvedUnwindInfo). x.start ≤ text + offset → x.start ≤ e.start) entries
+          let not_greater = all_contains (λ (x : ResolvedUnwindInfo). x.start ≤ text + offset → x.start ≤ e.start) entries
           m.item of.greatest m.one in
           omega (arith, start, below, above m.item m.one, not_greater);
       before_end = omega (arith, ends, before);

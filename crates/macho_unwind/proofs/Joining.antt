@@ -3,7 +3,7 @@
 -- What is written so far is one text put at 0. The next text is put where it ends, and two puts next to each other are one.
 use Rattle.std.proofs.Common.{◌≡◌, ℕ, ◌+◌, ◌≤◌, List, ◌++◌, length, take, drop, ap, ◌∙◌, arith}
 use Rattle.std.proofs.Math.Seq.{take-append_seam, drop-length}
-use Rattle.std.proofs.lemmas.List.{length-append, append-nil}
+use Rattle.std.proofs.lemmas.List.{length-append}
 use Rattle.macho_bytes.specs.Texts.{put}
 use Rattle.macho_bytes.proofs.Puts.{put-put}
 
@@ -20,12 +20,6 @@ put_next before now after text more at to so_far written ends room = record {
   is = written ∙ ap (put at more) so_far.is ∙ put-put 0 at text more before (omega (arith, so_far.long)) (omega (arith, ends, room));
   long = omega (arith, length-append text more, so_far.long, ends);
 }
-
--- a text put over a list of its length is all of it; and so it is what a `Vec` has whose bytes were written
-pub put_all : (text bytes : List ℕ) → length text ≡ length bytes → put 0 text bytes ≡ text
-unfolding put
-put_all text bytes same =
-    ap (λ (n : ℕ). text ++ drop n bytes) (omega (arith, same)) ∙ ap (λ (t : List ℕ). text ++ t) (drop-length bytes) ∙ append-nil text
 
 -- the first bytes of what was written back are the text, where it has the length of what stood there
 pub written_back : (text old now : List ℕ) (count : ℕ) → now ≡ text → length text ≡ length old → count ≡ length old

@@ -25,11 +25,6 @@ use Rattle.macho_unwind.proofs.EntryLookup.{no-ids}
 use Rattle.macho_unwind_pages.specs.steps.Plans.{row_from, lsda_from}
 use Rattle.macho_unwind.specs.steps.Texts.{last_place}
 
--- it is the section of no other plan
-pub section_plan : (text : ℕ) (entries : List ResolvedUnwindInfo) (bytes : List ℕ) → 0 < length entries
-    → (s : IsSectionOf text entries bytes) → (other : PlanList) → IsPlanOf text entries other → other ≡ s.plan
-section_plan text entries bytes some s other b = plans_are_one text entries other s.plan some b s.of_entries
-
 -- where a plan has its places, no plan has its last page too far away
 pub no_far_page : (text : ℕ) (entries : List ResolvedUnwindInfo) (plan : PlanList) → 0 < length entries → IsPlanOf text entries plan
     → HasPlaces plan → HasFarPage text entries → ⊥

@@ -67,17 +67,6 @@ entry_is plan i p place lsdas before items h is place_is lsdas_is items_is befor
     ∙ ap (λ (q : ℕ). entry_of (page_of (plan_list plan) i).first q (lsdas + 8 * before)) place_is
     ∙ ap (λ (l : ℕ). entry_of (page_of (plan_list plan) i).first (page_place (plan_list plan) i) l) (omega (arith, lsdas_is, count))
 
--- sums and texts over pages and over their mirrors
-pub sum-listed : (pages : List Page) → sum_by (λ p. page_size (page_list p)) pages ≡ sum_by page_size (map page_list pages)
-sum-listed [] = refl
-sum-listed (p ∷ pages) =
-    omega (
-      arith,
-      sum_by-cons (λ (q : Page). page_size (page_list q)) p pages,
-      sum_by-cons page_size (page_list p) (map page_list pages),
-      sum-listed pages,
-    )
-
 -- the texts of pages are those of their mirrors
 pub texts-listed : (pages : List Page) → flat_map (λ p. page_text (page_list p)) pages ≡ flat_map page_text (map page_list pages)
 texts-listed [] = refl

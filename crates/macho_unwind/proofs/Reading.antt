@@ -49,9 +49,3 @@ page_was_whole bytes k entry head lsdas entry_is head_is lsdas_is whole =
     subst (λ (n : ℕ). IsWholePage bytes entry head n) (sym lsdas_is)
     (subst (λ (h : CompressedPage). IsWholePage bytes entry h (lsda_count bytes k)) (sym head_is)
     (subst (λ (e : PageEntry). IsWholePage bytes e (page_at bytes k) (lsda_count bytes k)) (sym entry_is) whole))
-
--- an item of a list, whatever is given past its end
-pub read_alike : {X : Type 0} (xs : List X) (i : ℕ) (d e : X) → i < length xs → get_or xs i d ≡ get_or xs i e
-read_alike [] i d e h = absurd (omega arith)
-read_alike (x ∷ xs) zero d e h = refl
-read_alike (x ∷ xs) (suc i) d e h = read_alike xs i d e (omega arith)

@@ -9,7 +9,7 @@ ghost use Rattle.macho_unwind.specs.Lookup.{UnwindFinds, IsPageOf, HasLsda};
 ghost use Rattle.macho_unwind.specs.steps.Parts.{HasPage, IsFunctionOf, NamesPersonality, IsBest, IsPage, IsWordOf};
 
 use crate::records::{CompactUnwindInfoHeader, CompressedPage, LsdaEntry, PageEntry};
-use macho_numbers::little_at;
+use macho_wire::little_at;
 
 /// `UNWIND_SECOND_LEVEL_COMPRESSED`: the kind of a page whose functions are words of an index and an offset.
 pub(crate) const COMPRESSED: u32 = 3;

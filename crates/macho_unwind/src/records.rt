@@ -6,7 +6,7 @@ ghost use Rattle.macho_unwind.specs.Layouts.{compact_unwind_info_header, page_en
 ghost use Rattle.macho_bytes.specs.Spellings.{spelling, ReadsBack};
 ghost use Rattle.macho_unwind.specs.Spellings.{compact_unwind_info_header_rows, page_entry_rows, compressed_page_rows, lsda_entry_rows};
 
-use macho_numbers::{little_at, put_littles};
+use macho_wire::{little_at, put_littles};
 
 /// The name of the section that an image has.
 pub const UNWIND_INFO_SECTION_NAME: &str = "__unwind_info";

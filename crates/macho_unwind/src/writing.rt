@@ -12,8 +12,8 @@ ghost use Rattle.macho_unwind.specs.steps.Texts.{last_place};
 
 use crate::lookup::COMPRESSED;
 use crate::records::{CompactUnwindInfoHeader, CompressedPage, LsdaEntry, PageEntry};
-use macho_numbers::put_littles;
 use macho_unwind_pages::{Lsda, Page, Plan};
+use macho_wire::put_littles;
 
 /// `UNWIND_SECTION_VERSION`.
 const VERSION: u32 = 1;

@@ -14,7 +14,7 @@ use Rattle.macho_unwind_pages.specs.Laws.{Names, IdsAreNamed, IdsAreNumbers}
 use Rattle.macho_unwind_pages.proofs.Orders.{Above, Rises, has, nat_lt-strict, rises-in_order, has-in_order, in_order-unique}
 
 -- a number that stands in a list, by the test and by its place
-has_there : (x : ℕ) (xs : List ℕ) → has x xs ≡ true → Contains xs x
+pub has_there : (x : ℕ) (xs : List ℕ) → has x xs ≡ true → Contains xs x
 has_there x [] h = absurd (cc)
 has_there x (y ∷ ys) h =
     elim (cases_eq x y) [
@@ -22,7 +22,7 @@ has_there x (y ∷ ys) h =
       | inr n ↦ let rest = has_there x ys (rw (ne_eqb x y n) at h) in (suc rest.0, omega (arith, rest.1), rest.2)
     ]
 
-there_has : (x : ℕ) (xs : List ℕ) → Contains xs x → has x xs ≡ true
+pub there_has : (x : ℕ) (xs : List ℕ) → Contains xs x → has x xs ≡ true
 there_has x [] there = absurd (omega (arith, there.1))
 there_has x (y ∷ ys) (zero, within, is) = rw (eq-eqb x y (sym is)) refl
 there_has x (y ∷ ys) (suc k, within, is) = rw (there_has x ys (k, omega arith, is)) (or_true (x == y))

@@ -6,21 +6,9 @@
 -- of distinct elements of another list is no longer than that.
 use Rattle.std.proofs.Common.{◌≡◌, ◌≢◌, ℕ, zero, suc, ◌<◌, ◌≤◌, List, [], ◌∷◌, ◌++◌, length, Contains, refl, sym, ap, subst, ◌∙◌, arith, inl, inr, ◌⊎◌}
 use Rattle.std.specs.List.{AllPairs}
-use Rattle.std.proofs.lemmas.Bool.{eqb-true}
-use Rattle.std.proofs.lemmas.Bool.Decides.{Decides-eqb}
-use Rattle.std.proofs.lemmas.Cmp.{nat_eq_equiv}
-use Rattle.std.proofs.lemmas.Map.Made.{IsDistinct-from_AllPairs, length-le_from_is_member}
-use Rattle.std.proofs.lemmas.Map.Views.{list_any-from_Contains, Contains-from_any}
+use Rattle.macho_bytes.proofs.Members.{contains_later, contains_cases}
 
--- an element is the first one or a later one
-first_or_later : {X : Type 0} (y : X) (ys : List X) (x : X) → Contains (y ∷ ys) x → (y ≡ x) ⊎ Contains ys x
-first_or_later y ys x (zero, within, is) = inl is
-first_or_later y ys x (suc k, within, is) = inr (k, omega arith, is)
-
-later : {X : Type 0} (y : X) (ys : List X) (x : X) → Contains ys x → Contains (y ∷ ys) x
-later y ys x (k, within, is) = (suc k, omega arith, is)
-
--- the first of a rising list is below the later ones
+-- the first of a rising list is below the contains_later ones
 first_is_least : {X : Type 0} (f : X → ℕ) (y : X) (ys : List X) (x : X) → AllPairs (λ v w. f v < f w) (y ∷ ys) → Contains ys x → f y < f x
 first_is_least f y ys x rising (k, within, is) = subst (λ z. f y < f z) is (rising 0 (suc k) x (omega arith) (omega arith))
 
@@ -36,22 +24,22 @@ rising_once {X} f (x ∷ xs) (y ∷ ys) up upper to from =
     ∙ ap (λ z. z ∷ ys) first
   where
     first : x ≡ y
-    first = elim (first_or_later y ys x (to x (0, omega arith, refl))) [
+    first = elim (contains_cases y ys x (to x (0, omega arith, refl))) [
       | inl same ↦ sym same
-      | inr behind ↦ elim (first_or_later x xs y (from y (0, omega arith, refl))) [
+      | inr behind ↦ elim (contains_cases x xs y (from y (0, omega arith, refl))) [
         | inl same ↦ same
         | inr other ↦ absurd (omega (arith, first_is_least f y ys x upper behind, first_is_least f x xs y up other))
       ]
     ]
 
     inner : (z : X) → Contains xs z → Contains ys z
-    inner z c = elim (first_or_later y ys z (to z (later x xs z c))) [
+    inner z c = elim (contains_cases y ys z (to z (contains_later x xs z c))) [
       | inl same ↦ absurd (omega (arith, first_is_least f x xs z up c, ap f (first ∙ same)))
       | inr there ↦ there
     ]
 
     outer : (z : X) → Contains ys z → Contains xs z
-    outer z c = elim (first_or_later x xs z (from z (later y ys z c))) [
+    outer z c = elim (contains_cases x xs z (from z (contains_later y ys z c))) [
       | inl same ↦ absurd (omega (arith, first_is_least f y ys z upper c, ap f (sym first ∙ same)))
       | inr there ↦ there
     ]
@@ -69,9 +57,3 @@ goes_on (x ∷ xs) ys (z ∷ zs) ws same short =
 -- no number stands twice
 abbrev pub AreDistinct : List ℕ → Type 0
 AreDistinct xs = AllPairs (λ a b. a ≢ b) xs
-
--- distinct elements of a list are no more than its elements
-pub no_more : (xs ys : List ℕ) → AreDistinct xs → ((x : ℕ) → Contains xs x → Contains ys x) → length xs ≤ length ys
-no_more xs ys distinct sub =
-    length-le_from_is_member nat_eq_equiv xs ys (IsDistinct-from_AllPairs Decides-eqb xs distinct)
-    (λ q h. list_any-from_Contains nat_eq_equiv q ys (sub q (Contains-from_any eqb-true q xs h)))

@@ -9,6 +9,7 @@ use Rattle.std.specs.List.{AllPairs, list_any}
 use Rattle.std.proofs.lemmas.Bool.{cases_Bool, eqb-true, eqb-false, eq-eqb, ne_eqb, cases_eq}
 use Rattle.std.proofs.lemmas.Bool.Decides.{nat_tests}
 use Rattle.macho_unwind_pages.specs.Orders.{put_in_order, in_order}
+use Rattle.macho_bytes.proofs.Bools.{or_swap}
 
 -- a test that puts numbers in an order
 pub record IsStrict (before : ℕ → ℕ → Bool) : Type 0 where
@@ -89,11 +90,6 @@ unique before (x ∷ xs) (y ∷ ys) s first second same =
     let same_x : (z : ℕ) → has z (x ∷ xs) ≡ has z (x ∷ ys) = subst (λ w. (z : ℕ) → has z (x ∷ xs) ≡ has z (w ∷ ys)) (sym head) same in
     ap (λ w. w ∷ xs) head ∙ ap (λ l. y ∷ l) (unique before xs ys s first.1 second.1 (tails_same before x xs ys s first.0 above same_x))
 
-swap_or : (a b c : Bool) → (a || (b || c)) ≡ (b || (a || c))
-swap_or true true c = refl
-swap_or true false c = refl
-swap_or false b c = refl
-
 -- putting a number in its place
 pub has-put : (before : ℕ → ℕ → Bool) (x z : ℕ) (ys : List ℕ) → has z (put_in_order before x ys) ≡ ((z == x) || has z ys)
 unfolding put_in_order
@@ -103,7 +99,7 @@ has-put before x z (y ∷ ys) =
       | inl e ↦ rw e (twice (eqb-true x y e))
       | inr n ↦ rw n (elim (cases_Bool (before x y)) [
         | inl h ↦ rw h refl
-        | inr h ↦ rw h (ap (λ b. (z == y) || b) (has-put before x z ys) ∙ swap_or (z == y) (z == x) (has z ys))
+        | inr h ↦ rw h (ap (λ b. (z == y) || b) (has-put before x z ys) ∙ or_swap (z == y) (z == x) (has z ys))
       ])
     ]
   where
@@ -174,7 +170,7 @@ in_order-unique before xs ys s rises same =
 
 has-append : (z : ℕ) (xs : List ℕ) (x : ℕ) → has z (xs ++ x ∷ []) ≡ ((z == x) || has z xs)
 has-append z [] x = refl
-has-append z (y ∷ xs) x = ap (λ b. (z == y) || b) (has-append z xs x) ∙ swap_or (z == y) (z == x) (has z xs)
+has-append z (y ∷ xs) x = ap (λ b. (z == y) || b) (has-append z xs x) ∙ or_swap (z == y) (z == x) (has z xs)
 
 -- one number more at the end of the list
 pub in_order-more : (before : ℕ → ℕ → Bool) (xs : List ℕ) (x : ℕ) → IsStrict before

@@ -11,6 +11,7 @@ use Rattle.macho_unwind_pages.specs.steps.Tallies.{locals_in}
 use Rattle.macho_unwind_pages.specs.Plans.{Row, own_codes}
 use Rattle.macho_unwind_pages.specs.steps.Words.{first_place}
 use Rattle.macho_unwind_pages.proofs.Orders.{has}
+use Rattle.macho_bytes.proofs.Bools.{and_left, and_right, neither, false_of_not}
 
 -- the codes of functions
 abbrev pub codes : List Row → List ℕ
@@ -23,21 +24,6 @@ or_left false b h = refl
 or_right : (a b : Bool) → (a || b) ≡ false → b ≡ false
 or_right true b h = absurd (cc)
 or_right false b h = h
-
-either_false : (a b : Bool) → a ≡ false → b ≡ false → (a || b) ≡ false
-either_false a b h k = rw (h, k) refl
-
-and_left : (a b : Bool) → (a && b) ≡ true → a ≡ true
-and_left true b h = refl
-and_left false b h = h
-
-and_right : (a b : Bool) → (a && b) ≡ true → b ≡ true
-and_right true b h = h
-and_right false b h = absurd (cc)
-
-not_true : (b : Bool) → not b ≡ true → b ≡ false
-not_true true h = sym h
-not_true false h = refl
 
 both : (a b c : Bool) → (b ≡ true → c ≡ true) → (a && not c) ≡ ((b || a) && not c)
 both a true c h = rw (h refl) (none a)
@@ -67,7 +53,7 @@ has_own named (r ∷ rows) code = elim (cases_Bool (has r.code named)) [
 pub own_apart : (named : List ℕ) (rows : List Row) → All (λ code. has code named ≡ false) (own_codes named rows)
 own_apart named rows k d h =
     let x = get_or (own_codes named rows) k d in
-    not_true (has x named) (and_right (has x (codes rows)) (not (has x named)) (sym (has_own named rows x)
+    false_of_not (has x named) (and_right (has x (codes rows)) (not (has x named)) (sym (has_own named rows x)
     ∙ list_any_at (λ other. x == other) (own_codes named rows) k d h (eq-eqb x x refl)))
 
 -- each is the code of a function
@@ -161,7 +147,7 @@ own_new named (x ∷ xs) row out absent =
       | inl there ↦ rw there (own_new named xs row out rest)
       | inr new ↦ rw new (omega (
         arith,
-        own_new (x.code ∷ named) xs row (either_false (row.code == x.code) (has row.code named) differs out) rest,
+        own_new (x.code ∷ named) xs row (neither (row.code == x.code) (has row.code named) differs out) rest,
       ))
     ]
 

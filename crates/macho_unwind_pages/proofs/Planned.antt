@@ -25,6 +25,7 @@ use Rattle.macho_unwind_pages.proofs.OneTables.{globals_once}
 use Rattle.macho_unwind_pages.proofs.Divided.{divided, written}
 use Rattle.macho_unwind_pages.proofs.Gathered.{numbered, short_codes, behind, alike, ranked_codes, short_ranks}
 use Rattle.macho_unwind_pages.specs.steps.Plans.{row_from, lsda_from, HasSlot}
+use Rattle.macho_bytes.proofs.Pairs.{pairs_cons}
 
 -- what the parts are made from
 ready_of : (text : ℕ) (entries run : List ResolvedUnwindInfo) → 0 < length entries → AreEntries text entries → IsPermutation entries run
@@ -63,13 +64,6 @@ ready text entries run inputs ids codes some are moved rising near inputs_is ids
     subst (λ is. IsReady text is codes run) (sym ids_are)
     (subst (λ cs. IsReady text (ids_of (inputs_of entries)) cs run) (sym codes_are)
     (ready_of text entries run some are moved rising near few_of))
-
--- the data of a run
-pairs_cons : {X : Type 0} (R : X → X → Type 0) (y : X) (ys : List X) → All (R y) ys → AllPairs R ys → AllPairs R (y ∷ ys)
-pairs_cons R y ys first rest zero zero d low h = absurd (omega arith)
-pairs_cons R y ys first rest zero (suc j) d low h = first j d (omega arith)
-pairs_cons R y ys first rest (suc i) zero d low h = absurd (omega arith)
-pairs_cons R y ys first rest (suc i) (suc j) d low h = rest i j d (omega arith) (omega arith)
 
 -- the data of a run, one by one
 pub lsdas_told : (text : ℕ) (run : List ResolvedUnwindInfo) → filter_map (lsda_from text) run ≡ flat_map (lsda_list text) run

@@ -4,24 +4,20 @@
 -- keys of the table differ, and each has its count; sorted so that none is less than the one before it, neighbours rank one
 -- before the other, and so the keys rise by rank. They are the codes that stand in the list at all. So they are the ranks.
 use Rattle.std.proofs.Common.{◌≡◌, ℕ, suc, ◌+◌, ◌<◌, ◌≤◌, ◌==◌, ◌||◌, ◌&&◌, not, Bool, if◌then◌else◌, true, false, cond, nat_lt, nat_eq, None, Some, is_some, unwrap_or, List, [], ◌∷◌, length, take, drop, get_or, slice_index, refl, sym, ap, ◌∙◌, arith, inl, inr, ◌⊎◌}
-use Rattle.std.specs.List.{list_any}
-use Rattle.std.proofs.lemmas.Bool.{cases_Bool, cases_eq, eqb-true, eq-eqb, ne_eqb, lt-ltb, le-ltb}
-use Rattle.std.proofs.lemmas.Bool.Decides.{nat_tests}
-use Rattle.std.proofs.lemmas.List.Sums.{count_by_more_yes, count_by_more_no, count_by-le-length}
+use Rattle.std.specs.List.{list_any, position}
+use Rattle.std.proofs.lemmas.Bool.{cases_Bool, cases_eq, eqb-true, eq-eqb, ne_eqb, lt-ltb, le-ltb, cases_order, or_parts}
+use Rattle.std.proofs.lemmas.Bool.Decides.{nat_tests, Decides-eqb}
+use Rattle.std.proofs.lemmas.List.Sums.{count_by_more_yes, count_by_more_no, count_by-le-length, sum_by-cons}
 use Rattle.std.specs.List.Sorted.{IsSortedBy}
 use Rattle.std.specs.Cmp.{IsStrictWeakOrder}
 use Rattle.std.specs.Ordering.{nat_cmp, ordering_then, is_lt}
-use Rattle.std.specs.List.{position}
-use Rattle.std.proofs.lemmas.Bool.{cases_order, or_parts}
 use Rattle.std.proofs.lemmas.Cmp.{nat_eq_equiv}
 use Rattle.std.proofs.lemmas.List.{length-take, get_or-map, length-map, get_or-take, take-append-drop}
 use Rattle.std.proofs.lemmas.List.Quantifiers.{position-Some}
 use Rattle.std.proofs.lemmas.List.Folds.{list_any_at, list_any_none, list_any-append}
-use Rattle.std.proofs.lemmas.List.Sums.{sum_by-cons}
 use Rattle.std.proofs.lemmas.Map.Made.{is_some-lookup, AllPairs-from_IsDistinct}
 use Rattle.std.proofs.lemmas.Map.Entries.{hash_map_get_place}
 use Rattle.std.proofs.lemmas.Option.{slice_get-get_or}
-use Rattle.std.proofs.lemmas.Bool.Decides.{Decides-eqb}
 use Rattle.indexmap.specs.IndexMap.{IndexMap, keys, get, IsUnique}
 use Rattle.macho_unwind_pages.specs.steps.Tallies.{locals_in}
 use Rattle.macho_unwind_pages.specs.steps.Ranks.{Counts, IsNumberOf, ranked}
@@ -32,15 +28,6 @@ use Rattle.macho_unwind_pages.specs.steps.Entries.{ranks_before}
 -- the test on two counts and two codes
 abbrev pub outranks : ℕ → ℕ → ℕ → ℕ → Bool
 outranks s t a b = nat_lt t s || (s == t && nat_lt b a)
-
-outranks-says : (s t a b : ℕ) → outranks s t a b ≡ true → (t < s) ⊎ ((s ≡ t) × (b < a))
-outranks-says s t a b h = grind (arith, nat_tests)
-
-outranks-if : (s t a b : ℕ) → (t < s) ⊎ ((s ≡ t) × (b < a)) → outranks s t a b ≡ true
-outranks-if s t a b h = grind (arith, nat_tests)
-
-outranks-not : (s t a b : ℕ) → ((t < s) ⊎ ((s ≡ t) × (b < a)) → ⊥) → outranks s t a b ≡ false
-outranks-not s t a b h = grind (arith, nat_tests)
 
 -- the order of ranks is strict
 pub ranks_before-strict : (codes : List ℕ) → IsStrict (ranks_before codes)
@@ -99,14 +86,6 @@ told codes counts code n all is =
     elim (cases_Bool (times codes code == 0)) [
       | inl none ↦ let e : get nat_eq counts code ≡ None = all code ∙ rw none refl in absurd (cc)
       | inr some ↦ let e : get nat_eq counts code ≡ Some (times codes code) = all code ∙ rw some refl in cc
-    ]
-
-pub untold : {S : Type 0} (codes : List ℕ) (counts : IndexMap ℕ ℕ S) (code : ℕ) → Counts codes counts → get nat_eq counts code ≡ None
-    → times codes code ≡ 0
-untold codes counts code all is =
-    elim (cases_Bool (times codes code == 0)) [
-      | inl none ↦ eqb-true (times codes code) 0 none
-      | inr some ↦ let e : get nat_eq counts code ≡ Some (times codes code) = all code ∙ rw some refl in absurd (cc)
     ]
 
 -- what the table tells of a code, 0 where it tells nothing, is how often the code stands

@@ -9,9 +9,9 @@ use Rattle.macho_args.specs.Store.{Store, Directories, CanonicalPaths}
 use Rattle.macho_args.specs.SearchPaths.{IsRefused}
 use Rattle.macho_args.specs.declared.fault.ArgsFault.{ArgsFault}
 use Rattle.macho_model.specs.Links.{Link}
-use Rattle.macho_faults.specs.declared.fault.LinkError.{LinkError}
-use Rattle.macho_faults.specs.declared.fault.LinkError.TheVariants as error
-use Rattle.macho_report.specs.Refusals.{RefusalStands}
+use Rattle.macho_answer.specs.declared.fault.LinkError.{LinkError}
+use Rattle.macho_answer.specs.declared.fault.LinkError.TheVariants as error
+use Rattle.macho_answer.specs.Linked.{RefusalStands}
 use Rattle.macho_report.specs.Fault.{Fault}
 use Rattle.macho_report.specs.Fault.TheVariants as fault
 use Rattle.macho_report.specs.Causes.{NoneFailed, status_of, IsClear, JobFails, WordsFail}

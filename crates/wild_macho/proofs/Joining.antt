@@ -14,12 +14,12 @@ use Rattle.macho_args.specs.SearchPaths.{IsRefused}
 use Rattle.macho_args.specs.Store.{Store, Directories, CanonicalPaths}
 use Rattle.macho_model.specs.Links.{Link}
 use Rattle.macho_model.specs.Faults.{bad_name}
-use Rattle.macho_faults.specs.declared.fault.LinkError.{LinkError}
-use Rattle.macho_faults.specs.declared.fault.LinkError.TheVariants as error
-use Rattle.macho_linked.specs.declared.image.LinkedImage.{LinkedImage}
+use Rattle.macho_answer.specs.declared.fault.LinkError.{LinkError}
+use Rattle.macho_answer.specs.declared.fault.LinkError.TheVariants as error
+use Rattle.macho_answer.specs.declared.image.LinkedImage.{LinkedImage}
 use Rattle.macho_report.specs.Linkers.{link_of}
-use Rattle.macho_report.specs.Refusals.{RefusalStands}
-use Rattle.macho_linked.specs.Linked.{IsImageOf}
+use Rattle.macho_answer.specs.Linked.{RefusalStands}
+use Rattle.macho_answer.specs.Linked.{IsImageOf}
 use Rattle.macho_devices.specs.Devices.{WritesFile}
 use Rattle.macho_devices.specs.Faults.{last_count}
 use Rattle.macho_report.specs.Fault.{Fault}
@@ -31,10 +31,8 @@ use Rattle.macho_report.specs.Lines.{run_lines, fault_text, line_of}
 use Rattle.macho_report.specs.Printing.{IsLineTold}
 use Rattle.wild_macho.specs.declared.passes.Ran.{Ran}
 use Rattle.wild_macho.specs.declared.passes.Made.{Made}
-use Rattle.wild_macho.specs.steps.Made.{LeavesAll, LeavesOutput, LeavesLines, IsBadName}
-use Rattle.wild_macho.specs.steps.Made.{IsMade, IsLinkFault, Ends, EndsWith, EndsBare, EndFails, PrintFails, Prints, Finishes, Answers}
-use Rattle.wild_macho.specs.Runs.{Devices, devices, outside, ErrorSink, LeavesImage, LeavesNothing}
-use Rattle.wild_macho.specs.Runs.{HasImage, HasCauseIn, RunsBy}
+use Rattle.wild_macho.specs.steps.Made.{LeavesAll, LeavesOutput, LeavesLines, IsBadName, IsMade, IsLinkFault, Ends, EndsWith, EndsBare, EndFails, PrintFails, Prints, Finishes, Answers}
+use Rattle.wild_macho.specs.Runs.{Devices, devices, outside, ErrorSink, LeavesImage, LeavesNothing, HasImage, HasCauseIn, RunsBy}
 
 -- a refusal of the link is one of the job that has this link
 job-refused : (l : Link) (e : LinkError) → RefusalStands l e → (told : Option Store) (s : Settings) (paths : List (List ℕ))
@@ -74,56 +72,6 @@ pub words-fail : (words : List (List ℕ)) (e : ArgsFault) (f : Fault) → (e �
 words-fail words e f why (inl told) = subst (WordsFail words) (sym told.1) tt
 words-fail words e f (inl memory) (inr told) = absurd (told.0 memory)
 words-fail words e f (inr refused) (inr told) = subst (WordsFail words) (sym told.1) refused
-
-none-rose : (0 < 0) ⊎ (0 ≡ last_count) → ⊥
-none-rose (inl rose) = absurd (omega (arith, rose))
-none-rose (inr stood) = absurd (omega (arith, stood))
-
--- a fault before the write is that of the whole
-early-fails : (told : Option Store) (s : Settings) (paths : List (List ℕ)) (a b writes after prints later : ℕ) (f : Fault)
-    → JobFails told s paths (reading a) (reading b) f → JobFails told s paths (failures a writes prints) (failures b after later) f
-early-fails told s paths a b writes after prints later (fault.MissingFile word) why = why
-early-fails told s paths a b writes after prints later (fault.UnknownKind word kind) why = why
-early-fails told s paths a b writes after prints later (fault.Input word refusal) why = why
-early-fails told s paths a b writes after prints later (fault.Link refusal) why = why
-early-fails told s paths a b writes after prints later (fault.Words refusal) why = why
-early-fails told s paths a b writes after prints later (fault.Read word) why = why
-early-fails told s paths a b writes after prints later fault.Write why = absurd (none-rose why)
-early-fails told s paths a b writes after prints later fault.Print why = absurd (none-rose why)
-early-fails told s paths a b writes after prints later fault.OutOfMemory why = tt
-
--- and leaves nothing behind
-early-leaves : (told : Option Store) (s : Settings) (paths : List (List ℕ)) (a b : ℕ) (f : Fault) (old new : Devices) → LeavesAll old new
-    → JobFails told s paths (reading a) (reading b) f → LeavesNothing (Some f) old new
-early-leaves told s paths a b (fault.MissingFile word) old new same why = same
-early-leaves told s paths a b (fault.UnknownKind word kind) old new same why = same
-early-leaves told s paths a b (fault.Input word refusal) old new same why = same
-early-leaves told s paths a b (fault.Link refusal) old new same why = same
-early-leaves told s paths a b (fault.Words refusal) old new same why = same
-early-leaves told s paths a b (fault.Read word) old new same why = same
-early-leaves told s paths a b fault.Write old new same why = none-rose why
-early-leaves told s paths a b fault.Print old new same why = none-rose why
-early-leaves told s paths a b fault.OutOfMemory old new same why = same
-
--- a run that is refused before the image is written
-pub answers-refused : (s : Settings) (paths : List (List ℕ)) (files later : Outside) (a b writes after prints : ℕ)
-    (printed : Option (List ℕ)) (f : Fault) (ran : Ran)
-    → ran.status ≡ status_of ran.fault → ran.image ≡ None → ran.fault ≡ Some f → later.store ≡ files.store → after ≡ writes
-    → JobFails files.store s paths (reading a) (reading b) f
-    → Answers s paths (devices files a writes prints printed) (devices later b after prints printed) ran
-answers-refused s paths files later a b writes after prints printed f ran status none is same counted why =
-    let old : Devices = devices files a writes prints printed in
-    let new : Devices = devices later b after prints printed in
-    record {
-      status = status;
-      image =
-          let P : Option LinkedImage → Type 0 = λ i. MatchOption i (LeavesNothing ran.fault old new) (HasImage s old new ran.fault) in
-          subst P (sym none) (subst (λ (g : Option Fault). LeavesNothing g old new) (sym is)
-          (early-leaves files.store s paths a b f old new (same, refl) why));
-      why =
-          let Q : Option Fault → Type 0 = λ g. IfSome g (JobFails files.store s paths old.failures new.failures) in
-          subst Q (sym is) (early-fails files.store s paths a b writes after prints prints f why);
-    }
 
 -- what memory that ran out leaves
 bare-leaves : (old new : Devices) (f : Option Fault) → f ≡ Some fault.OutOfMemory → LeavesAll old new → LeavesNothing f old new
@@ -214,46 +162,6 @@ answers-written s paths files later a b writes before finish prints after printe
       why = end-cause files.store s paths a b writes finish prints after ran.fault
           (subst (λ (n : ℕ). IfSome ran.fault (EndFails n finish prints after)) counted why);
     }
-
--- the lines of a written image
-pub lines-finish : (s : Settings) (paths : List (List ℕ)) (made : Made) (e : Ends) (prints after : ℕ) (ran : Ran)
-    → WritesFile e.old_store e.new_store s.output made.image.bytes.items → Prints s paths made e.old_printed e.new_printed prints after ran
-    → Finishes s paths made e ran
-lines-finish s paths made e prints after ran wrote p = record {
-  status = p.status;
-  image =
-      subst (λ (i : Option LinkedImage). MatchOption i (EndsBare e ran.fault) (EndsWith s paths made e ran.fault)) (sym p.image) (record {
-        same = refl;
-        left = written ran.fault p.why;
-        lines = p.lines;
-      });
-}
-  where
-    written : (f : Option Fault) → PrintFails prints after f → LeavesOutput f e.old_store e.new_store s.output made.image.bytes.items
-    written None why = wrote
-    written (Some fault.Print) why = wrote
-    written (Some fault.Write) why = absurd why
-    written (Some fault.OutOfMemory) why = absurd why
-    written (Some (fault.MissingFile word)) why = absurd why
-    written (Some (fault.UnknownKind word kind)) why = absurd why
-    written (Some (fault.Input word refusal)) why = absurd why
-    written (Some (fault.Link refusal)) why = absurd why
-    written (Some (fault.Words refusal)) why = absurd why
-    written (Some (fault.Read word)) why = absurd why
-
--- and the cause of their fault
-pub lines-cause : (writes later prints after : ℕ) (f : Option Fault) → PrintFails prints after f
-    → IfSome f (EndFails writes later prints after)
-lines-cause writes later prints after None why = tt
-lines-cause writes later prints after (Some fault.Print) why = why
-lines-cause writes later prints after (Some fault.Write) why = absurd why
-lines-cause writes later prints after (Some fault.OutOfMemory) why = absurd why
-lines-cause writes later prints after (Some (fault.MissingFile word)) why = absurd why
-lines-cause writes later prints after (Some (fault.UnknownKind word kind)) why = absurd why
-lines-cause writes later prints after (Some (fault.Input word refusal)) why = absurd why
-lines-cause writes later prints after (Some (fault.Link refusal)) why = absurd why
-lines-cause writes later prints after (Some (fault.Words refusal)) why = absurd why
-lines-cause writes later prints after (Some (fault.Read word)) why = absurd why
 
 -- a run that was answered, and whose fault was told
 pub told-run : (s : Settings) (paths : List (List ℕ)) (old new : Devices) (before after : ErrorSink) (ran : Ran) (f : Fault)

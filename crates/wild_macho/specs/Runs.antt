@@ -8,10 +8,10 @@ use Rattle.macho_model.specs.Links.{Link}
 use Rattle.macho_model.specs.Valid.{IsValid}
 use Rattle.macho_model.specs.declared.placed.Counts.{Counts}
 use Rattle.macho_promise.specs.Sizes.{AreCounts}
-use Rattle.macho_faults.specs.declared.fault.LinkError.TheVariants.{BadName}
+use Rattle.macho_answer.specs.declared.fault.LinkError.TheVariants.{BadName}
 use Rattle.macho_report.specs.Linkers.{link_of}
-use Rattle.macho_linked.specs.declared.image.LinkedImage.{LinkedImage}
-use Rattle.macho_linked.specs.Linked.{IsImageOf}
+use Rattle.macho_answer.specs.declared.image.LinkedImage.{LinkedImage}
+use Rattle.macho_answer.specs.Linked.{IsImageOf}
 use Rattle.macho_devices.specs.Devices.{WritesFile, TornWrite, TakesBytes, TakesPrefix}
 use Rattle.macho_report.specs.Fault.{Fault}
 use Rattle.macho_report.specs.Fault.TheVariants.{Link as LinkFault, Write, Print, OutOfMemory}

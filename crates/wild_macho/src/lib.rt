@@ -8,12 +8,12 @@
 mod passes;
 
 pub use crate::passes::{Ran, run};
+pub use macho_answer::{LinkError, LinkedImage};
 pub use macho_devices::{
     FileFault, Files, MemoryFiles, MemorySink, RealFiles, RealSink, Sink, SinkFault, SteadyFiles,
     SteadySink,
 };
-pub use macho_faults::LinkError;
-pub use macho_linked::LinkedImage;
+pub use macho_linking::link;
 pub use macho_report::{
     Fault, FileNames, InputKind, Linker, gather, print_fault, print_lines, uuid_of,
 };

@@ -3,8 +3,7 @@
 //! Its passes are: the words are read, the linker is made, the inputs and the export lists are read and added, the link
 //! makes an image, the image is written, lines are printed; a fault is told.
 
-ghost use Rattle.std.specs.Prelude.{◌≡◌, ℕ, ◌<◌, ◌-◌, ◌^◌, ◌⊎◌, List, [], length, map, true, false};
-ghost use Rattle.std.specs.Prelude.{Some, None, Option, IfOk, IfErr, IfSome, OnOk, MatchOption};
+ghost use Rattle.std.specs.Prelude.{◌≡◌, ℕ, ◌<◌, ◌-◌, ◌^◌, ◌⊎◌, List, [], length, map, true, false, Some, None, Option, IfOk, IfErr, IfSome, OnOk, MatchOption};
 ghost use Rattle.std.specs.String.{string_bytes};
 ghost use Rattle.macho_args.specs.Settings.{settings_of};
 ghost use Rattle.macho_args.specs.SearchPaths.{IsParsed};
@@ -13,7 +12,7 @@ ghost use Rattle.macho_model.specs.Links.{carried_of};
 ghost use Rattle.macho_model.specs.Faults.{bad_name};
 ghost use Rattle.macho_model.specs.Placement.{id_of};
 ghost use Rattle.macho_report.specs.Linkers.{link_of};
-ghost use Rattle.macho_linked.specs.Linked.{IsImageOf};
+ghost use Rattle.macho_answer.specs.Linked.{IsImageOf};
 ghost use Rattle.macho_report.specs.Job.{uuid_of};
 ghost use Rattle.macho_devices.specs.Devices.{OnlyReads, OnlyWrites};
 ghost use Rattle.macho_devices.specs.Faults.{CountsOn};
@@ -224,7 +223,7 @@ fn link(alloc: Global, args: &MachOArgs, linker: &Linker) -> Result<LinkedImage,
     ensures why { IfErr result (IsLinkFault linker.now) }
 {
     let uuid = uuid_of(args, linker);
-    match linker.link_image(alloc, uuid) {
+    match macho_linking::link(alloc, linker, uuid) {
         Ok(image) => Ok(image),
         Err(error) => Err(Fault::of_link(error)),
     }

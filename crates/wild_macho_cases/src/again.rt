@@ -3,7 +3,7 @@
 use macho_args::MachOArgs;
 use macho_case_files::{GivenFile, Line, Unread, check_bytes, note};
 use std::alloc::{AllocError, Global};
-use wild_macho::Linker;
+use wild_macho::{Linker, link};
 
 /// A linker is given no more objects.
 const MOST_INPUTS: u32 = 100;
@@ -42,7 +42,7 @@ fn takes_all_but(
 
 // The bytes of the linker's image, none where it gives none.
 fn image_of(alloc: Global, linker: &Linker) -> Vec<u8> {
-    match linker.link_image(alloc, [0; 16]) {
+    match link(alloc, linker, [0; 16]) {
         Ok(image) => image.bytes,
         Err(_refusal) => Vec::new(alloc),
     }

@@ -8,18 +8,18 @@ ghost use Rattle.std.specs.Prelude.{◌≡◌, ◌<◌, ◌-◌, ◌^◌, [], le
 ghost use Rattle.macho_args.specs.Settings.{settings_of};
 ghost use Rattle.macho_model.specs.Links.{carried_of};
 ghost use Rattle.macho_model.specs.Placement.{id_of};
-ghost use Rattle.macho_faults.specs.declared.fault.LinkError.TheVariants as refusal;
-ghost use Rattle.macho_linked.specs.Linked.{IsImageOf};
+ghost use Rattle.macho_answer.specs.declared.fault.LinkError.TheVariants as refusal;
+ghost use Rattle.macho_answer.specs.Linked.{IsImageOf};
 ghost use Rattle.wild_macho.specs.Causes.{status_of};
 ghost use Rattle.wild_macho.specs.Linkers.{link_of};
 ghost use Rattle.wild_macho.specs.Names.{names_of};
-ghost use Rattle.wild_macho.specs.Refusals.{RefusalStands};
+ghost use Rattle.macho_answer.specs.Linked.{RefusalStands};
 
 use macho_args::MachOArgs;
 use std::alloc::Global;
 use wild_macho::{
     Fault, FileFault, FileNames, Files, LinkError, LinkedImage, Linker, RealFiles, RealSink, Sink,
-    gather, print_fault, print_lines, uuid_of,
+    gather, link, print_fault, print_lines, uuid_of,
 };
 
 /// The linker is given no more words.
@@ -153,9 +153,9 @@ fn link_again(alloc: Global, linker: &Linker, uuid: [u8; 16]) -> Answered
     // No link but a second one is refused for want of memory.
     ensures once { result.again ≡ false → IfErr result.answer (λ error. error ≡ refusal.OutOfMemory → ⊥) }
 {
-    match linker.link_image(alloc, uuid) {
+    match link(alloc, linker, uuid) {
         Err(LinkError::OutOfMemory) => Answered {
-            answer: linker.link_image(alloc, uuid),
+            answer: link(alloc, linker, uuid),
             again: true,
         },
         answer => Answered {

@@ -19,7 +19,7 @@ use Rattle.macho_model.specs.Objects.{num_sections, section_place, section_at, s
 use Rattle.macho_model.specs.ExportLists.{plain_entries, all_entries, entries_of}
 use Rattle.macho_model.specs.Links.{Link, Object, sections_of, carried_of, template_exponent, placed_exponent}
 use Rattle.macho_model.specs.Resolution.{SymbolId, Definition, Symbol, Library, ImageBase, entry_at, has_name, symbols_of, strong_of, commons_of, greatest_of, libraries_with, definition_of, chosen_commons}
-use Rattle.macho_model.specs.steps.Resolved.{DSO_HANDLE, first_or, is_strong, is_weak, weak_of}
+use Rattle.macho_model.specs.steps.Resolved.{DSO_HANDLE, first_or, is_strong, is_weak, weak_of, first_definition}
 use Rattle.macho_model.specs.Needs.{initializer_sections, unwind_sections, imports_of, libraries_needed, carried_relocations, initializer_relocations, personality_relocations}
 use Rattle.macho_model.specs.Targets.{target_of, target_of_relocation, slots_of, stubs_of}
 use Rattle.macho_model.specs.Fields.{fields_of}
@@ -42,7 +42,7 @@ use Rattle.macho_model_checks.proofs.ValidTests.{valid_verdict, verdict_but, is_
 use Rattle.wild_macho.specs.Linkers.{link_of}
 use Rattle.wild_macho.specs.Runs.{IsOwed}
 use Rattle.macho_model.proofs.Resolved.{definition_is_first}
-use Rattle.macho_model.specs.steps.Resolved.{first_definition}
+use Rattle.macho_model.proofs.Definitions.{no_symbol_behind}
 
 -- `_main` at 0, a BL to `_f`; `_f` at 8; both are hidden (`mach-o/nlist.h`, `N_PEXT`)
 unfoldable pub calls : List ℕ
@@ -98,12 +98,6 @@ in_object (Some (Symbol s)) = true
 in_object (Some (Library file)) = false
 in_object (Some ImageBase) = false
 
-no_symbol : (libraries : List ℕ) (handle : Bool) (s : SymbolId)
-    → first_or (map Library libraries) (if handle then Some ImageBase else None) ≡ Some (Symbol s) → ⊥
-no_symbol (n ∷ libraries) handle s is = let no : false ≡ true = ap in_object is in cc
-no_symbol [] true s is = let no : false ≡ true = ap in_object is in cc
-no_symbol [] false s is = let no : false ≡ true = ap in_object is in cc
-
 -- where all symbols are hidden, so is what defines a name
 defined_hidden : (l : Link) (name : List ℕ) (s : SymbolId) → All (IsHidden l) (symbols_of l) → definition_of l name ≡ Some (Symbol s)
     → IsHidden l s
@@ -113,7 +107,7 @@ defined_hidden l name s all is =
     (λ weak. from_symbols l (weak_of l name) _ s (All-filter (λ t. is_weak l t && has_name l name t) (IsHidden l) (symbols_of l) all)
     (λ common. from_symbols l (greatest_of l name) _ s (All-filter _ (IsHidden l) (commons_of l name)
     (All-filter (λ t. is_common_of (entry_at l t) && has_name l name t) (IsHidden l) (symbols_of l) all))
-    (λ library. absurd (no_symbol (libraries_with l name) (bytes_eq name DSO_HANDLE) s library)) common) weak)
+    (λ library. absurd (no_symbol_behind (libraries_with l name) (bytes_eq name DSO_HANDLE) s library)) common) weak)
     (sym (definition_is_first l name) ∙ is)
 
 -- a link whose symbols are all hidden, and that has no export lists, exports nothing

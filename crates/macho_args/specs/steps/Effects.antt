@@ -1,8 +1,7 @@
 -- Why a step of the fold over the words was refused.
-use Rattle.std.specs.Prelude.{◌≡◌, ◌⊎◌, ℕ, List, [], ◌∷◌, ◌++◌, Option, ◌==◌, if◌then◌else◌, Some, None, option_and_then}
+use Rattle.std.specs.Prelude.{◌≡◌, ◌⊎◌, ℕ, List, [], ◌∷◌, ◌++◌, Option, ◌==◌, if◌then◌else◌, Some, None, option_and_then, Result, Err}
 use Rattle.std.specs.List.{list_any}
 use Rattle.std.specs.Str.{bytes_eq}
-use Rattle.std.specs.Prelude.{Result, Err}
 use Rattle.macho_args.specs.declared.fault.ArgsFault.{ArgsFault}
 use Rattle.macho_args.specs.declared.fault.ArgsFault.TheVariants.{OutOfMemory}
 use Rattle.std.specs.Result.{result_ok}

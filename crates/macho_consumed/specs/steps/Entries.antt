@@ -5,8 +5,8 @@ use Rattle.std.specs.List.{range_with_len, list_all, list_any}
 use Rattle.macho_bytes.specs.Numbers.{bits}
 use Rattle.macho_records.specs.Sections.{is_zerofill}
 use Rattle.macho_records.specs.declared.header.SectionHeader.{SectionHeader}
-use Rattle.macho_structs.specs.declared.relocations.RelocationInfo.{RelocationInfo}
-use Rattle.macho_structs.specs.declared.unwind.UnwindInfoEntry.{UnwindInfoEntry}
+use Rattle.macho_wire.specs.declared.relocations.RelocationInfo.{RelocationInfo}
+use Rattle.macho_wire.specs.declared.unwind.UnwindInfoEntry.{UnwindInfoEntry}
 use Rattle.macho_model.specs.declared.rules.UnwindRule.{UnwindRule}
 use Rattle.macho_model.specs.declared.rules.UnwindRule.TheVariants.{U1, U2, U3, U4, U5, U6, U7, U8}
 use Rattle.macho_model.specs.Links.{Link, SectionId, is_carried}

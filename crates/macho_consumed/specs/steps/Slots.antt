@@ -2,7 +2,7 @@
 use Rattle.std.specs.Prelude.{◌≡◌, ℕ, ◌+◌, ◌*◌, ◌/◌, ◌%◌, ◌<◌, ◌≤◌, ◌⊎◌, ◌==◌, ◌&&◌, Bool, true, false, List, [], ◌∷◌, length, map, Contains}
 use Rattle.std.specs.List.{flat_map, range_with_len}
 use Rattle.macho_bytes.specs.Numbers.{le_at}
-use Rattle.macho_structs.specs.declared.relocations.RelocationInfo.{RelocationInfo}
+use Rattle.macho_wire.specs.declared.relocations.RelocationInfo.{RelocationInfo}
 use Rattle.macho_model.specs.Objects.{num_symbols, section_at, section_bytes, relocation_at}
 use Rattle.macho_model.specs.Consumed.{is_plain_pointer, initializer_section_fits}
 use Rattle.macho_consumed.specs.declared.rows.Initializer.{Initializer}

@@ -16,8 +16,8 @@ use Rattle.macho_model.specs.Values.{needs_fixup, IsNotEncodable, DoesNotFit}
 use Rattle.macho_model.specs.Faults.{BadPlace}
 use Rattle.macho_model.specs.Placement.{Placed, id_of}
 use Rattle.macho_fixups.specs.declared.run.Fixup.{Fixup}
-use Rattle.macho_parts.specs.Asked.{field_fixup}
-use Rattle.macho_parts.specs.Filled.{FieldIsSet}
+use Rattle.macho_promise.specs.Asked.{field_fixup}
+use Rattle.macho_promise.specs.Filled.{FieldIsSet}
 use Rattle.macho_fields.specs.Looks.{Look, Tells, IsFound}
 use Rattle.macho_fields.specs.steps.Fields.{kind_in}
 use Rattle.macho_fields.specs.steps.Kinds.{KindFits}

@@ -6,12 +6,12 @@ use Rattle.macho_args.specs.Settings.{Settings}
 use Rattle.macho_args.specs.Store.{Store}
 use Rattle.macho_model.specs.Links.{Link, Input}
 use Rattle.macho_model.specs.LinkLaws.{with_input}
-use Rattle.macho_image.specs.Linkers.{link_of}
-use Rattle.macho_faults.specs.declared.fault.LinkError.{LinkError}
-use Rattle.macho_faults.specs.declared.fault.LinkError.TheVariants as error
-use Rattle.macho_faults.specs.declared.fault.InputFault.TheVariants as input
+use Rattle.macho_linker.specs.Linkers.{link_of}
+use Rattle.macho_answer.specs.declared.fault.LinkError.{LinkError}
+use Rattle.macho_answer.specs.declared.fault.LinkError.TheVariants as error
+use Rattle.macho_answer.specs.declared.fault.InputFault.TheVariants as input
 use Rattle.macho_stub_lines.specs.declared.fault.StubRule.TheVariants.{S1}
-use Rattle.macho_image.specs.Refusals.{StubRefused}
+use Rattle.macho_linker.specs.Refusals.{StubRefused}
 use Rattle.macho_devices.specs.Faults.{CountRose}
 use Rattle.macho_job.specs.declared.fault.Fault.{Fault}
 use Rattle.macho_job.specs.declared.fault.Fault.TheVariants.{MissingFile, UnknownKind, Input as InputFault, Read, OutOfMemory}

@@ -8,8 +8,8 @@ use Rattle.macho_model.specs.Resolution.{SymbolId, name_at}
 use Rattle.macho_bytes.specs.Numbers.{bits}
 use Rattle.macho_records.specs.declared.symbols.SymtabEntry.{SymtabEntry}
 use Rattle.macho_records.specs.declared.constants.TheConstants.{N_SECT, N_ABS}
-use Rattle.macho_parts.specs.Sizes.{text_size}
-use Rattle.macho_names.specs.Kept.{in_carried}
+use Rattle.macho_promise.specs.Sizes.{text_size}
+use Rattle.macho_symbol_names.specs.Kept.{in_carried}
 use Rattle.macho_symbols.specs.Kept.{symbol_id}
 use Rattle.macho_linkedit.specs.declared.listing.TableSymbols.{TableSymbols}
 use Rattle.macho_linkedit.specs.Listing.{id_of_symbol, HasLength}

@@ -1,6 +1,6 @@
 -- A string table, with the ends of its names.
 use Rattle.std.specs.Prelude.{◌≡◌, ℕ, List, IfSome, IsSome}
-use Rattle.macho_names.specs.Notes.{AreEnds}
+use Rattle.macho_symbol_names.specs.Notes.{AreEnds}
 use Rattle.macho_linkedit.specs.declared.names.Names.{Names}
 
 -- The names of a string table, with the ends of its blocks where it was read.

@@ -11,21 +11,21 @@ use Rattle.macho_model.specs.ImportTable.{fixup_count}
 use Rattle.macho_object.specs.Views.{FileBytes}
 use Rattle.macho_promise.specs.Sizes.{AreCounts}
 use Rattle.macho_promise.specs.Promise.{IsLinked}
-use Rattle.macho_parts.specs.Views.{views_of, ViewsObject}
-use Rattle.macho_faults.specs.declared.fault.LinkError.{LinkError}
-use Rattle.macho_faults.specs.Standing.{Stands}
-use Rattle.macho_exports.specs.Entries.{ListEntries}
+use Rattle.macho_promise.specs.Views.{views_of, ViewsObject}
+use Rattle.macho_answer.specs.declared.fault.LinkError.{LinkError}
+use Rattle.macho_answer.specs.Standing.{Stands}
+use Rattle.macho_export_lists.specs.Entries.{ListEntries}
 use Rattle.macho_symbols.specs.Exported.{AreLists}
 use Rattle.macho_fields.specs.Faults.{NoneIsBad}
 use Rattle.macho_model.specs.Grammar.{ObjectsAreRead}
-use Rattle.macho_composed.specs.Names.{StubsArePlain}
+use Rattle.macho_promise_laws.specs.Names.{StubsArePlain}
 use Rattle.macho_linkedit.specs.declared.exports.NamedExport.{NamedExport}
 use Rattle.macho_linkedit.specs.declared.listing.LinkedObject.{LinkedObject}
 use Rattle.macho_linkedit.specs.Listing.{AreObjects}
 use Rattle.macho_linkedit.specs.Tries.{AreKept}
-use Rattle.macho_tables.specs.Exports.{exports_told}
-use Rattle.macho_answers.specs.ReadLink.{ReadLink}
-use Rattle.macho_answers.specs.Read.{IsReadOf, AreKnown}
+use Rattle.macho_symbol_tables.specs.Exports.{exports_told}
+use Rattle.macho_refusal_laws.specs.ReadLink.{ReadLink}
+use Rattle.macho_refusal_laws.specs.Read.{IsReadOf, AreKnown}
 use Rattle.macho_sizing.specs.declared.asked.SizedLink.{SizedLink}
 use Rattle.macho_sizing.specs.Sized.{IsSizedOf}
 use Rattle.macho_linking.specs.declared.write.Written.{Written}

@@ -8,18 +8,18 @@ use Rattle.macho_model.specs.Needs.{libraries_needed}
 use Rattle.macho_model.specs.Placement.{Placed}
 use Rattle.macho_symbols.specs.Exported.{AreLists}
 use Rattle.macho_symbols.specs.Kept.{HasSymbol}
-use Rattle.macho_parts.specs.Views.{views_of}
+use Rattle.macho_promise.specs.Views.{views_of}
 use Rattle.macho_linkedit.specs.declared.exports.NamedExport.{NamedExport}
 use Rattle.macho_linkedit.specs.Listing.{AreObjects}
 use Rattle.macho_linkedit.specs.Tries.{AreKept}
 use Rattle.macho_fields.specs.Looks.{Look, Tells}
 use Rattle.macho_model.specs.Grammar.{ObjectsAreRead}
-use Rattle.macho_composed.specs.Names.{StubsArePlain}
-use Rattle.macho_tables.specs.Exports.{exports_told}
-use Rattle.macho_answers.specs.Read.{IsReadOf, AreKnown}
+use Rattle.macho_promise_laws.specs.Names.{StubsArePlain}
+use Rattle.macho_symbol_tables.specs.Exports.{exports_told}
+use Rattle.macho_refusal_laws.specs.Read.{IsReadOf, AreKnown}
 use Rattle.macho_sizing.specs.Sized.{IsSizedOf}
 use Rattle.macho_linking.specs.declared.planned.Planned.{Planned}
-use Rattle.macho_linking.specs.Linking.{link_asked}
+use Rattle.macho_linker.specs.Asked.{link_asked}
 
 -- The arguments and the inputs are those of the link.
 pub record AreInputs (l : Link) (b : Planned) : Type 0 where

@@ -3,12 +3,12 @@ use Rattle.std.specs.Prelude.{Some}
 use Rattle.macho_layout.specs.declared.placement.Placement.{Placement}
 use Rattle.macho_model.specs.Links.{Link}
 use Rattle.macho_model.specs.Placement.{Placed}
-use Rattle.macho_faults.specs.declared.fault.LinkError.{LinkError}
-use Rattle.macho_faults.specs.declared.fault.LinkError.TheVariants as error
+use Rattle.macho_answer.specs.declared.fault.LinkError.{LinkError}
+use Rattle.macho_answer.specs.declared.fault.LinkError.TheVariants as error
 use Rattle.macho_fields.specs.declared.fault.FillFault.TheVariants as fill
 use Rattle.macho_fields.specs.Faults.{FillStands}
-use Rattle.macho_composed.specs.MadeFault.TheVariants as made
-use Rattle.macho_composed.specs.Made.{IsRefused}
+use Rattle.macho_promise_laws.specs.MadeFault.TheVariants as made
+use Rattle.macho_promise_laws.specs.Made.{IsRefused}
 use Rattle.macho_linking.specs.declared.fault.Unwritten.{Unwritten}
 use Rattle.macho_linking.specs.declared.fault.Unwritten.TheVariants.{Unfilled, Unmade, OutOfMemory}
 

@@ -6,8 +6,8 @@ use Rattle.macho_model.specs.Links.{Link}
 use Rattle.macho_model.specs.Placement.{Placed, head_size}
 use Rattle.macho_model.specs.Addresses.{offset_in_file}
 use Rattle.macho_fixups.specs.declared.run.Fixup.{Fixup}
-use Rattle.macho_composed.specs.Meaning.{FixupsMean, TrieMeans, SymbolsMean, HeadMeans, SignatureMeans}
-use Rattle.macho_composed.specs.Made.{IsOffsetsText, IsUnwindMade}
+use Rattle.macho_promise_laws.specs.Meaning.{FixupsMean, TrieMeans, SymbolsMean, HeadMeans, SignatureMeans}
+use Rattle.macho_promise_laws.specs.Made.{IsOffsetsText, IsUnwindMade}
 
 -- The offsets of initializers stand at the front of their range.
 pub record OffsetsArePut (l : Link) (p : Placed) (old new : List ℕ) : Type 0 where

@@ -1,8 +1,8 @@
 -- What a walk over the load commands says of where it stands.
 use Rattle.std.specs.Prelude.{◌≡◌, ℕ, ◌+◌, ◌*◌, ◌-◌, ◌<◌, ◌≤◌, List, length, filter, drop, take}
 use Rattle.macho_model.specs.Commands.{header_of, commands_of, commands_from}
-use Rattle.macho_memory_walks.specs.declared.walk.Listed.{Listed}
-use Rattle.macho_memory_walks.specs.Readings.{is_listed, IsNth}
+use Rattle.macho_image_walks.specs.declared.walk.Listed.{Listed}
+use Rattle.macho_image_walks.specs.Readings.{is_listed, IsNth}
 use Rattle.macho_loader.specs.declared.cursor.Cursor.{Cursor}
 use Rattle.macho_loader.specs.declared.cursor.Step.{Step}
 

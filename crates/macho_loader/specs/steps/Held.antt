@@ -4,10 +4,10 @@ use Rattle.macho_model.specs.Images.{Table, import_entry, import_name}
 use Rattle.macho_model.specs.Loader.{ordinal_of}
 use Rattle.macho_model.specs.Memory.{bind_addend}
 use Rattle.macho_model.specs.ReadBack as model
-use Rattle.macho_memory_walks.specs.declared.walk.Listed.TheVariants as list
-use Rattle.macho_memory_walks.specs.Readings.{IsNth, HasWord, segment_there}
-use Rattle.macho_memory_walks.specs.steps.Walks.{Leads}
-use Rattle.macho_model_walks.specs.steps.WordTests.{address_in}
+use Rattle.macho_image_walks.specs.declared.walk.Listed.TheVariants as list
+use Rattle.macho_image_walks.specs.Readings.{IsNth, HasWord, segment_there}
+use Rattle.macho_image_walks.specs.steps.Walks.{Leads}
+use Rattle.macho_image_walks.specs.steps.WordTests.{address_in}
 use Rattle.macho_loader.specs.declared.fixups.Held.{Held}
 use Rattle.macho_loader.specs.steps.Words.{IsReached}
 

@@ -5,10 +5,10 @@ use Rattle.macho_model.specs.Loader.{WordFits}
 use Rattle.macho_model.specs.declared.rules.LoadRule.{LoadRule}
 use Rattle.macho_model.specs.declared.rules.LoadRule.TheVariants.{L10}
 use Rattle.macho_model.specs.Lists.{EachNext}
-use Rattle.macho_memory_walks.specs.declared.walk.Listed.TheVariants as list
-use Rattle.macho_memory_walks.specs.Readings.{IsNth, HasWord, segment_there}
-use Rattle.macho_memory_walks.specs.steps.Walks.{Leads}
-use Rattle.macho_model_walks.specs.steps.WordTests.{address_in, FitFrom}
+use Rattle.macho_image_walks.specs.declared.walk.Listed.TheVariants as list
+use Rattle.macho_image_walks.specs.Readings.{IsNth, HasWord, segment_there}
+use Rattle.macho_image_walks.specs.steps.Walks.{Leads}
+use Rattle.macho_image_walks.specs.steps.WordTests.{address_in, FitFrom}
 use Rattle.macho_loader.specs.declared.word_rules.Chained.{Chained}
 use Rattle.macho_model.specs.SegmentRules.{begins_behind, file_part_inside}
 

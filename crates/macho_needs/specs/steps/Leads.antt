@@ -1,18 +1,18 @@
 -- What a relocation notes and leads to, by what it says itself: by its symbol, or by the number of a section.
 use Rattle.std.specs.Prelude.{ℕ, ◌≡◌, ◌-◌, if◌then◌else◌, Bool, true, false, List}
 use Rattle.macho_records.specs.declared.header.SectionHeader.{SectionHeader}
-use Rattle.macho_structs.specs.declared.relocations.RelocationInfo.{RelocationInfo}
+use Rattle.macho_wire.specs.declared.relocations.RelocationInfo.{RelocationInfo}
 use Rattle.macho_model.specs.declared.targets.Target.{Target}
 use Rattle.macho_model.specs.declared.targets.Target.TheVariants as target
 use Rattle.macho_model.specs.Objects.{section_at}
 use Rattle.macho_model.specs.Links.{Link, is_carried}
 use Rattle.macho_model.specs.Resolution.{SymbolId}
 use Rattle.macho_model.specs.Uses.{target_with}
-use Rattle.macho_names.specs.declared.fault.SymbolFault.{SymbolFault}
+use Rattle.macho_symbol_names.specs.declared.fault.SymbolFault.{SymbolFault}
 use Rattle.macho_symbols.specs.Kept.{symbol_id}
 use Rattle.macho_symbols.specs.Told.{IsDefined, IsUndefined, noting}
-use Rattle.macho_faults.specs.declared.fault.LinkError.{LinkError}
-use Rattle.macho_faults.specs.Errors.{error_of}
+use Rattle.macho_answer.specs.declared.fault.LinkError.{LinkError}
+use Rattle.macho_answer.specs.Errors.{error_of}
 
 -- the start of a section with a header, if that is carried
 abbrev pub carried_start : ℕ → ℕ → SectionHeader → Target

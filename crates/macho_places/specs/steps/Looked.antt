@@ -2,8 +2,8 @@
 use Rattle.std.specs.Prelude.{ℕ, ◌+◌, ◌^◌, ◌<◌, length}
 use Rattle.macho_model.specs.Placement.{Placed}
 use Rattle.macho_needs.specs.Tables.{Numbered}
-use Rattle.macho_addresses.specs.declared.Addresses.{Addresses}
-use Rattle.macho_addresses.specs.Lookups.{AreAddresses}
+use Rattle.macho_places.specs.declared.addresses.Addresses.{Addresses}
+use Rattle.macho_places.specs.Lookups.{AreAddresses}
 
 -- The tables are those of the placement, and entries have numbers of 32 bits.
 pub record IsSetUp (a : Addresses) (p : Placed) (imports : ℕ) (tables : Numbered) : Type 0 where

@@ -1,13 +1,13 @@
 -- Rows of consumed sections: which relocations they are of, and that what they use can be noted.
 use Rattle.std.specs.Prelude.{◌≡◌, ℕ, true, List, [], ◌∷◌, Option, Some, None, All, IfSome}
-use Rattle.macho_structs.specs.declared.relocations.RelocationInfo.{RelocationInfo}
+use Rattle.macho_wire.specs.declared.relocations.RelocationInfo.{RelocationInfo}
 use Rattle.macho_object.specs.Views.{FileBytes}
 use Rattle.macho_model.specs.Grammar.{IsFile}
 use Rattle.macho_model.specs.Links.{Input, Link, SectionId, section_id}
 use Rattle.macho_model.specs.Needs.{relocation_in}
 use Rattle.macho_model.specs.Uses.{Use}
 use Rattle.macho_model.specs.Consumed.{is_plain_pointer}
-use Rattle.macho_names.specs.Kept.{FileRows, Keeps}
+use Rattle.macho_symbol_names.specs.Kept.{FileRows, Keeps}
 use Rattle.macho_symbols.specs.Kept.{ResolvedRows, HasSymbol}
 use Rattle.macho_consumed.specs.declared.rows.Initializer.{Initializer}
 use Rattle.macho_consumed.specs.declared.rows.PersonalityUse.{PersonalityUse}

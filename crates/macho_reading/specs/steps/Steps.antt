@@ -4,12 +4,12 @@ use Rattle.macho_object.specs.Views.{FileBytes}
 use Rattle.macho_model.specs.Links.{Link}
 use Rattle.macho_model.specs.Uses.{Use, uses_of}
 use Rattle.macho_model.specs.Faults.{entry_is_defined}
-use Rattle.macho_exports.specs.Entries.{ListEntries}
+use Rattle.macho_export_lists.specs.Entries.{ListEntries}
 use Rattle.macho_symbols.specs.Exported.{AreLists}
-use Rattle.macho_parts.specs.Noted.{uses_of_carried, uses_of_initializers, uses_of_personalities}
+use Rattle.macho_promise.specs.Noted.{uses_of_carried, uses_of_initializers, uses_of_personalities}
 use Rattle.macho_needs.specs.declared.needs.Needs.{Needs}
 use Rattle.macho_needs.specs.Noted.{IsNoted}
-use Rattle.macho_parts.specs.Views.{views_of}
+use Rattle.macho_promise.specs.Views.{views_of}
 use Rattle.macho_consumed.specs.Told.{EntriesKeepRules}
 use Rattle.macho_reading.specs.declared.rows.Rows.{Rows}
 use Rattle.macho_reading.specs.Read.{entry_of}

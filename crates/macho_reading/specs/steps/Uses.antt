@@ -1,6 +1,6 @@
 -- Uses by relocations of consumed sections, whether these keep their rules or not.
 use Rattle.std.specs.Prelude.{◌≡◌, ℕ, ◌/◌, ◌%◌, ◌<◌, ◌==◌, nat_lt, ◌&&◌, Bool, true, List}
-use Rattle.macho_structs.specs.declared.relocations.RelocationInfo.{RelocationInfo}
+use Rattle.macho_wire.specs.declared.relocations.RelocationInfo.{RelocationInfo}
 use Rattle.macho_object.specs.Views.{RelocationBytes}
 use Rattle.macho_model.specs.Objects.{num_sections, section_at}
 use Rattle.macho_model.specs.Grammar.{IsObject}
@@ -8,8 +8,8 @@ use Rattle.macho_model.specs.Links.{SectionId}
 use Rattle.macho_model.specs.Needs.{POINTER_SIZE, UNWIND_ENTRY_SIZE, PERSONALITY_PLACE}
 use Rattle.macho_model.specs.Uses.{Use, ByInitializer, ByPersonality}
 use Rattle.macho_model.specs.Consumed.{is_plain_pointer}
-use Rattle.macho_names.specs.Kept.{FileRows}
-use Rattle.macho_survey.specs.steps.Sections.{HasRows}
+use Rattle.macho_symbol_names.specs.Kept.{FileRows}
+use Rattle.macho_relocation_scan.specs.steps.Sections.{HasRows}
 use Rattle.macho_consumed.specs.declared.listing.Kind.{Kind}
 use Rattle.macho_consumed.specs.declared.listing.Kind.TheVariants.{Initializers, Entries}
 use Rattle.macho_consumed.specs.Kinds.{is_of_kind}

@@ -1,7 +1,7 @@
 -- The refusals of a linker that are printed together, by what they are of.
 use Rattle.std.specs.Prelude.{Bool, true, false}
-use Rattle.macho_faults.specs.declared.fault.LinkError.{LinkError}
-use Rattle.macho_faults.specs.declared.fault.LinkError.TheVariants as error
+use Rattle.macho_answer.specs.declared.fault.LinkError.{LinkError}
+use Rattle.macho_answer.specs.declared.fault.LinkError.TheVariants as error
 
 abbrev pub is_of_name : LinkError → Bool
 is_of_name (error.DuplicateSymbol name first second) = true

@@ -10,7 +10,7 @@ use Rattle.macho_model.specs.Resolution.{symbols_of}
 use Rattle.macho_model.specs.Needs.{imports_of, libraries_needed}
 use Rattle.macho_model.specs.Consumed.{personality_targets}
 use Rattle.macho_model.specs.Fixups.{import_entries_of}
-use Rattle.macho_exports.specs.Entries.{ListEntries}
+use Rattle.macho_export_lists.specs.Entries.{ListEntries}
 use Rattle.macho_symbols.specs.declared.solved.Import.{Import}
 use Rattle.macho_promise.specs.Sizes.{text_size}
 use Rattle.macho_linkedit.specs.Imports.{name_bytes}

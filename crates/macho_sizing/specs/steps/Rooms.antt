@@ -10,7 +10,7 @@ use Rattle.macho_model.specs.Order.{pages_of}
 use Rattle.macho_model.specs.Placement.{Placed}
 use Rattle.macho_model.specs.Segments.{may_hold_pointers}
 use Rattle.macho_promise.specs.Sizes.{text_span, unwind_size}
-use Rattle.macho_placing.specs.Laws.{IsWhollyPlaced, NonePasses}
+use Rattle.macho_layout_laws.specs.Laws.{IsWhollyPlaced, NonePasses}
 use Rattle.macho_sizing.specs.Sized.{IsPlannedBy}
 
 -- the room, none where it or the span of functions is 2 ^ 64 or more

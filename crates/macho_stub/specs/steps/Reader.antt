@@ -1,6 +1,5 @@
 -- Reading a stub text line by line.
-use Rattle.std.specs.Prelude.{ℕ, ◌+◌, Bool, ◌&&◌, List, [], ◌∷◌, ◌++◌, map, length, drop, Option, Some, None, Ok}
-use Rattle.std.specs.Prelude.{is_some, ◌==◌, nat_lt, slice_index, if◌then◌else◌}
+use Rattle.std.specs.Prelude.{ℕ, ◌+◌, Bool, ◌&&◌, List, [], ◌∷◌, ◌++◌, map, length, drop, Option, Some, None, Ok, is_some, ◌==◌, nat_lt, slice_index, if◌then◌else◌}
 use Rattle.std.specs.Option.{option_map}
 use Rattle.std.specs.Str.{bytes_eq}
 use Rattle.std.specs.Str.Lines.{lines}
@@ -20,15 +19,12 @@ use Rattle.macho_stub.specs.declared.state.Inside.{Inside}
 use Rattle.macho_stub.specs.declared.state.Place.{Place}
 use Rattle.macho_stub.specs.declared.state.Place.TheVariants as place
 use Rattle.macho_stub.specs.declared.state.State.{State}
-use Rattle.macho_stub_lines.specs.Bytes.{open_bracket, indent, unspaced, is_passed, has_barred, head, end, has_dash}
-use Rattle.macho_stub_lines.specs.Bytes.{belongs_to_top}
+use Rattle.macho_stub_lines.specs.Bytes.{open_bracket, indent, unspaced, is_passed, has_barred, head, end, has_dash, belongs_to_top}
 use Rattle.macho_stub_lines.specs.Faults.{Reading, broken, outside, ◌>>=◌}
 use Rattle.macho_stub_lines.specs.Lists.{ListPart, part_of, list_part, with_front}
 use Rattle.macho_stub_lines.specs.Keys.{entry_at, scalar_value, version_value, top_key, item_key}
 use Rattle.macho_stub.specs.Documents.{ItemFields, DocumentFields}
-use Rattle.macho_stub.specs.steps.Opened.{OpenItemFields, OpenDocumentFields, open_item_of, items_of, document_of}
-use Rattle.macho_stub.specs.steps.Opened.{open_document_of, no_item, head_at, has_key, with_key, with_top_key, has_items}
-use Rattle.macho_stub.specs.steps.Opened.{with_items}
+use Rattle.macho_stub.specs.steps.Opened.{OpenItemFields, OpenDocumentFields, open_item_of, items_of, document_of, open_document_of, no_item, head_at, has_key, with_key, with_top_key, has_items, with_items}
 use Rattle.macho_stub.specs.steps.Whole.{whole_item, whole_document}
 
 -- A list of items that is being read: the items before, the column of its dashes, the column of the keys of its

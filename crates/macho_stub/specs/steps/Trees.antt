@@ -1,20 +1,17 @@
 -- Documents and items as trees whose entries say what stands under them: lines, or items. `Places` has the same with the
 -- lines alone (`proofs/Unders`).
-use Rattle.std.specs.Prelude.{◌≡◌, ◌≢◌, ℕ, ◌+◌, ◌<◌, ◌⊎◌, Bool, true, false, List, [], ◌∷◌, ◌++◌, Option}
-use Rattle.std.specs.Prelude.{Some, None, nat_lt, slice_index, codes}
+use Rattle.std.specs.Prelude.{◌≡◌, ◌≢◌, ℕ, ◌+◌, ◌<◌, ◌⊎◌, Bool, true, false, List, [], ◌∷◌, ◌++◌, Option, Some, None, nat_lt, slice_index, codes}
 use Rattle.std.specs.List.{AllByRecursion, AllZip, filter, list_any}
 use Rattle.std.specs.Str.{bytes_eq}
 use Rattle.macho_stub_lines.specs.declared.keys.ItemKind.{ItemKind}
 use Rattle.macho_stub_lines.specs.declared.keys.ItemKind.TheVariants.{Libraries, Exports, Reexports}
 use Rattle.macho_stub_lines.specs.Bytes.{open_bracket, indent, head, belongs_to_top}
 use Rattle.macho_stub_lines.specs.Slices.{Slice, Line}
-use Rattle.macho_stub_lines.specs.Spelling.{EntryTree, IsEntry, entry_bytes, value_of, value_at, IsScalarValue}
-use Rattle.macho_stub_lines.specs.Spelling.{IsNumberValue}
+use Rattle.macho_stub_lines.specs.Spelling.{EntryTree, IsEntry, entry_bytes, value_of, value_at, IsScalarValue, IsNumberValue}
 use Rattle.macho_stub_lines.specs.FlowLists.{IsFlowList}
 use Rattle.macho_stub.specs.Documents.{ItemOf, DocumentOf}
 use Rattle.macho_stub.specs.Grammar.{item_keys}
-use Rattle.macho_stub.specs.Places.{SaysAlone, document_keys}
-use Rattle.macho_stub.specs.Places.{Entry, SaysItem, ItemTree, column_of, items_then, entries_of, end_then, no_text}
+use Rattle.macho_stub.specs.Places.{SaysAlone, document_keys, Entry, SaysItem, ItemTree, column_of, items_then, entries_of, end_then, no_text}
 
 abbrev pub ItemEntry : Type 0
 ItemEntry = Entry

@@ -3,15 +3,15 @@ use Rattle.std.specs.Prelude.{◌≡◌, ℕ, ◌&&◌, not, Bool, true, false, 
 use Rattle.std.specs.Borrow.{Bor}
 use Rattle.std.specs.List.{list_any}
 use Rattle.std.specs.Str.{bytes_eq}
-use Rattle.macho_exports.specs.Entries.{ListEntries, is_within}
+use Rattle.macho_export_lists.specs.Entries.{ListEntries, is_within}
 use Rattle.macho_symbols.specs.declared.exports.ExportName.{ExportName}
-use Rattle.macho_names.specs.declared.notes.Sort.{Sort}
-use Rattle.macho_names.specs.declared.notes.Sort.TheVariants.{Section, Absolute, Common, Offered, Nowhere}
-use Rattle.macho_names.specs.declared.table.Entry.{Entry}
+use Rattle.macho_symbol_names.specs.declared.notes.Sort.{Sort}
+use Rattle.macho_symbol_names.specs.declared.notes.Sort.TheVariants.{Section, Absolute, Common, Offered, Nowhere}
+use Rattle.macho_symbol_names.specs.declared.table.Entry.{Entry}
 use Rattle.macho_symbols.specs.Exported.{AreRising, export_names}
-use Rattle.macho_names.specs.Kept.{FileRows}
-use Rattle.macho_names.specs.Events.{Event, events, best_of}
-use Rattle.macho_names.specs.Tables.{IsEntryOf, names_of}
+use Rattle.macho_symbol_names.specs.Kept.{FileRows}
+use Rattle.macho_symbol_names.specs.Events.{Event, events, best_of}
+use Rattle.macho_symbol_names.specs.Tables.{IsEntryOf, names_of}
 use Rattle.macho_symbols.specs.steps.Targets.{is_of_object}
 use Rattle.macho_symbols.specs.Targets.{named_in}
 

@@ -9,14 +9,14 @@ use Rattle.macho_symbols.specs.declared.solved.Common.{Common}
 use Rattle.macho_symbols.specs.declared.solved.Import.{Import}
 use Rattle.macho_symbols.specs.declared.solved.Solved.{Solved}
 use Rattle.macho_symbols.specs.declared.solved.TheConstants.{UNNUMBERED}
-use Rattle.macho_names.specs.Kept.{FileRows, no_file}
-use Rattle.macho_names.specs.Events.{Event, events, best_of, library_text}
-use Rattle.macho_names.specs.Tables.{heads_of, IsKnown, names_of}
-use Rattle.macho_names.specs.Found.{AreFound}
+use Rattle.macho_symbol_names.specs.Kept.{FileRows, no_file}
+use Rattle.macho_symbol_names.specs.Events.{Event, events, best_of, library_text}
+use Rattle.macho_symbol_names.specs.Tables.{heads_of, IsKnown, names_of}
+use Rattle.macho_symbol_names.specs.Found.{AreFound}
 use Rattle.macho_symbols.specs.Targets.{chosen_in, definition_by, named_in}
 use Rattle.macho_symbols.specs.steps.Targets.{is_nothing, is_missing_in, noting_names_in}
-use Rattle.macho_names.specs.declared.fault.SymbolFault.{SymbolFault}
-use Rattle.macho_names.specs.declared.fault.SymbolFault.TheVariants.{DuplicateSymbol, UndefinedSymbol, ExportListMissing, OutOfMemory}
+use Rattle.macho_symbol_names.specs.declared.fault.SymbolFault.{SymbolFault}
+use Rattle.macho_symbol_names.specs.declared.fault.SymbolFault.TheVariants.{DuplicateSymbol, UndefinedSymbol, ExportListMissing, OutOfMemory}
 use Rattle.macho_symbols.specs.Kept.{noted_of}
 
 abbrev pub common_id : Common → SymbolId

@@ -5,10 +5,10 @@ use Rattle.macho_model.specs.declared.targets.Target.{Target}
 use Rattle.macho_model.specs.declared.targets.Target.TheVariants as target
 use Rattle.macho_model.specs.Links.{Link, object_of}
 use Rattle.macho_model.specs.Resolution.{SymbolId}
-use Rattle.macho_names.specs.declared.notes.Sort.{Sort}
-use Rattle.macho_names.specs.declared.notes.Sort.TheVariants.{Section, Absolute, Common, Offered, Nowhere}
-use Rattle.macho_names.specs.Kept.{Row, FileRows, row_of_symbol}
-use Rattle.macho_names.specs.Events.{Event, events, best_of, strength}
+use Rattle.macho_symbol_names.specs.declared.notes.Sort.{Sort}
+use Rattle.macho_symbol_names.specs.declared.notes.Sort.TheVariants.{Section, Absolute, Common, Offered, Nowhere}
+use Rattle.macho_symbol_names.specs.Kept.{Row, FileRows, row_of_symbol}
+use Rattle.macho_symbol_names.specs.Events.{Event, events, best_of, strength}
 use Rattle.macho_symbols.specs.Targets.{definition_by, defines_in, named_in}
 
 -- the row of a symbol of a link, and its event

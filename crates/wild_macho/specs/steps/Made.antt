@@ -3,11 +3,11 @@ use Rattle.std.specs.Prelude.{◌≡◌, ◌⊎◌, ℕ, List, Option, None, Som
 use Rattle.macho_args.specs.Settings.{Settings}
 use Rattle.macho_args.specs.Store.{Store}
 use Rattle.macho_model.specs.Links.{Link}
-use Rattle.macho_linked.specs.Linked.{IsImageOf}
-use Rattle.macho_linked.specs.declared.image.LinkedImage.{LinkedImage}
+use Rattle.macho_answer.specs.Linked.{IsImageOf}
+use Rattle.macho_answer.specs.declared.image.LinkedImage.{LinkedImage}
 use Rattle.macho_devices.specs.Devices.{WritesFile, TornWrite, TakesBytes, TakesPrefix}
 use Rattle.macho_devices.specs.Faults.{CountRose}
-use Rattle.macho_faults.specs.declared.fault.LinkError.TheVariants.{BadName}
+use Rattle.macho_answer.specs.declared.fault.LinkError.TheVariants.{BadName}
 use Rattle.macho_report.specs.Fault.{Fault}
 use Rattle.macho_report.specs.Fault.TheVariants.{Link as LinkFault, Write, Print, OutOfMemory}
 use Rattle.macho_report.specs.Causes.{Failures, status_of, JobFails}

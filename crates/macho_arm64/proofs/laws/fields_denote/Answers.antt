@@ -1,5 +1,4 @@
-use Rattle.macho_arm64.proofs.FieldLaws.{points_to, offsets_from, is_difference, branches_to, pages_to, offsets_to, is_distance}
-use Rattle.macho_arm64.proofs.FieldLaws.{loads_from, adds_to}
+use Rattle.macho_arm64.proofs.FieldLaws.{points_to, offsets_from, is_difference, branches_to, pages_to, offsets_to, is_distance, loads_from, adds_to}
 use Rattle.macho_arm64.proofs.StubLaws.{goes_through}
 use Rattle.macho_arm64.proofs.laws.fields_denote.Goals as goal
 

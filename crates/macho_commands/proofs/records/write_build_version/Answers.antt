@@ -2,14 +2,14 @@ use Rattle.std.proofs.Common.{arith, ap, sym, ◌∙◌, ◌+◌, ◌++◌, List
 use Rattle.std.proofs.lemmas.List.{append-nil}
 use Rattle.macho_bytes.specs.Texts.{put}
 use Rattle.macho_bytes.proofs.Puts.{put-put}
-use Rattle.macho_structs.specs.declared.commands.BuildVersionCommand.{BuildVersionCommand}
-use Rattle.macho_structs.specs.declared.commands.BuildToolVersion.{BuildToolVersion}
+use Rattle.macho_wire.specs.declared.commands.BuildVersionCommand.{BuildVersionCommand}
+use Rattle.macho_wire.specs.declared.commands.BuildToolVersion.{BuildToolVersion}
 use Rattle.macho_records.specs.declared.constants.TheConstants.{LC_BUILD_VERSION}
 use Rattle.macho_model.specs.HeadCommands.{PLATFORM_MACOS, THIS_TOOL, THIS_VERSION}
 use Rattle.macho_commands.specs.Texts.{text_said}
 use Rattle.macho_commands.proofs.records.write_build_version.Goals as goal
 use Rattle.macho_bytes.specs.Spellings.{spelling}
-use Rattle.macho_structs.specs.Spellings.{build_version_command_rows, build_tool_version_rows}
+use Rattle.macho_wire.specs.Spellings.{build_version_command_rows, build_tool_version_rows}
 
 pub returns-clause-written : goal.returns-clause-written
 unfolding text_said

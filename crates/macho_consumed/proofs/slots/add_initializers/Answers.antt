@@ -6,8 +6,7 @@ use Rattle.macho_consumed.specs.declared.fault.ConsumedFault.TheVariants.{BadIni
 use Rattle.macho_consumed.specs.steps.Alone.{alone, own}
 use Rattle.macho_consumed.specs.steps.Places.{ArePlaces}
 use Rattle.macho_consumed.specs.steps.Slots.{SlotBreaks, SlotIs}
-use Rattle.macho_consumed.proofs.InSlots.{slots_none, slots_more, rows_none, rows_more, leads_none, leads_more, strays, pointer_named}
-use Rattle.macho_consumed.proofs.InSlots.{bad_slot, bad_between, slot_within, slot_cell, none_at_start, section_fits}
+use Rattle.macho_consumed.proofs.InSlots.{slots_none, slots_more, rows_none, rows_more, leads_none, leads_more, strays, pointer_named, bad_slot, bad_between, slot_within, slot_cell, none_at_start, section_fits}
 use Rattle.macho_consumed.proofs.slots.add_initializers.Goals as goal
 
 pub loop-slot-init : goal.loop-slot-init

@@ -2,14 +2,14 @@
 use Rattle.std.proofs.Common.{ℕ, ◌==◌, length, ap, ◌∙◌, arith}
 use Rattle.macho_records.specs.Sections.{type_of}
 use Rattle.macho_object.proofs.Options.{some_if}
-use Rattle.macho_fields.proofs.Nexts.{section_long, object_kept}
 use Rattle.macho_fields.proofs.least.section_fault.Goals as goal
+use Rattle.macho_model.proofs.ObjectLaws.{section_long, keeps_of}
 
 pub relocations_fault-requires-clause-source : goal.relocations_fault-requires-clause-source
 relocations_fault-requires-clause-source g c =
     let b = c.args.file.now.bytes in
     let k = c.args.place.section in
-    let object = object_kept c.args.file.now.is_dynamic b c.requires.object c.is_dynamic-object.ensures.kept in
+    let object = keeps_of c.args.file.now.is_dynamic b c.requires.object c.is_dynamic-object.ensures.kept in
     let header = (some_if _ _ _ c.in-Some-Some-Some.ensures).1 in
     let bytes = (some_if _ _ _ c.in-Some-Some-Some.ensures').1 in
     let list = (some_if _ _ _ c.in-Some-Some-Some.ensures'').1 in

@@ -2,15 +2,16 @@ use Rattle.std.proofs.Common.{ℕ, ◌==◌, length, sym, ◌∙◌, ap, arith}
 use Rattle.macho_records.specs.Sections.{type_of}
 use Rattle.std.proofs.lemmas.Result.{on_ok_weaker}
 use Rattle.macho_object.proofs.Options.{some_if}
-use Rattle.macho_fields.proofs.Nexts.{section_long, object_kept, behind_last}
+use Rattle.macho_fields.proofs.Nexts.{behind_last}
 use Rattle.macho_fields.proofs.Ends.{is_filled, is_asked, none_stand}
 use Rattle.macho_fields.proofs.section.fill_section.Goals as goal
+use Rattle.macho_model.proofs.ObjectLaws.{section_long, keeps_of}
 
 pub copy_from_slice-requires : goal.copy_from_slice-requires
 copy_from_slice-requires g c =
     let b = c.args.file.now.bytes in
     let k = c.args.place.section in
-    let object = object_kept c.args.file.now.is_dynamic b c.requires.object c.is_dynamic-object.ensures.kept in
+    let object = keeps_of c.args.file.now.is_dynamic b c.requires.object c.is_dynamic-object.ensures.kept in
     let bytes = (some_if _ _ _ c.in-Some-Some-Some.ensures').1 in
     c.requires.room ∙ sym (section_long b k object c.requires.among c.requires.filled) ∙ sym (ap length bytes)
 
@@ -18,7 +19,7 @@ pub fill_fields-requires-clause-source : goal.fill_fields-requires-clause-source
 fill_fields-requires-clause-source g c =
     let b = c.args.file.now.bytes in
     let k = c.args.place.section in
-    let object = object_kept c.args.file.now.is_dynamic b c.requires.object c.is_dynamic-object.ensures.kept in
+    let object = keeps_of c.args.file.now.is_dynamic b c.requires.object c.is_dynamic-object.ensures.kept in
     let header = (some_if _ _ _ c.in-Some-Some-Some.ensures).1 in
     let bytes = (some_if _ _ _ c.in-Some-Some-Some.ensures').1 in
     let list = (some_if _ _ _ c.in-Some-Some-Some.ensures'').1 in

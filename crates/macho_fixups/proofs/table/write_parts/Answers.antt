@@ -2,13 +2,13 @@ use Rattle.std.proofs.Common.{ℕ, ◌*◌, length, ◌≡◌, ◌+◌, arith, a
 use Rattle.std.specs.List.{flat_map}
 use Rattle.macho_bytes.specs.Texts.{put}
 use Rattle.macho_model.specs.Images.{import_entry_size}
-use Rattle.macho_structs.specs.declared.fixups.ChainedFixupsHeader.{ChainedFixupsHeader}
+use Rattle.macho_wire.specs.declared.fixups.ChainedFixupsHeader.{ChainedFixupsHeader}
 use Rattle.macho_fixups.specs.Tables.{image_starts_text, image_starts_size, entry_text, table_header, table_text}
 use Rattle.macho_fixups.proofs.TableTexts.{joined, joined_long, header_long, names_near}
 use Rattle.macho_fixups.proofs.TableReading.{table_reads_back}
 use Rattle.macho_fixups.proofs.table.write_parts.Goals as goal
 use Rattle.macho_bytes.specs.Spellings.{spelling, ReadsBack}
-use Rattle.macho_structs.specs.Spellings.{chained_fixups_header_rows}
+use Rattle.macho_wire.specs.Spellings.{chained_fixups_header_rows}
 
 pub overflow_cast-header-2 : goal.overflow_cast-header-2
 overflow_cast-header-2 c =

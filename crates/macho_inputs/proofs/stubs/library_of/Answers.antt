@@ -2,7 +2,7 @@
 use Rattle.std.proofs.Common.{List, ℕ, sym, subst}
 use Rattle.macho_stub.specs.Answer.{IsStub}
 use Rattle.macho_stub.specs.Library.{library_fields}
-use Rattle.macho_inputs.proofs.OneReading.{read_says, none_told}
+use Rattle.macho_linker.proofs.OneReading.{read_says, none_told}
 use Rattle.macho_inputs.proofs.stubs.library_of.Goals as goal
 
 pub unreachable-requires : goal.unreachable-requires

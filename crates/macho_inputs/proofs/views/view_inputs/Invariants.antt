@@ -1,6 +1,6 @@
 use Rattle.std.proofs.Common.{◌≡◌, map, take, All}
-use Rattle.macho_parts.specs.Views.{object_view, ViewsObject}
-use Rattle.macho_inputs.specs.Owned.{input_of}
+use Rattle.macho_promise.specs.Views.{object_view, ViewsObject}
+use Rattle.macho_linker.specs.Owned.{input_of}
 use Rattle.macho_inputs.proofs.views.view_inputs.Given as goal
 
 abbrev pub invariant-loop-input : goal.invariant-loop-input

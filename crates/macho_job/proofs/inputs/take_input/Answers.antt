@@ -1,6 +1,6 @@
 -- What the linker refuses is refused by the head of the bytes.
 use Rattle.std.proofs.Common.{sym, ap, ◌∙◌}
-use Rattle.macho_image.specs.Refusals.{ObjectRefused, DylibRefused}
+use Rattle.macho_linker.specs.Refusals.{ObjectRefused, DylibRefused}
 use Rattle.macho_job.specs.declared.heads.Head.TheVariants as head
 use Rattle.macho_job.specs.Heads.{head_of}
 use Rattle.macho_job.specs.steps.Gathering.{TextRefused}

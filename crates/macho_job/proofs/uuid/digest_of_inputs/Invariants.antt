@@ -1,7 +1,7 @@
 use Rattle.std.proofs.Common.{take}
 use Rattle.std.specs.List.{flat_map}
 use Rattle.sha2.specs.Hashers.{Holds256}
-use Rattle.macho_image.specs.Linkers.{bytes_of}
+use Rattle.macho_linker.specs.Linkers.{bytes_of}
 use Rattle.macho_job.proofs.uuid.digest_of_inputs.Given as goal
 
 -- the hasher holds the files so far

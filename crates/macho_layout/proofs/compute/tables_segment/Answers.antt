@@ -3,7 +3,7 @@ use Rattle.std.proofs.Common.{◌≡◌, ◌-◌, ℕ, ap, ◌∙◌, arith}
 use Rattle.macho_model.specs.declared.placed.PlacedSegment.{PlacedSegment}
 use Rattle.macho_model.specs.Segments.{LINKEDIT}
 use Rattle.macho_layout.specs.Keys.{padded}
-use Rattle.macho_rows.proofs.RowSteps.{paged, paged-near}
+use Rattle.macho_stack.proofs.RowSteps.{paged, paged-near}
 use Rattle.macho_layout.proofs.compute.tables_segment.Goals as goal
 
 pub next_multiple_of-requires-clause-fits : goal.next_multiple_of-requires-clause-fits

@@ -6,7 +6,7 @@ use Rattle.macho_records.specs.Flags.{has_any}
 use Rattle.macho_records.specs.declared.constants.TheConstants.{N_EXT}
 use Rattle.macho_model.specs.Objects.{strings_of, symbol_at, symbol_name}
 use Rattle.macho_symbols.specs.Kept.{symbol_id}
-use Rattle.macho_names.proofs.Entries.{some_if}
+use Rattle.macho_symbol_names.proofs.Entries.{some_if}
 use Rattle.macho_linkedit.specs.steps.Names.{AreNames}
 use Rattle.macho_linkedit.specs.steps.Listing.{is_label}
 use Rattle.macho_linkedit.proofs.Listed.{global_is, local_is, label_is, name_small, found_name, own_names}

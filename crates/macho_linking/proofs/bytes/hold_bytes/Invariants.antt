@@ -1,6 +1,6 @@
 use Rattle.std.proofs.Common.{All, map, take}
-use Rattle.macho_inputs.specs.Owned.{input_of}
-use Rattle.macho_answers.specs.Inputs.{HasBytes}
+use Rattle.macho_linker.specs.Owned.{input_of}
+use Rattle.macho_refusal_laws.specs.Inputs.{HasBytes}
 use Rattle.macho_linking.proofs.bytes.hold_bytes.Given as goal
 
 -- the inputs so far

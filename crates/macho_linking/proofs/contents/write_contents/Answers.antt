@@ -1,6 +1,6 @@
 -- Sections and stubs are filled, then words are written over them.
 use Rattle.std.proofs.Common.{length, sym, ap, subst, ◌∙◌, arith}
-use Rattle.macho_composed.specs.Fitting.{SectionsFit, StubsFit}
+use Rattle.macho_promise_laws.specs.Fitting.{SectionsFit, StubsFit}
 use Rattle.macho_linking.specs.declared.fault.Unwritten.TheVariants.{Unfilled}
 use Rattle.macho_linking.specs.steps.Planned.{placement_of, counts_of}
 use Rattle.macho_linking.specs.steps.Unwritten.{UnwrittenStands}

@@ -1,8 +1,8 @@
 -- The unwind information has room in its range, which ends in the file. So it is put at the front of the range.
 use Rattle.std.proofs.Common.{List, refl, sym, subst, ◌∙◌, arith, All}
 use Rattle.std.specs.Prelude.{map}
-use Rattle.macho_composed.specs.UnwindEntry.{UnwindEntry}
-use Rattle.macho_composed.specs.Entries.{resolved_row, MayBeBuilt, KnowsPersonality}
+use Rattle.macho_promise_laws.specs.UnwindEntry.{UnwindEntry}
+use Rattle.macho_promise_laws.specs.Entries.{resolved_row, MayBeBuilt, KnowsPersonality}
 use Rattle.macho_linking.specs.declared.fault.Unwritten.TheVariants.{Unmade}
 use Rattle.macho_linking.specs.steps.Planned.{placement_of, counts_of}
 use Rattle.macho_linking.specs.steps.Unwritten.{UnwrittenStands}

@@ -1,5 +1,5 @@
 use Rattle.std.proofs.Common.{ℕ, ◌+◌, List, [], ◌∷◌, ◌++◌, map, take, subst}
-use Rattle.macho_exports.specs.Entries.{IsListOf}
+use Rattle.macho_export_lists.specs.Entries.{IsListOf}
 use Rattle.macho_linking.proofs.OneList.{more_read}
 use Rattle.macho_linking.proofs.lists.read_lists.Goals as goal
 

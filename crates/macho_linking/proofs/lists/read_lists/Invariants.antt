@@ -1,6 +1,6 @@
 -- The list is that of the first text and of as many others as were read.
 use Rattle.std.proofs.Common.{map, ◌+◌, take}
-use Rattle.macho_exports.specs.Entries.{IsListOf}
+use Rattle.macho_export_lists.specs.Entries.{IsListOf}
 use Rattle.macho_linking.proofs.lists.read_lists.Given as goal
 
 abbrev pub invariant-loop-text : goal.invariant-loop-text

@@ -2,7 +2,7 @@
 use Rattle.std.proofs.Common.{ap, ◌≡◌, map, length, arith}
 use Rattle.std.proofs.lemmas.List.{length-map}
 use Rattle.macho_model.specs.Needs.{libraries_needed}
-use Rattle.macho_linking.specs.Linking.{link_asked}
+use Rattle.macho_linker.specs.Asked.{link_asked}
 use Rattle.macho_linking.proofs.Closing.{fine_link, refused_with, refused_memory, libraries_few}
 use Rattle.macho_linking.proofs.passes.link_read.Goals as goal
 

@@ -1,8 +1,8 @@
 -- What is read of a viewed link is handed on, and its refusal is the link's.
 use Rattle.std.proofs.Common.{refl}
-use Rattle.macho_faults.specs.declared.fault.LinkError.TheVariants as error
-use Rattle.macho_answers.proofs.Inputs.{inputs_are_read, inputs_are_plain}
-use Rattle.macho_linking.specs.Linking.{link_asked}
+use Rattle.macho_answer.specs.declared.fault.LinkError.TheVariants as error
+use Rattle.macho_refusal_laws.proofs.Inputs.{inputs_are_read, inputs_are_plain}
+use Rattle.macho_linker.specs.Asked.{link_asked}
 use Rattle.macho_linking.proofs.Given.{inputs_given, views_few}
 use Rattle.macho_linking.proofs.Closing.{fine_link, refused_with}
 use Rattle.macho_linking.proofs.passes.link_viewed.Goals as goal

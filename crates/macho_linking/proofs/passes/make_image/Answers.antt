@@ -1,6 +1,6 @@
 -- What was viewed and read, with its sizes, is what an image is written from.
 use Rattle.std.proofs.Common.{refl, sym, subst}
-use Rattle.macho_linking.specs.Linking.{link_asked}
+use Rattle.macho_linker.specs.Asked.{link_asked}
 use Rattle.macho_linking.specs.steps.Imaged.{StandsAlways}
 use Rattle.macho_linking.proofs.Closing.{to_planned, unwritten_stands}
 use Rattle.macho_linking.proofs.passes.make_image.Goals as goal

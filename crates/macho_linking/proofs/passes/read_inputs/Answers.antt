@@ -1,7 +1,7 @@
 -- The inputs are those of the link that is asked for, so their symbols are its, and what is read of them is its reading.
 use Rattle.std.proofs.Common.{refl}
 use Rattle.std.proofs.lemmas.Result.{err_from_is_err_and}
-use Rattle.macho_linking.specs.Linking.{link_asked}
+use Rattle.macho_linker.specs.Asked.{link_asked}
 use Rattle.macho_linking.specs.steps.Imaged.{IsSingle}
 use Rattle.macho_linking.proofs.Given.{same_inputs, link_handed, on_ok, stands_always}
 use Rattle.macho_linking.proofs.passes.read_inputs.Goals as goal

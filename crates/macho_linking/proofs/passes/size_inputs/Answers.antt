@@ -5,9 +5,9 @@ use Rattle.macho_model.specs.Needs.{imports_of}
 use Rattle.macho_symbols.specs.Exported.{AreExports}
 use Rattle.macho_symbols.specs.declared.exports.ExportName.{ExportName}
 use Rattle.macho_linkedit.specs.Tries.{AreKept}
-use Rattle.macho_tables.specs.Exports.{CanBeTrie, exports_told}
-use Rattle.macho_composed.proofs.Plain.{imports_plain}
-use Rattle.macho_linking.specs.Linking.{link_asked}
+use Rattle.macho_symbol_tables.specs.Exports.{CanBeTrie, exports_told}
+use Rattle.macho_promise_laws.proofs.Plain.{imports_plain}
+use Rattle.macho_linker.specs.Asked.{link_asked}
 use Rattle.macho_linking.proofs.Given.{stands_counted}
 use Rattle.macho_linking.proofs.Handed.{are_of, can_be_sized, has_sizes}
 use Rattle.macho_linking.proofs.passes.size_inputs.Goals as goal

@@ -2,7 +2,7 @@ use Rattle.std.proofs.Common.{arith}
 use Rattle.std.proofs.lemmas.Result.{on_ok_weaker}
 use Rattle.macho_linking.specs.steps.Planned.{placement_of, counts_of}
 use Rattle.macho_linking.proofs.Headed.{symbols_low, strings_low, head_of, head_parts, head_owed, head_written}
-use Rattle.macho_composed.proofs.Heads.{headers_stand, tables_low}
+use Rattle.macho_promise_laws.proofs.Heads.{headers_stand, tables_low}
 use Rattle.macho_linking.proofs.Ready.{planned_within}
 use Rattle.macho_linking.proofs.sealing.write_head.Goals as goal
 

@@ -2,7 +2,7 @@ use Rattle.std.proofs.Common.{ℕ, map, refl, sym, ap, subst, ◌∙◌}
 use Rattle.std.proofs.lemmas.Result.{on_ok_weaker}
 use Rattle.macho_model.specs.Needs.{imports_of}
 use Rattle.macho_symbols.specs.Entries.{entry_of}
-use Rattle.macho_composed.specs.Writing.{FitsRange}
+use Rattle.macho_promise_laws.specs.Writing.{FitsRange}
 use Rattle.macho_linking.specs.steps.Planned.{placement_of}
 use Rattle.macho_linking.proofs.FixupsPut.{AreListed, fit_table, are_of_link, are_tellable, fits_range, fixups_put}
 use Rattle.macho_linking.proofs.tables.write_imports.Goals as goal

@@ -3,7 +3,7 @@ use Rattle.std.proofs.Common.{sym, subst, ◌∙◌, List}
 use Rattle.std.proofs.lemmas.Result.{err_from_is_err_and}
 use Rattle.macho_fixups.specs.declared.run.Fixup.{Fixup}
 use Rattle.macho_linkedit.specs.Runs.{IsRunOf}
-use Rattle.macho_composed.specs.Written.{AreContents}
+use Rattle.macho_promise_laws.specs.Written.{AreContents}
 use Rattle.macho_linking.specs.steps.Planned.{placement_of}
 use Rattle.macho_linking.proofs.Parts.{parts_written, trie_small}
 use Rattle.macho_linking.proofs.write.write_parts.Goals as goal

@@ -2,9 +2,9 @@
 use Rattle.std.proofs.Common.{refl, sym, subst, ◌∙◌, inl, inr}
 use Rattle.macho_model.specs.Loader.{ImageBreaks}
 use Rattle.macho_model.proofs.SegmentTests.{each_segment, next_segments}
-use Rattle.macho_memory_walks.specs.Readings.{listed}
-use Rattle.macho_model_walks.specs.steps.Asked.{LoadKeeps}
-use Rattle.macho_model_walks.proofs.BrokenRules.{whole_kept, whole_broken, text_kept, text_broken, tables_kept}
+use Rattle.macho_image_walks.specs.Readings.{listed}
+use Rattle.macho_image_walks.specs.steps.Asked.{LoadKeeps}
+use Rattle.macho_image_walks.proofs.BrokenRules.{whole_kept, whole_broken, text_kept, text_broken, tables_kept}
 use Rattle.macho_loader.proofs.accept.broken_at.Goals as goal
 use Rattle.macho_model.specs.SegmentRules.{segment_ends, begins_behind, file_part_inside, segment_is_paged}
 use Rattle.macho_model.specs.LoadRules.{protections_fit}

@@ -1,5 +1,5 @@
 -- A rule that is told is broken, so the image is not accepted.
-use Rattle.macho_model_walks.proofs.BrokenRules.{breaks_not_accepted}
+use Rattle.macho_image_walks.proofs.BrokenRules.{breaks_not_accepted}
 use Rattle.macho_loader.proofs.accept.check_rules.Goals as goal
 
 pub returns-in-Err-clause-only : goal.returns-in-Err-clause-only

@@ -1,9 +1,9 @@
 -- The command that the walk came to passes; behind the last one all have passed.
 use Rattle.std.proofs.Common.{◌≡◌, ◌≤◌, true, length, refl, sym, subst, ◌∙◌, arith}
-use Rattle.macho_memory_walks.specs.Readings.{listed}
-use Rattle.macho_model_walks.specs.Tests.{list_of, test_of}
-use Rattle.macho_memory_walks.proofs.NumberedWalk.{nth_one}
-use Rattle.macho_model_walks.proofs.RuleWalk.{each_by_number}
+use Rattle.macho_image_walks.specs.Readings.{listed}
+use Rattle.macho_image_walks.specs.Tests.{list_of, test_of}
+use Rattle.macho_image_walks.proofs.NumberedWalk.{nth_one}
+use Rattle.macho_image_walks.proofs.RuleWalk.{each_by_number}
 use Rattle.macho_loader.specs.steps.Cursors.{IsStep}
 use Rattle.macho_loader.proofs.ListWalks.{more_below}
 use Rattle.macho_loader.proofs.command_rules.first_failing.Goals as goal

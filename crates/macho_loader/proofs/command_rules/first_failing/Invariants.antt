@@ -1,8 +1,8 @@
 -- Those that the walk passed pass.
 use Rattle.std.proofs.Common.{ℕ, ◌-◌, ◌<◌}
 use Rattle.macho_model.specs.Commands.{header_of}
-use Rattle.macho_model_walks.specs.Tests.{list_of}
-use Rattle.macho_model_walks.specs.steps.Asked.{NumberPasses}
+use Rattle.macho_image_walks.specs.Tests.{list_of}
+use Rattle.macho_image_walks.specs.steps.Asked.{NumberPasses}
 use Rattle.macho_loader.specs.steps.Cursors.{IsAt}
 use Rattle.macho_loader.proofs.command_rules.first_failing.Given as goal
 

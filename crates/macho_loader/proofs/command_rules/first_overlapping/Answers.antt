@@ -1,14 +1,13 @@
 -- The segment that the walk came to begins behind the one before it; behind the last one all do.
 use Rattle.std.proofs.Common.{◌≡◌, ◌+◌, ◌-◌, ◌≤◌, refl, sym, ap, subst, ◌∙◌, arith}
 use Rattle.std.specs.Prelude.{unwrap_or}
-use Rattle.macho_memory_walks.specs.declared.walk.Listed.TheVariants as list
-use Rattle.macho_memory_walks.specs.Readings.{IsNth}
-use Rattle.macho_model_walks.specs.steps.Asked.{BeginsBefore}
-use Rattle.macho_model_walks.proofs.RuleWalk.{neighbour_fails, neighbours_by_number}
+use Rattle.macho_image_walks.specs.declared.walk.Listed.TheVariants as list
+use Rattle.macho_image_walks.specs.Readings.{IsNth}
+use Rattle.macho_image_walks.specs.steps.Asked.{BeginsBefore}
+use Rattle.macho_image_walks.proofs.RuleWalk.{neighbour_fails, neighbours_by_number}
 use Rattle.macho_loader.proofs.ListWalks.{order_more}
 use Rattle.macho_loader.proofs.command_rules.first_overlapping.Goals as goal
-use Rattle.macho_loader.proofs.command_rules.first_overlapping.Goals.{else-at-gt0-via-then-at-gt0+else-not-follows}
-use Rattle.macho_loader.proofs.command_rules.first_overlapping.Goals.{else-at-gt0-via-else-at-gt0}
+use Rattle.macho_loader.proofs.command_rules.first_overlapping.Goals.{else-at-gt0-via-then-at-gt0+else-not-follows, else-at-gt0-via-else-at-gt0}
 
 pub loop-step-init : goal.loop-step-init
 loop-step-init c =

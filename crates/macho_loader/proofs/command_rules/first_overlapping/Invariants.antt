@@ -1,9 +1,9 @@
 -- The last segment that the walk passed is known, and those passed stand in order.
 use Rattle.std.proofs.Common.{ℕ, ◌+◌, ◌-◌, ◌<◌, ◌≤◌}
 use Rattle.macho_model.specs.Commands.{header_of}
-use Rattle.macho_memory_walks.specs.declared.walk.Listed.TheVariants as list
-use Rattle.macho_memory_walks.specs.Readings.{IsNth}
-use Rattle.macho_model_walks.specs.steps.Asked.{NeighbourPasses}
+use Rattle.macho_image_walks.specs.declared.walk.Listed.TheVariants as list
+use Rattle.macho_image_walks.specs.Readings.{IsNth}
+use Rattle.macho_image_walks.specs.steps.Asked.{NeighbourPasses}
 use Rattle.macho_loader.specs.steps.Cursors.{IsAt}
 use Rattle.macho_loader.proofs.command_rules.first_overlapping.Given as goal
 

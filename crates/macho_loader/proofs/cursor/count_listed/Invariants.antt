@@ -1,7 +1,7 @@
 -- So many have passed, and there are so many at least.
 use Rattle.std.proofs.Common.{◌-◌, ◌≤◌, length}
 use Rattle.macho_model.specs.Commands.{header_of}
-use Rattle.macho_memory_walks.specs.Readings.{listed}
+use Rattle.macho_image_walks.specs.Readings.{listed}
 use Rattle.macho_loader.specs.steps.Cursors.{IsAt}
 use Rattle.macho_loader.proofs.cursor.count_listed.Given as goal
 

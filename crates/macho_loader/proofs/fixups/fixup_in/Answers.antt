@@ -2,9 +2,9 @@
 use Rattle.std.proofs.Common.{◌+◌, ◌*◌, ◌^◌, ◌%◌, Some, refl, sym, ap, subst, ◌∙◌}
 use Rattle.macho_model.specs.Memory.{rebase_target, rebase_high}
 use Rattle.macho_model.specs.ReadBack.{IsLoadedFixup}
-use Rattle.macho_memory_walks.specs.Readings.{table_there}
-use Rattle.macho_memory_walks.proofs.NumberedWalk.{segment_has_word}
-use Rattle.macho_memory_walks.proofs.ListedLaws.{table_contains}
+use Rattle.macho_image_walks.specs.Readings.{table_there}
+use Rattle.macho_image_walks.proofs.NumberedWalk.{segment_has_word}
+use Rattle.macho_image_walks.proofs.ListedLaws.{table_contains}
 use Rattle.macho_loader.specs.Fixups.{found_of}
 use Rattle.macho_loader.proofs.ChainLookups.{off_without_table, stands_on_page, import_among}
 use Rattle.macho_loader.proofs.fixups.fixup_in.Goals as goal

@@ -1,9 +1,9 @@
 -- The word is on the chain of its page, which is what the page's start leads to.
 use Rattle.std.proofs.Common.{◌+◌, ◌*◌, ◌-◌, ◌/◌, ◌<◌, length, sym, ap, subst, arith}
-use Rattle.macho_memory_walks.specs.steps.Walks.{Leads}
-use Rattle.macho_memory_walks.specs.Readings.{starts_of}
-use Rattle.macho_model_walks.specs.steps.WordTests.{address_in}
-use Rattle.macho_memory_walks.proofs.WordWalk.{on_chain_of, page_chain_none}
+use Rattle.macho_image_walks.specs.steps.Walks.{Leads}
+use Rattle.macho_image_walks.specs.Readings.{starts_of}
+use Rattle.macho_image_walks.specs.steps.WordTests.{address_in}
+use Rattle.macho_image_walks.proofs.WordWalk.{on_chain_of, page_chain_none}
 use Rattle.macho_loader.proofs.ChainWalks.{start_found, pages_found}
 use Rattle.macho_loader.proofs.ChainLookups.{on_its_page, page_within, led_from_start, not_led_from_start, all_fit_from, address_back}
 use Rattle.macho_loader.proofs.fixups.is_on_chain.Goals as goal

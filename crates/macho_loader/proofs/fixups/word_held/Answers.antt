@@ -1,8 +1,8 @@
 -- The segment that the walk came to has no word there.
 use Rattle.std.proofs.Common.{refl, subst, arith}
-use Rattle.macho_memory_walks.specs.declared.walk.Listed.TheVariants as list
-use Rattle.macho_memory_walks.specs.Readings.{HasWord, segment_there}
-use Rattle.macho_memory_walks.proofs.NumberedWalk.{nth_one}
+use Rattle.macho_image_walks.specs.declared.walk.Listed.TheVariants as list
+use Rattle.macho_image_walks.specs.Readings.{HasWord, segment_there}
+use Rattle.macho_image_walks.proofs.NumberedWalk.{nth_one}
 use Rattle.macho_loader.proofs.ListWalks.{more_below}
 use Rattle.macho_loader.proofs.fixups.word_held.Goals as goal
 

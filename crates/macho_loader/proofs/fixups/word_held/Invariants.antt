@@ -1,7 +1,7 @@
 -- The segments that the walk passed have no word there.
 use Rattle.std.proofs.Common.{ℕ, ◌-◌, ◌<◌}
 use Rattle.macho_model.specs.Commands.{header_of}
-use Rattle.macho_memory_walks.specs.declared.walk.Listed.TheVariants as list
+use Rattle.macho_image_walks.specs.declared.walk.Listed.TheVariants as list
 use Rattle.macho_loader.specs.steps.Cursors.{IsAt}
 use Rattle.macho_loader.specs.steps.Held.{NthHasNoWord}
 use Rattle.macho_loader.proofs.fixups.word_held.Given as goal

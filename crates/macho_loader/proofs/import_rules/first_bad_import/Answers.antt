@@ -1,7 +1,7 @@
 -- The imports of the table that the walk came to fit; behind the last one those of all do.
 use Rattle.std.proofs.Common.{refl, arith}
-use Rattle.macho_memory_walks.specs.declared.walk.Listed.TheVariants as list
-use Rattle.macho_model_walks.proofs.RuleWalk.{import_fails, same_table, each_import}
+use Rattle.macho_image_walks.specs.declared.walk.Listed.TheVariants as list
+use Rattle.macho_image_walks.proofs.RuleWalk.{import_fails, same_table, each_import}
 use Rattle.macho_loader.proofs.ListWalks.{more_below}
 use Rattle.macho_loader.proofs.import_rules.first_bad_import.Goals as goal
 

@@ -1,8 +1,8 @@
 -- The imports of the tables that the walk passed fit.
 use Rattle.std.proofs.Common.{ℕ, ◌-◌, ◌<◌}
 use Rattle.macho_model.specs.Commands.{header_of}
-use Rattle.macho_memory_walks.specs.declared.walk.Listed.TheVariants as list
-use Rattle.macho_model_walks.specs.steps.Asked.{TableImportsFit}
+use Rattle.macho_image_walks.specs.declared.walk.Listed.TheVariants as list
+use Rattle.macho_image_walks.specs.steps.Asked.{TableImportsFit}
 use Rattle.macho_loader.specs.steps.Cursors.{IsAt}
 use Rattle.macho_loader.proofs.import_rules.first_bad_import.Given as goal
 

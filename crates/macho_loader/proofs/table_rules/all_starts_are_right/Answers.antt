@@ -2,10 +2,10 @@
 use Rattle.std.proofs.Common.{◌+◌, refl, sym, subst, ◌∙◌, arith}
 use Rattle.macho_model.specs.Images.{starts_count}
 use Rattle.macho_model.specs.LoadRules.{starts_fit}
-use Rattle.macho_memory_walks.specs.declared.walk.Listed.TheVariants as list
-use Rattle.macho_memory_walks.specs.Readings.{table_there, IsNth}
+use Rattle.macho_image_walks.specs.declared.walk.Listed.TheVariants as list
+use Rattle.macho_image_walks.specs.Readings.{table_there, IsNth}
 use Rattle.macho_model.proofs.EachBelow.{fails_below, pass_below}
-use Rattle.macho_memory_walks.proofs.ListedLaws.{address_found, count_of_segments}
+use Rattle.macho_image_walks.proofs.ListedLaws.{address_found, count_of_segments}
 use Rattle.macho_loader.proofs.ListWalks.{more_below, starts_have_segments}
 use Rattle.macho_loader.proofs.table_rules.all_starts_are_right.Goals as goal
 

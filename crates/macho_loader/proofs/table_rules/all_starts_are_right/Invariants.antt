@@ -1,8 +1,8 @@
 -- The walk stands before the segment with the number; the starts of those before it are right.
 use Rattle.std.proofs.Common.{◌≡◌, ◌<◌, ℕ, true}
 use Rattle.macho_model.specs.LoadRules.{starts_fit}
-use Rattle.macho_memory_walks.specs.declared.walk.Listed.TheVariants as list
-use Rattle.macho_memory_walks.specs.Readings.{table_there}
+use Rattle.macho_image_walks.specs.declared.walk.Listed.TheVariants as list
+use Rattle.macho_image_walks.specs.Readings.{table_there}
 use Rattle.macho_loader.specs.steps.Cursors.{IsAt}
 use Rattle.macho_loader.proofs.table_rules.all_starts_are_right.Given as goal
 

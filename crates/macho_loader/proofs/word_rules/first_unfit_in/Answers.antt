@@ -1,7 +1,7 @@
 -- The words of the segment that the walk came to fit; behind the last one those of all do.
 use Rattle.std.proofs.Common.{refl, arith}
-use Rattle.macho_memory_walks.specs.declared.walk.Listed.TheVariants as list
-use Rattle.macho_model_walks.proofs.UnfitWords.{same_segment_fits, each_word}
+use Rattle.macho_image_walks.specs.declared.walk.Listed.TheVariants as list
+use Rattle.macho_image_walks.proofs.UnfitWords.{same_segment_fits, each_word}
 use Rattle.macho_loader.proofs.ListWalks.{more_below}
 use Rattle.macho_loader.proofs.word_rules.first_unfit_in.Goals as goal
 

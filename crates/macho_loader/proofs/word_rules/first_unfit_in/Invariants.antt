@@ -1,8 +1,8 @@
 -- The words of the segments that the walk passed fit.
 use Rattle.std.proofs.Common.{ℕ, ◌-◌, ◌<◌}
 use Rattle.macho_model.specs.Commands.{header_of}
-use Rattle.macho_memory_walks.specs.declared.walk.Listed.TheVariants as list
-use Rattle.macho_model_walks.specs.steps.WordTests.{FitOnNth}
+use Rattle.macho_image_walks.specs.declared.walk.Listed.TheVariants as list
+use Rattle.macho_image_walks.specs.steps.WordTests.{FitOnNth}
 use Rattle.macho_loader.specs.steps.Cursors.{IsAt}
 use Rattle.macho_loader.proofs.word_rules.first_unfit_in.Given as goal
 

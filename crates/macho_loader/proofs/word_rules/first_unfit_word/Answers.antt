@@ -1,8 +1,8 @@
 -- Without a fixup table no page has a chain.
 use Rattle.std.proofs.Common.{ℕ, List, length, refl, ap, arith}
 use Rattle.macho_model.specs.Chain.{chain_segment, chain_segments}
-use Rattle.macho_memory_walks.proofs.ChainSets.{page_has_start}
-use Rattle.macho_memory_walks.proofs.WordWalk.{starts_missing}
+use Rattle.macho_image_walks.proofs.ChainSets.{page_has_start}
+use Rattle.macho_image_walks.proofs.WordWalk.{starts_missing}
 use Rattle.macho_loader.proofs.word_rules.first_unfit_word.Goals as goal
 
 pub first_unfit_in-requires-clause-table : goal.first_unfit_in-requires-clause-table

@@ -2,17 +2,17 @@
 use Rattle.std.proofs.Common.{◌≡◌, ◌+◌, ◌<◌, true, refl, sym, subst, ◌∙◌, arith}
 use Rattle.macho_model.specs.Images.{tables_of}
 use Rattle.macho_model.specs.Loader.{is_bind, ordinal_of}
-use Rattle.macho_memory_walks.specs.Readings.{HasWord, segment_there}
-use Rattle.macho_model_walks.specs.Tests.{page_holds}
-use Rattle.macho_model_walks.specs.steps.WordTests.{address_in}
-use Rattle.macho_model.proofs.EachBelow.{true_or_false}
-use Rattle.macho_memory_walks.proofs.WordWalk.{some_is}
-use Rattle.macho_model_walks.proofs.RuleWalk.{import_count_found}
+use Rattle.macho_image_walks.specs.Readings.{HasWord, segment_there}
+use Rattle.macho_image_walks.specs.Tests.{page_holds}
+use Rattle.macho_image_walks.specs.steps.WordTests.{address_in}
+use Rattle.macho_image_walks.proofs.WordWalk.{some_is}
+use Rattle.macho_image_walks.proofs.RuleWalk.{import_count_found}
 use Rattle.macho_loader.specs.steps.Words.{IsFittingWord}
 use Rattle.macho_loader.proofs.ChainWalks.{fits_here, import_is_there}
 use Rattle.macho_loader.proofs.word_rules.fitting_word.Goals as goal
 use Rattle.macho_loader.proofs.word_rules.fitting_word.Goals.{else-binds-via-then-binds+else-ordinal-table_at, else-binds-via-else-binds}
 use Rattle.macho_model.specs.steps.Loader.{import_count}
+use Rattle.macho_bytes.proofs.Bools.{true_or_false}
 
 pub returns-then-ordinal-table_at-clause-only : goal.returns-then-ordinal-table_at-clause-only
 returns-then-ordinal-table_at-clause-only c _ fits =

@@ -1,5 +1,5 @@
 -- The page's words are those that its start leads to.
-use Rattle.macho_model_walks.proofs.UnfitWords.{unfit_on_page, fit_on_page, fit_without_start}
+use Rattle.macho_image_walks.proofs.UnfitWords.{unfit_on_page, fit_on_page, fit_without_start}
 use Rattle.macho_loader.proofs.ChainWalks.{start_found}
 use Rattle.macho_loader.proofs.word_rules.unfit_on_page.Goals as goal
 

@@ -1,10 +1,10 @@
 -- A page has a word that does not fit, or each fits; a page's chain is of a page with a start.
 use Rattle.std.proofs.Common.{◌+◌, refl, arith}
 use Rattle.macho_model.specs.Chain.{chain_segments}
-use Rattle.macho_memory_walks.specs.steps.Walks.{chain_segment_at}
-use Rattle.macho_memory_walks.proofs.ChainSets.{page_has_start}
-use Rattle.macho_memory_walks.proofs.WordWalk.{some_is}
-use Rattle.macho_model_walks.proofs.UnfitWords.{word_fails, begins_inside, kept_at}
+use Rattle.macho_image_walks.specs.steps.Walks.{chain_segment_at}
+use Rattle.macho_image_walks.proofs.ChainSets.{page_has_start}
+use Rattle.macho_image_walks.proofs.WordWalk.{some_is}
+use Rattle.macho_image_walks.proofs.UnfitWords.{word_fails, begins_inside, kept_at}
 use Rattle.macho_loader.proofs.ChainWalks.{pages_found}
 use Rattle.macho_loader.proofs.word_rules.unfit_on_segment.Goals as goal
 

@@ -1,10 +1,10 @@
 use Rattle.std.proofs.Common.{ap, subst, refl, Option}
 use Rattle.std.specs.Option.{option_copied}
 use Rattle.std.proofs.lemmas.Result.{err_from_is_err_and}
-use Rattle.macho_exports.specs.Entries.{ListEntries}
+use Rattle.macho_export_lists.specs.Entries.{ListEntries}
 use Rattle.macho_symbols.specs.Exported.{AreLists}
 use Rattle.macho_symbols.specs.Told.{noting_names}
-use Rattle.macho_parts.specs.Noted.{imports_in}
+use Rattle.macho_promise.specs.Noted.{imports_in}
 use Rattle.macho_reading.specs.steps.Steps.{uses_before_names}
 use Rattle.macho_reading.proofs.Named.{list_noted, none_noted, missing_stands, files_stay}
 use Rattle.macho_reading.proofs.names.note_list.Goals as goal

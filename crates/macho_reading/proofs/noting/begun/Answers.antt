@@ -1,7 +1,7 @@
 -- Of no use nothing is noted.
 use Rattle.std.proofs.Common.{ap}
 use Rattle.std.proofs.lemmas.List.Elements.{All-nil}
-use Rattle.macho_parts.specs.Noted.{imports_in, slots_in, stubs_in}
+use Rattle.macho_promise.specs.Noted.{imports_in, slots_in, stubs_in}
 use Rattle.macho_needs.specs.Tables.{Numbered}
 use Rattle.macho_needs.specs.Noted.{own_in, IsFound}
 use Rattle.macho_reading.proofs.noting.begun.Goals as goal

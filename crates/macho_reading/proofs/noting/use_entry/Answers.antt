@@ -2,7 +2,7 @@ use Rattle.std.proofs.Common.{◌++◌, List, Option, sym, subst, refl}
 use Rattle.std.proofs.lemmas.Result.{err_from_is_err_and}
 use Rattle.macho_model.specs.Links.{section_id}
 use Rattle.macho_model.specs.Uses.{Use}
-use Rattle.macho_parts.specs.Noted.{BeginsWith}
+use Rattle.macho_promise.specs.Noted.{BeginsWith}
 use Rattle.macho_needs.specs.Noted.{IsNoted}
 use Rattle.macho_consumed.specs.declared.rows.PersonalityUse.{PersonalityUse}
 use Rattle.macho_consumed.specs.Laws.{use_of_personality}

@@ -2,8 +2,8 @@ use Rattle.std.proofs.Common.{◌++◌, List, take, All}
 use Rattle.std.specs.List.{flat_map}
 use Rattle.macho_model.specs.Links.{Input, Link}
 use Rattle.macho_model.specs.Uses.{Use}
-use Rattle.macho_names.specs.Kept.{Keeps}
-use Rattle.macho_parts.specs.Noted.{BeginsWith}
+use Rattle.macho_symbol_names.specs.Kept.{Keeps}
+use Rattle.macho_promise.specs.Noted.{BeginsWith}
 use Rattle.macho_needs.specs.Noted.{IsNoted}
 use Rattle.macho_reading.specs.steps.Rows.{uses_of_row, IsInitializerOf}
 use Rattle.macho_reading.proofs.noting.use_initializers.Given as goal

@@ -1,7 +1,7 @@
 -- Initializers are noted behind carried relocations, personality functions behind initializers.
 use Rattle.std.proofs.Common.{◌++◌, ◌∙◌}
 use Rattle.std.proofs.lemmas.Result.{err_from_is_err_and, on_ok_weaker}
-use Rattle.macho_parts.specs.Noted.{uses_of_carried, uses_of_initializers}
+use Rattle.macho_promise.specs.Noted.{uses_of_carried, uses_of_initializers}
 use Rattle.macho_reading.proofs.Used.{rows_of, rows_begin, rows_noted, entries_of, entries_begin, entries_noted}
 use Rattle.macho_reading.proofs.noting.use_rows.Goals as goal
 

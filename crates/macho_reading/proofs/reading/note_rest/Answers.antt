@@ -1,9 +1,9 @@
 -- Rows are noted, the entry is looked for, names of lists are noted: each step stands on the one before.
 use Rattle.std.proofs.lemmas.Result.{err_from_is_err_and}
-use Rattle.macho_parts.specs.Noted.{imports_in}
+use Rattle.macho_promise.specs.Noted.{imports_in}
 use Rattle.macho_reading.specs.steps.Steps.{uses_before_names}
-use Rattle.macho_reading.proofs.Named.{anyway}
 use Rattle.macho_reading.proofs.reading.note_rest.Goals as goal
+use Rattle.macho_bytes.proofs.Comparing.{on_ok_always}
 
 pub returns-in_err-use_rows-clause-why : goal.returns-in_err-use_rows-clause-why
 returns-in_err-use_rows-clause-why c l counts half =
@@ -22,7 +22,7 @@ returns-clause-noted c l half = c.note_list.ensures.noted l (c.in_ok-use_rows.en
 pub returns-clause-found : goal.returns-clause-found
 returns-clause-found c l half =
     let noted = c.in_ok-use_rows.ensures.noted l half.noted half.are half.keep in
-    anyway c.note_list.result (c.in_ok-find_entry.ensures.found l (imports_in l (uses_before_names l)) noted.imports half.entry_is)
+    on_ok_always c.note_list.result (c.in_ok-find_entry.ensures.found l (imports_in l (uses_before_names l)) noted.imports half.entry_is)
 
 pub returns-clause-why : goal.returns-clause-why
 returns-clause-why c l counts half =

@@ -1,5 +1,5 @@
 -- Rows are read, and what they use is noted; or they are broken, and a refusal is told.
-use Rattle.macho_parts.specs.Noted.{imports_in, uses_of_carried}
+use Rattle.macho_promise.specs.Noted.{imports_in, uses_of_carried}
 use Rattle.std.specs.Option.{option_copied}
 use Rattle.std.proofs.lemmas.Result.{err_from_is_err_and}
 use Rattle.macho_reading.proofs.Finished.{half_read}

@@ -1,7 +1,7 @@
 -- Carried relocations are noted first; what is read behind them stands on that, and each refusal is of one of these two steps.
 use Rattle.std.proofs.Common.{◌≡◌, ◌⊎◌, Option, Result, Some, Ok, Err, inl, inr, subst, IfErr, IfSome}
-use Rattle.macho_faults.specs.declared.fault.LinkError.{LinkError}
-use Rattle.macho_faults.specs.Standing.{Stands}
+use Rattle.macho_answer.specs.declared.fault.LinkError.{LinkError}
+use Rattle.macho_answer.specs.Standing.{Stands}
 use Rattle.macho_model.specs.declared.placed.Counts.{Counts}
 use Rattle.macho_model.specs.Links.{Link}
 use Rattle.macho_reading.specs.declared.rows.Rows.{Rows}

@@ -1,6 +1,6 @@
 -- A view is of an object of the link.
 use Rattle.std.proofs.Common.{Some}
-use Rattle.macho_survey.proofs.Viewing.{view_says, view_at, has_rows, has_object}
+use Rattle.macho_relocation_scan.proofs.Viewing.{view_says, view_at, has_rows, has_object}
 use Rattle.macho_reading.proofs.undefined.use_file.Goals as goal
 
 pub use_object-requires-clause-kind : goal.use_object-requires-clause-kind

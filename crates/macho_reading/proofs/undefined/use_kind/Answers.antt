@@ -1,6 +1,6 @@
 -- Rows of symbols stay those of the inputs, file by file.
 use Rattle.std.proofs.lemmas.Result.{err_from_is_err_and}
-use Rattle.macho_survey.proofs.Viewing.{views_kept}
+use Rattle.macho_relocation_scan.proofs.Viewing.{views_kept}
 use Rattle.macho_reading.proofs.undefined.use_kind.Goals as goal
 
 pub loop-file-init : goal.loop-file-init

@@ -1,6 +1,6 @@
 use Rattle.std.proofs.Common.{List}
 use Rattle.macho_model.specs.Links.{Input}
-use Rattle.macho_names.specs.Kept.{Keeps}
+use Rattle.macho_symbol_names.specs.Kept.{Keeps}
 use Rattle.macho_reading.proofs.undefined.use_kind.Given as goal
 
 abbrev pub invariant-loop-file : goal.invariant-loop-file

@@ -2,7 +2,7 @@
 use Rattle.std.proofs.Common.{◌≡◌, ap, ◌∙◌, arith, if◌then◌else◌}
 use Rattle.std.proofs.lemmas.Result.{err_from_is_err_and}
 use Rattle.macho_model.specs.Objects.{num_sections}
-use Rattle.macho_survey.proofs.Walking.{rows_kept}
+use Rattle.macho_relocation_scan.proofs.Walking.{rows_kept}
 use Rattle.macho_reading.proofs.undefined.use_object.Goals as goal
 
 pub loop-section-init : goal.loop-section-init

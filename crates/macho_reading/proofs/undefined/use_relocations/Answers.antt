@@ -3,7 +3,7 @@ use Rattle.std.proofs.Common.{◌<◌, nat_lt, arith, refl, sym, ◌∙◌}
 use Rattle.std.proofs.lemmas.Result.{err_from_is_err_and}
 use Rattle.macho_model.specs.Links.{section_id}
 use Rattle.macho_model.specs.Objects.{section_at}
-use Rattle.macho_survey.proofs.Walking.{some_section}
+use Rattle.macho_relocation_scan.proofs.Walking.{some_section}
 use Rattle.macho_reading.proofs.Placed.{pointer_got, walk_got, relocation_got, section_kept}
 use Rattle.macho_reading.proofs.undefined.use_relocations.Goals as goal
 

@@ -1,8 +1,8 @@
 -- The relocations are those of the object's section.
 use Rattle.std.proofs.Common.{◌≡◌, nat_lt, sym, subst}
 use Rattle.macho_object.specs.Views.{RelocationBytes, section_count}
-use Rattle.macho_survey.specs.steps.Sections.{HasObject}
-use Rattle.macho_survey.proofs.Walking.{some_section}
+use Rattle.macho_relocation_scan.specs.steps.Sections.{HasObject}
+use Rattle.macho_relocation_scan.proofs.Walking.{some_section}
 use Rattle.macho_reading.proofs.undefined.use_section.Goals as goal
 
 pub returns-clause-why : goal.returns-clause-why

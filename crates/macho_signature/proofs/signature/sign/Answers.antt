@@ -1,12 +1,12 @@
 use Rattle.std.proofs.Common.{arith, refl, length, ap, subst, ◌∙◌}
 use Rattle.macho_bytes.specs.Texts.{put}
-use Rattle.macho_structs.specs.declared.signature.CodeDirectory.{CodeDirectory}
+use Rattle.macho_wire.specs.declared.signature.CodeDirectory.{CodeDirectory}
 use Rattle.macho_signature.proofs.Texts.{signature_put, length-signature}
 use Rattle.macho_signature.specs.Pages.{digests_of}
 use Rattle.macho_signature.specs.Sizes.{signed_by, directory_for}
 use Rattle.macho_signature.proofs.signature.sign.Goals as goal
 use Rattle.macho_bytes.specs.Spellings.{spelling, ReadsBack}
-use Rattle.macho_structs.specs.Spellings.{code_directory_rows}
+use Rattle.macho_wire.specs.Spellings.{code_directory_rows}
 
 pub returns-clause-done : goal.returns-clause-done
 returns-clause-done c =

@@ -6,7 +6,7 @@ use Rattle.macho_signature.proofs.Texts.{length-signature}
 use Rattle.macho_signature.proofs.Files.{file_signed, signed_stands}
 use Rattle.macho_signature.proofs.signature.sign_file.Goals as goal
 use Rattle.macho_bytes.specs.Spellings.{spelling}
-use Rattle.macho_structs.specs.Spellings.{code_directory_rows}
+use Rattle.macho_wire.specs.Spellings.{code_directory_rows}
 
 pub returns-clause-done : goal.returns-clause-done
 returns-clause-done c =

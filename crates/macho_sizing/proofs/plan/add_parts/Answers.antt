@@ -3,7 +3,7 @@ use Rattle.std.proofs.Common.{List, subst, refl}
 use Rattle.std.specs.Prelude.{All, Option}
 use Rattle.macho_model.specs.Needs.{imports_of}
 use Rattle.macho_object.specs.Views.{FileBytes}
-use Rattle.macho_parts.specs.Views.{ViewsObject}
+use Rattle.macho_promise.specs.Views.{ViewsObject}
 use Rattle.macho_sizing.proofs.PlanOf.{commons_small, plan_is}
 use Rattle.macho_sizing.proofs.plan.add_parts.Goals as goal
 

@@ -3,9 +3,9 @@ use Rattle.std.proofs.Common.{sym, subst, inl, inr, length, None}
 use Rattle.std.specs.Prelude.{Option, IfSome}
 use Rattle.macho_layout.specs.declared.fault.LayoutFault.TheVariants as layout
 use Rattle.macho_layout.specs.Laid.{FaultStands}
-use Rattle.macho_faults.specs.declared.fault.LinkError.{LinkError}
-use Rattle.macho_faults.specs.declared.fault.LinkError.TheVariants.{TooMany}
-use Rattle.macho_faults.specs.Standing.{Stands}
+use Rattle.macho_answer.specs.declared.fault.LinkError.{LinkError}
+use Rattle.macho_answer.specs.declared.fault.LinkError.TheVariants.{TooMany}
+use Rattle.macho_answer.specs.Standing.{Stands}
 use Rattle.macho_sizing.specs.declared.numbers.Passed.{Passed}
 use Rattle.macho_sizing.specs.steps.Passing.{counts_before}
 use Rattle.macho_sizing.proofs.Refusals.{number_stands, plan_stands}

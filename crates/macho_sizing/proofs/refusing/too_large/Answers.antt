@@ -1,7 +1,7 @@
 -- The plan passes a limit, or the content is too large.
 use Rattle.std.proofs.Common.{sym, subst}
-use Rattle.macho_faults.specs.declared.fault.LinkError.{LinkError}
-use Rattle.macho_faults.specs.Standing.{Stands}
+use Rattle.macho_answer.specs.declared.fault.LinkError.{LinkError}
+use Rattle.macho_answer.specs.Standing.{Stands}
 use Rattle.macho_sizing.proofs.Refusals.{plan_stands, large_stands}
 use Rattle.macho_sizing.proofs.refusing.too_large.Goals as goal
 

@@ -4,9 +4,9 @@ use Rattle.std.proofs.lemmas.Result.{err_from_is_err_and}
 use Rattle.macho_model.specs.declared.placed.Counts.{Counts}
 use Rattle.macho_model.specs.Needs.{imports_of}
 use Rattle.macho_layout.specs.Placements.{placed_of}
-use Rattle.macho_faults.specs.Standing.{Stands}
+use Rattle.macho_answer.specs.Standing.{Stands}
 use Rattle.macho_linkedit.proofs.CanList.{can_be_listed}
-use Rattle.macho_sizes.proofs.One.{sizes_one}
+use Rattle.macho_size_laws.proofs.One.{sizes_one}
 use Rattle.macho_sizing.proofs.Answered.{limits_hold, counted_are, trie_counted, entry_small}
 use Rattle.macho_sizing.proofs.size.size_within.Goals as goal
 

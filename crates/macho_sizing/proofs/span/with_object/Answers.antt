@@ -9,7 +9,7 @@ use Rattle.macho_model.specs.Objects.{num_sections, section_at}
 use Rattle.macho_model.proofs.ObjectLaws.{object_keeps}
 use Rattle.macho_object.specs.Views.{section_count}
 use Rattle.macho_layout.proofs.Costs.{fitting-none, fitting-some, fitting-is, fitting-below}
-use Rattle.macho_planning.proofs.Standing.{header_viewed}
+use Rattle.macho_sizing.proofs.Standing.{header_viewed}
 use Rattle.macho_sizing.specs.steps.Spans.{span_of, span_below}
 use Rattle.macho_sizing.proofs.Spans.{below_more, below_less}
 use Rattle.macho_sizing.proofs.span.with_object.Goals as goal

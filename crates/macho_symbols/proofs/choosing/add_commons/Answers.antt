@@ -1,6 +1,6 @@
 use Rattle.std.proofs.Common.{◌≡◌, ◌∙◌, ◌++◌, ap, sym, append-nil, not, map, Bool, true, false}
 use Rattle.macho_symbols.specs.steps.Solved.{common_told}
-use Rattle.macho_names.proofs.Taking.{file_rows_none}
+use Rattle.macho_symbol_names.proofs.Taking.{file_rows_none}
 use Rattle.macho_symbols.proofs.ChosenOnes.{chosen_more, not_chosen_more}
 use Rattle.macho_symbols.proofs.choosing.add_commons.Goals as goal
 

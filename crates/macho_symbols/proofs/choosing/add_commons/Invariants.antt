@@ -1,5 +1,5 @@
 use Rattle.std.proofs.Common.{◌≡◌, ◌++◌, map, filter}
-use Rattle.macho_names.specs.Events.{events_of_file}
+use Rattle.macho_symbol_names.specs.Events.{events_of_file}
 use Rattle.macho_symbols.specs.steps.Targets.{is_chosen_in}
 use Rattle.macho_symbols.specs.steps.Solved.{common_told}
 use Rattle.macho_symbols.proofs.choosing.add_commons.Given as goal

@@ -1,9 +1,9 @@
 use Rattle.std.proofs.Common.{◌≡◌, ◌∙◌, ap, arith, length, map, filter}
 use Rattle.macho_symbols.specs.steps.Solved.{common_told}
-use Rattle.macho_names.specs.Events.{events_of}
+use Rattle.macho_symbol_names.specs.Events.{events_of}
 use Rattle.macho_symbols.specs.steps.Targets.{is_chosen_in}
 use Rattle.macho_symbols.specs.Targets.{chosen_in}
-use Rattle.macho_names.proofs.Taking.{files_none}
+use Rattle.macho_symbol_names.proofs.Taking.{files_none}
 use Rattle.macho_symbols.proofs.ChosenOnes.{chosen_files_more}
 use Rattle.macho_symbols.proofs.choosing.chosen_commons.Goals as goal
 

@@ -4,8 +4,9 @@
 -- it. So the bytes are the section's, of which the clauses were told when it was made.
 use Rattle.std.proofs.Common.{◌≡◌, ℕ, ◌++◌, List, length, take, drop, sym, subst, ◌∙◌, ap, arith}
 use Rattle.macho_unwind.specs.Entries.{FindsEntries, FindsOnlyEntries, IsSectionOf}
-use Rattle.macho_unwind.proofs.Joining.{put_all, written_back}
+use Rattle.macho_unwind.proofs.Joining.{written_back}
 use Rattle.macho_unwind.proofs.section.build.Goals as goal
+use Rattle.macho_bytes.proofs.Puts.{put_all}
 
 -- the bytes that are answered
 abbrev bytes_of : goal.Joined-section-2 → List ℕ

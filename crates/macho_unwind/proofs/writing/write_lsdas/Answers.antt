@@ -6,9 +6,9 @@ use Rattle.std.proofs.Common.{◌+◌, get_or, arith}
 use Rattle.macho_bytes.proofs.Sequences.{texts_begin, texts_go_on}
 use Rattle.macho_unwind_pages.specs.declared.plans.Lsda.{Lsda}
 use Rattle.macho_unwind.specs.steps.Tables.{lsda_text}
-use Rattle.macho_unwind.proofs.Reading.{read_alike}
 use Rattle.macho_unwind.proofs.Lengths.{length-lsda_text}
 use Rattle.macho_unwind.proofs.writing.write_lsdas.Goals as goal
+use Rattle.macho_bytes.proofs.Comparing.{read_alike}
 
 pub loop-lsda-init : goal.loop-lsda-init
 loop-lsda-init c = (omega arith, record { written = texts_begin lsda_text c.args.at c.args.out.now (omega arith); ends = omega arith })

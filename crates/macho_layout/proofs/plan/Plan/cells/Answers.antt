@@ -5,9 +5,9 @@ use Rattle.std.proofs.Common.{◌≡◌, ℕ, List, ◌∷◌, [], ◌++◌, map
 use Rattle.std.specs.List.{range_with_len}
 use Rattle.std.proofs.lemmas.List.{get_or_default}
 use Rattle.std.proofs.lemmas.List.FromFn.{map-range_with_len_more}
-use Rattle.macho_cells.specs.declared.members.Extent.{Extent}
-use Rattle.macho_cells.specs.declared.place.Cell.{Cell}
-use Rattle.macho_cells.specs.Stacks.{extent_at, empty_extent}
+use Rattle.macho_stack.specs.declared.members.Extent.{Extent}
+use Rattle.macho_stack.specs.declared.place.Cell.{Cell}
+use Rattle.macho_stack.specs.Stacks.{extent_at, empty_extent}
 use Rattle.macho_layout.specs.Cells.{merged_cell, made_cells, cells_of}
 use Rattle.macho_layout.proofs.plan.Plan.cells.Goals as goal
 

@@ -4,25 +4,24 @@
 -- Each part of the placement is what its call answers.
 use Rattle.std.proofs.Common.{◌≡◌, ℕ, ◌+◌, ◌-◌, ◌*◌, ◌^◌, ◌<◌, [], ◌∷◌, ◌++◌, List, Bool, All, length, refl, sym, ap, ◌∙◌, subst, arith}
 use Rattle.macho_model.specs.declared.placed.PlacedSegment.{PlacedSegment}
-use Rattle.macho_cells.specs.declared.place.PlacedCell.{PlacedCell}
+use Rattle.macho_stack.specs.declared.place.PlacedCell.{PlacedCell}
 use Rattle.macho_layout.specs.Names.{mapped_names}
 use Rattle.macho_bytes.specs.Numbers.{rounded_up}
 use Rattle.macho_model.specs.declared.placed.Linkedit.{Linkedit}
 use Rattle.macho_model.specs.Segments.{SEGMENT_PAGE, LINKEDIT, one_if, list_if}
 use Rattle.std.proofs.lemmas.List.{length-map}
-use Rattle.macho_cells.specs.Ranks.{HasStarts}
+use Rattle.macho_stack.specs.Ranks.{HasStarts}
 use Rattle.macho_layout.specs.declared.spec.CommonSpec.{CommonSpec}
 use Rattle.macho_layout.specs.declared.spec.Planned.{Planned}
-use Rattle.macho_layout.specs.Keys.{padded}
-use Rattle.macho_layout.specs.Keys.{specs_of}
+use Rattle.macho_layout.specs.Keys.{padded, specs_of}
 use Rattle.macho_layout.specs.Plans.{Planning, MayStand}
 use Rattle.macho_layout.specs.Laid.{made_start, zero_page, tables_segment}
 use Rattle.macho_layout.proofs.Tests.{one_is}
 use Rattle.macho_layout.specs.Places.{row_pages, number_at, range_at, template_range, placed_commons, placed_slots, placed_stubs}
-use Rattle.macho_rows.specs.Tables.{tables_cost, tables_at}
+use Rattle.macho_stack.specs.Tables.{tables_cost, tables_at}
 use Rattle.macho_layout.proofs.Costs.{members-cost-is}
 use Rattle.macho_layout.proofs.Rooms.{placed_numbered}
-use Rattle.macho_rows.proofs.RowSteps.{paged, paged-near}
+use Rattle.macho_stack.proofs.RowSteps.{paged, paged-near}
 use Rattle.macho_layout.proofs.TableRooms.{tables_room, tables_end_low, rows_many}
 use Rattle.macho_layout.proofs.plan.Plan.placement.Goals as goal
 

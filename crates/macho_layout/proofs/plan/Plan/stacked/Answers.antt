@@ -1,8 +1,8 @@
 -- Sections and commons in their output sections: each member has a number that is there, no alignment passes a page's, and
 -- together they cost what the sum counts.
 use Rattle.std.proofs.Common.{◌≡◌, ℕ, ◌<◌, ◌≤◌, List, All, length, sum_by, sym, ap, ◌∙◌, subst, arith}
-use Rattle.macho_cells.specs.declared.members.Member.{Member}
-use Rattle.macho_cells.specs.Costs.{cost_of}
+use Rattle.macho_stack.specs.declared.members.Member.{Member}
+use Rattle.macho_stack.specs.Costs.{cost_of}
 use Rattle.macho_layout.specs.declared.spec.SectionSpec.{SectionSpec}
 use Rattle.macho_layout.specs.declared.spec.CommonSpec.{CommonSpec}
 use Rattle.macho_layout.specs.Plans.{Planning}

@@ -1,6 +1,6 @@
 -- A name stands from its place to its end.
 use Rattle.std.proofs.Common.{◌≡◌, ℕ, ◌+◌, ◌-◌, take, drop, ap, ◌∙◌, arith}
-use Rattle.macho_names.proofs.Strings.{string_stands}
+use Rattle.macho_symbol_names.proofs.Strings.{string_stands}
 use Rattle.macho_linkedit.proofs.names.Names.name.Goals as goal
 
 pub returns-clause-found : goal.returns-clause-found

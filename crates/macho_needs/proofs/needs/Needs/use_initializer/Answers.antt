@@ -1,17 +1,18 @@
 -- The name is noted, and nothing else is asked for.
 use Rattle.std.proofs.Common.{◌≡◌, true, refl, ◌∙◌, ap, subst}
-use Rattle.macho_model.specs.Uses.{ByInitializer, global_name}
+use Rattle.macho_model.specs.Uses.{ByInitializer, global_name, target_with}
 use Rattle.macho_model.specs.Targets.{target_of_relocation}
-use Rattle.macho_model.specs.Uses.{target_with}
 use Rattle.macho_model.specs.Consumed.{is_plain_pointer}
-use Rattle.macho_faults.specs.Standing.{Stands}
+use Rattle.macho_answer.specs.Standing.{Stands}
 use Rattle.macho_symbols.specs.Kept.{symbol_id}
-use Rattle.macho_parts.specs.Noted.{imports_in}
+use Rattle.macho_promise.specs.Noted.{imports_in}
 use Rattle.macho_needs.specs.Tables.{Numbered}
 use Rattle.macho_needs.specs.steps.Leads.{IsLostBy}
 use Rattle.macho_needs.proofs.Using.{names_it, lost_stands}
-use Rattle.macho_needs.proofs.Pointers.{symbol_noted, no_addend, pointer_leads, on_ok_both, if_ok, if_err, files_stay}
+use Rattle.macho_needs.proofs.Pointers.{symbol_noted, pointer_leads, on_ok_both, if_ok, files_stay}
 use Rattle.macho_needs.proofs.needs.Needs.use_initializer.Goals as goal
+use Rattle.macho_model.proofs.Sections.{no_addend}
+use Rattle.macho_bytes.proofs.Comparing.{if_err}
 
 pub returns-clause-noted : goal.returns-clause-noted
 returns-clause-noted c l us s r is next of here =

@@ -5,11 +5,12 @@ use Rattle.macho_model.specs.Uses.{ByPersonality, global_name}
 use Rattle.macho_model.specs.Targets.{same_target}
 use Rattle.macho_model.specs.Consumed.{is_plain_pointer}
 use Rattle.macho_symbols.specs.Kept.{symbol_id}
-use Rattle.macho_parts.specs.Noted.{imports_in}
+use Rattle.macho_promise.specs.Noted.{imports_in}
 use Rattle.macho_needs.specs.Tables.{Numbered, with_some}
 use Rattle.macho_needs.proofs.Using.{names_it, lost_stands}
-use Rattle.macho_needs.proofs.Pointers.{symbol_noted, no_addend, pointer_leads, files_stay}
+use Rattle.macho_needs.proofs.Pointers.{symbol_noted, pointer_leads, files_stay}
 use Rattle.macho_needs.proofs.needs.Needs.use_personality.Goals as goal
+use Rattle.macho_model.proofs.Sections.{no_addend}
 
 pub returns-in_err-target-clause-why : goal.returns-in_err-target-clause-why
 returns-in_err-target-clause-why c l counts noted s r is there of here =

@@ -4,7 +4,7 @@ use Rattle.std.proofs.lemmas.Result.{err_from_is_err_and}
 use Rattle.macho_records.specs.declared.constants.TheConstants.{ARM64_RELOC_ADDEND}
 use Rattle.macho_model.specs.Grammar.{IsFile, IsObject}
 use Rattle.macho_model.specs.Uses.{ByRelocation}
-use Rattle.macho_parts.specs.Noted.{imports_in}
+use Rattle.macho_promise.specs.Noted.{imports_in}
 use Rattle.macho_needs.proofs.Using.{use_noted, leads_there, referent_is, addend_noted, lost_stands, names_it, with_use, named_there, files_kept}
 use Rattle.macho_needs.proofs.needs.Needs.use_relocation.Goals as goal
 

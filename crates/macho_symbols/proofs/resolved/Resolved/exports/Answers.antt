@@ -3,8 +3,9 @@ use Rattle.std.specs.Option.{option_copied}
 use Rattle.macho_symbols.specs.Kept.{IsResolved}
 use Rattle.macho_symbols.proofs.AskedFor.{names_found, name_missing}
 use Rattle.macho_symbols.proofs.ExportedLink.{exports_here, plain_so}
-use Rattle.macho_symbols.proofs.UsesHere.{on_ok, if_err, both_ok}
+use Rattle.macho_symbols.proofs.UsesHere.{on_ok, both_ok}
 use Rattle.macho_symbols.proofs.resolved.Resolved.exports.Goals as goal
+use Rattle.macho_bytes.proofs.Comparing.{if_err}
 
 pub returns-clause-exported : goal.returns-clause-exported
 returns-clause-exported c l noted is lists =

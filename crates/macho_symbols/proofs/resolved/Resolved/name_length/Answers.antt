@@ -1,7 +1,7 @@
 -- The row of the symbol is that which is kept of it, and its name the symbol's own.
 use Rattle.std.proofs.Common.{◌<◌, length, get_or, ap, sym, ◌∙◌, arith}
 use Rattle.std.proofs.lemmas.List.{get_or_default}
-use Rattle.macho_names.specs.Kept.{FileRows, no_file, no_row}
+use Rattle.macho_symbol_names.specs.Kept.{FileRows, no_file, no_row}
 use Rattle.macho_symbols.specs.Kept.{ResolvedRows}
 use Rattle.macho_symbols.proofs.Targeted.{name_here}
 use Rattle.macho_symbols.proofs.resolved.Resolved.name_length.Goals as goal

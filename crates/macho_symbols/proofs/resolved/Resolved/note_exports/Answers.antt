@@ -1,8 +1,9 @@
 use Rattle.std.proofs.Common.{subst, sym}
 use Rattle.macho_symbols.specs.Kept.{IsResolved}
 use Rattle.macho_symbols.proofs.AskedFor.{names_noted, names_found, name_missing}
-use Rattle.macho_symbols.proofs.UsesHere.{on_ok, if_err}
+use Rattle.macho_symbols.proofs.UsesHere.{on_ok}
 use Rattle.macho_symbols.proofs.resolved.Resolved.note_exports.Goals as goal
+use Rattle.macho_bytes.proofs.Comparing.{if_err}
 
 pub returns-clause-noted : goal.returns-clause-noted
 returns-clause-noted c l noted is =

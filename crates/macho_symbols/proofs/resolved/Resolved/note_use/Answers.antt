@@ -1,8 +1,9 @@
 use Rattle.std.proofs.Common.{subst, sym}
 use Rattle.macho_symbols.specs.Kept.{ResolvedRows, IsResolved, HasSymbol}
 use Rattle.macho_symbols.proofs.Targeted.{target_here}
-use Rattle.macho_symbols.proofs.UsesHere.{on_ok, same_ok, if_err, noted_here, found_here, undefined_here}
+use Rattle.macho_symbols.proofs.UsesHere.{on_ok, same_ok, noted_here, found_here, undefined_here}
 use Rattle.macho_symbols.proofs.resolved.Resolved.note_use.Goals as goal
+use Rattle.macho_bytes.proofs.Comparing.{if_err}
 
 pub returns-clause-noted : goal.returns-clause-noted
 returns-clause-noted c l noted is =

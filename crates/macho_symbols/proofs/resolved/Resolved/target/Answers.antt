@@ -1,6 +1,6 @@
 use Rattle.std.proofs.Common.{ap, ◌∙◌}
 use Rattle.macho_symbols.specs.Kept.{ResolvedRows}
-use Rattle.macho_names.specs.Events.{event_at}
+use Rattle.macho_symbol_names.specs.Events.{event_at}
 use Rattle.macho_symbols.specs.Targets.{target_in}
 use Rattle.macho_symbols.proofs.Targeted.{target_here}
 use Rattle.macho_symbols.proofs.resolved.Resolved.target.Goals as goal

@@ -1,8 +1,8 @@
 use Rattle.std.proofs.Common.{◌≡◌, ℕ, ◌<◌, ap, ◌∙◌, subst, refl, arith, List, [], get_or, replicate, length, filter, ◌≤◌, Vec, vec_len}
 use Rattle.std.proofs.lemmas.List.{get_or-replicate, length-replicate}
-use Rattle.macho_names.specs.Kept.{FileRows}
-use Rattle.macho_names.specs.Events.{events, is_strong_of}
-use Rattle.macho_names.specs.Tables.{heads_of, IsClash, IsKnown}
+use Rattle.macho_symbol_names.specs.Kept.{FileRows}
+use Rattle.macho_symbol_names.specs.Events.{events, is_strong_of}
+use Rattle.macho_symbol_names.specs.Tables.{heads_of, IsClash, IsKnown}
 use Rattle.macho_symbols.specs.declared.solved.TheConstants.{UNNUMBERED}
 use Rattle.macho_symbols.specs.steps.Solved.{IsNumbered, IsImportIn}
 use Rattle.std.proofs.lemmas.List.Elements.{All-nil}

@@ -1,7 +1,7 @@
 use Rattle.std.proofs.Common.{sym, ◌∙◌, subst, arith, ◌+◌}
 use Rattle.std.specs.Option.{option_copied}
 use Rattle.std.proofs.lemmas.List.Sorted.{All-permutation}
-use Rattle.macho_names.specs.Tables.{heads_of}
+use Rattle.macho_symbol_names.specs.Tables.{heads_of}
 use Rattle.macho_symbols.specs.steps.Exporting.{AreFound, IsPairIn, is_exported_in}
 use Rattle.macho_symbols.specs.Kept.{noted_of}
 use Rattle.macho_symbols.proofs.InOrder.{found_none, found_more, found_same, in_order}

@@ -1,6 +1,6 @@
 use Rattle.std.proofs.Common.{◌≡◌, ap, sym, subst, ◌∙◌, arith, false, All}
 use Rattle.std.proofs.lemmas.List.{length-map, take_all}
-use Rattle.macho_exports.specs.Entries.{texts_of}
+use Rattle.macho_export_lists.specs.Entries.{texts_of}
 use Rattle.macho_symbols.specs.Kept.{noted_of}
 use Rattle.macho_symbols.specs.steps.Targets.{is_missing_in, is_nothing}
 use Rattle.macho_symbols.proofs.AskedFor.{missing_at, found_next}

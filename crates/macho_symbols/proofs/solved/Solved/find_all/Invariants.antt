@@ -1,5 +1,5 @@
 use Rattle.std.proofs.Common.{◌≡◌, false, take, All}
-use Rattle.macho_exports.specs.Entries.{texts_of}
+use Rattle.macho_export_lists.specs.Entries.{texts_of}
 use Rattle.macho_symbols.specs.steps.Targets.{is_missing_in}
 use Rattle.macho_symbols.proofs.solved.Solved.find_all.Given as goal
 

@@ -3,8 +3,9 @@ use Rattle.std.specs.Option.{option_copied}
 use Rattle.macho_symbols.specs.steps.Exporting.{required_in}
 use Rattle.macho_symbols.specs.steps.Solved.{IsMissingIn}
 use Rattle.macho_symbols.specs.steps.Targets.{is_missing_in}
-use Rattle.macho_symbols.proofs.UsesHere.{on_ok, if_err}
+use Rattle.macho_symbols.proofs.UsesHere.{on_ok}
 use Rattle.macho_symbols.proofs.solved.Solved.find_required.Goals as goal
+use Rattle.macho_bytes.proofs.Comparing.{if_err}
 
 pub returns-in-Some-clause-found : goal.returns-in-Some-clause-found
 returns-in-Some-clause-found c =

@@ -2,7 +2,7 @@ use Rattle.std.proofs.Common.{ap, ◌∙◌, arith, not, ◌==◌, get_or, [], �
 use Rattle.std.proofs.lemmas.List.{get_or_default}
 use Rattle.macho_symbols.specs.declared.solved.TheConstants.{UNNUMBERED}
 use Rattle.macho_symbols.specs.Kept.{noted_of}
-use Rattle.macho_names.specs.Tables.{names_of}
+use Rattle.macho_symbol_names.specs.Tables.{names_of}
 use Rattle.macho_symbols.proofs.OpenNames.{numbered_is}
 use Rattle.macho_symbols.proofs.solved.Solved.is_noted.Goals as goal
 

@@ -1,9 +1,9 @@
 use Rattle.std.proofs.Common.{◌&&◌, ap, sym, ◌∙◌, refl, get_or, [], not}
 use Rattle.std.specs.List.{list_any}
 use Rattle.std.specs.Str.{bytes_eq}
-use Rattle.macho_names.specs.Events.{event_at}
+use Rattle.macho_symbol_names.specs.Events.{event_at}
 use Rattle.macho_symbols.specs.Kept.{noted_of}
-use Rattle.macho_names.specs.Tables.{names_of}
+use Rattle.macho_symbol_names.specs.Tables.{names_of}
 use Rattle.macho_symbols.proofs.OpenNames.{open_is, open_shown}
 use Rattle.macho_symbols.proofs.solved.Solved.is_open.Goals as goal
 

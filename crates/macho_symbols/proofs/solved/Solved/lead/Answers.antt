@@ -1,7 +1,7 @@
 use Rattle.std.proofs.Common.{get_or, [], ap, sym, ◌∙◌, refl}
 use Rattle.macho_model.specs.declared.targets.Target.TheVariants as target
-use Rattle.macho_names.specs.Events.{event_at}
-use Rattle.macho_names.specs.Tables.{names_of}
+use Rattle.macho_symbol_names.specs.Events.{event_at}
+use Rattle.macho_symbol_names.specs.Tables.{names_of}
 use Rattle.macho_symbols.specs.Kept.{noted_of}
 use Rattle.macho_symbols.specs.Targets.{base_target}
 use Rattle.macho_symbols.proofs.Leading.{leads, leads_itself, common_ids}

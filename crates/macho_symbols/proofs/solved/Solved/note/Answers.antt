@@ -6,9 +6,9 @@ use Rattle.macho_symbols.specs.Kept.{noted_of}
 use Rattle.macho_symbols.specs.declared.solved.Import.{Import}
 use Rattle.macho_symbols.specs.Targets.{definition_by}
 use Rattle.macho_model.specs.Resolution.{Library}
-use Rattle.macho_names.specs.Tables.{heads_of, names_of, entry_name}
-use Rattle.macho_names.specs.Events.{events, best_of}
-use Rattle.macho_names.proofs.KnowingBetter.{apart_any}
+use Rattle.macho_symbol_names.specs.Tables.{heads_of, names_of, entry_name}
+use Rattle.macho_symbol_names.specs.Events.{events, best_of}
+use Rattle.macho_symbol_names.proofs.KnowingBetter.{apart_any}
 use Rattle.macho_symbols.proofs.NotingUses.{import_offered, numbers_more}
 use Rattle.macho_symbols.proofs.solved.Solved.note.Goals as goal
 

@@ -1,7 +1,7 @@
 use Rattle.std.proofs.Common.{◌≡◌, subst, take, arith}
 use Rattle.std.proofs.lemmas.List.{length-map, take_all}
 use Rattle.std.proofs.lemmas.Result.{err_from_is_err_and}
-use Rattle.macho_exports.specs.Entries.{texts_of}
+use Rattle.macho_export_lists.specs.Entries.{texts_of}
 use Rattle.macho_symbols.specs.steps.Solved.{HaveNoted}
 use Rattle.macho_symbols.proofs.AskedFor.{none_noted_yet, next_name, missing_among, grown_more, unchanged_grown}
 use Rattle.macho_symbols.proofs.solved.Solved.note_each.Goals as goal

@@ -1,5 +1,5 @@
 use Rattle.std.proofs.Common.{take}
-use Rattle.macho_exports.specs.Entries.{texts_of}
+use Rattle.macho_export_lists.specs.Entries.{texts_of}
 use Rattle.macho_symbols.specs.steps.Solved.{HaveNoted}
 use Rattle.macho_symbols.proofs.solved.Solved.note_each.Given as goal
 

@@ -4,8 +4,9 @@ use Rattle.macho_trie.specs.steps.Layouts.{size_at, tree_at, AreLow, AreLowWidth
 use Rattle.std.proofs.lemmas.Bool.{eqb-true}
 use Rattle.macho_trie.proofs.Widths.{low_first}
 use Rattle.macho_trie.proofs.Parents.{length-sizes}
-use Rattle.macho_trie.proofs.Looks.{seen_by, seen_short, none_narrow, fewer_left, nothing_in}
+use Rattle.macho_trie.proofs.Looks.{seen_by, seen_short, none_narrow, fewer_left}
 use Rattle.macho_trie.proofs.layout.Layout.lay_out.Goals as goal
+use Rattle.macho_bytes.proofs.Comparing.{no_elements}
 
 pub sizes-requires-clause-widths : goal.sizes-requires-clause-widths
 sizes-requires-clause-widths c =
@@ -46,7 +47,7 @@ returns-then-is_empty c =
     none_narrow c.args.self.now c.looks.widths.items c.deref-in-looks-3.result.now c.deref-in-looks-2.result.now
     c.in_ok-places.places.items seen
     c.looks.invariant.low.long c.looks.invariant.low.low (c.in_ok-list.ensures.none
-    (let none = eqb-true _ 0 (sym c.is_empty.ensures ∙ c.if-is_empty.true) in nothing_in c.in_ok-list.list.items (omega (
+    (let none = eqb-true _ 0 (sym c.is_empty.ensures ∙ c.if-is_empty.true) in no_elements c.in_ok-list.list.items (omega (
       arith,
       none,
       c.in_ok-list.list.ok.0,

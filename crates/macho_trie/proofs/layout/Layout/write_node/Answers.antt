@@ -1,4 +1,4 @@
-use Rattle.std.proofs.Common.{slice_index, arith}
+use Rattle.std.proofs.Common.{slice_index}
 use Rattle.std.proofs.lemmas.Result.{on_ok_weaker}
 use Rattle.macho_trie.specs.steps.Layouts.{names_at, says_at}
 use Rattle.macho_trie.proofs.Cursor.{row_sound}

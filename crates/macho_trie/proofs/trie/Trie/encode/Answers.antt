@@ -1,4 +1,4 @@
-use Rattle.std.proofs.Common.{◌≡◌, ℕ, List, ◌++◌, length, take, drop, slice_index, arith, ap, sym, subst, ◌∙◌}
+use Rattle.std.proofs.Common.{ℕ, List, ◌++◌, length, take, drop, slice_index, arith, ap, ◌∙◌}
 use Rattle.macho_trie.specs.Symbols.{symbols_of, names_of}
 use Rattle.macho_trie.specs.Tries.{IsTextOf}
 use Rattle.macho_bytes.specs.Texts.{put}

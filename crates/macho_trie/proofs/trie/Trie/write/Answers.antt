@@ -1,4 +1,4 @@
-use Rattle.std.proofs.Common.{ℕ, List, ◌≡◌, ◌<◌, ◌^◌, length, slice_index, arith, ap, sym, ◌∙◌}
+use Rattle.std.proofs.Common.{ℕ, List, length, slice_index, arith, ap, ◌∙◌}
 use Rattle.macho_trie.specs.Encoding.{tree_bytes}
 use Rattle.macho_trie.specs.steps.Layouts.{says_at, tree_at}
 use Rattle.macho_trie.specs.declared.layout.Layout.{Layout}

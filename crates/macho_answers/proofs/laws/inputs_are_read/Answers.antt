@@ -1,5 +1,0 @@
-use Rattle.macho_answers.proofs.Inputs.{inputs_are_read, inputs_are_bytes, inputs_are_plain}
-use Rattle.macho_answers.proofs.laws.inputs_are_read.Goals as goal
-
-pub returns : goal.returns
-returns c = record { objects = inputs_are_read; bytes = inputs_are_bytes; stubs = inputs_are_plain }

@@ -1,5 +1,0 @@
-use Rattle.macho_answers.proofs.Kept.{placed_is_kept, early_is_standing, late_is_standing}
-use Rattle.macho_answers.proofs.laws.refusals_stand.Goals as goal
-
-pub returns : goal.returns
-returns c = record { kept = placed_is_kept; early = early_is_standing; late = late_is_standing }

@@ -1,5 +1,0 @@
-use Rattle.macho_answers.proofs.Told.{standing_is_told}
-use Rattle.macho_answers.proofs.laws.standing_refusals_are_told.Goals as goal
-
-pub returns : goal.returns
-returns c = standing_is_told

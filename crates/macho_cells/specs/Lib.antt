@@ -1,4 +1,0 @@
-pub mod Blocks
-pub mod Costs
-pub mod Stacks
-pub mod Ranks

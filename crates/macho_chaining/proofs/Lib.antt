@@ -1,6 +1,0 @@
-pub mod Encoded
-pub mod Counted
-pub mod Lying
-pub mod Kept
-pub mod Made
-pub mod Putting

@@ -1,3 +1,0 @@
-pub mod Chaining
-pub mod Writing
-pub mod Laws

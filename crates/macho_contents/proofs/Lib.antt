@@ -1,0 +1,14 @@
+pub mod Encoded
+pub mod Counted
+pub mod ChainedRanges
+pub mod FilledRanges
+pub mod Kept
+pub mod Made
+pub mod Putting
+pub mod Viewing
+pub mod Ranges
+pub mod Firsts
+pub mod Stubs
+pub mod NoneBad
+pub mod Fit
+pub mod Standing

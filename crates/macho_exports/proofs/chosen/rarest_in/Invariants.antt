@@ -1,6 +1,0 @@
-use Rattle.std.proofs.Common.{ℕ, List}
-use Rattle.macho_exports.specs.steps.Ends.{IsRun}
-use Rattle.macho_exports.proofs.chosen.rarest_in.Given as goal
-
-abbrev pub invariant-loop-at : goal.invariant-loop-at
-invariant-loop-at l = (pattern : List ℕ) → IsRun l.run.bytes.now pattern → IsRun l.between pattern → IsRun l.rarest.bytes.now pattern

@@ -1,9 +1,0 @@
-use Rattle.std.proofs.Common.{length}
-use Rattle.macho_exports.specs.steps.Ends.{IsRun, IsTail}
-use Rattle.macho_exports.proofs.chosen.rarest_run.Given as goal
-
-abbrev pub invariant-loop-star : goal.invariant-loop-star
-invariant-loop-star l = IsRun l.rarest.bytes.now l.pattern × IsTail l.left l.pattern
-
-abbrev pub decreases-loop-star : goal.decreases-loop-star
-decreases-loop-star l = length l.left

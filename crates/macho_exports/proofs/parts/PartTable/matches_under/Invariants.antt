@@ -1,8 +1,0 @@
-use Rattle.std.proofs.Common.{◌≡◌, ℕ, ◌<◌, ◌≤◌, false}
-use Rattle.macho_exports.specs.Entries.{texts_of}
-use Rattle.macho_exports.specs.steps.Indexed.{is_match_from}
-use Rattle.macho_exports.proofs.parts.PartTable.matches_under.Given as goal
-
-abbrev pub invariant-loop-at : goal.invariant-loop-at
-invariant-loop-at l =
-    (k : ℕ) → l.first ≤ k → k < l.at → is_match_from l.self (texts_of l.patterns) l.name l.count l.first k ≡ false

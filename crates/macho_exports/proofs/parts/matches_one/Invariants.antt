@@ -1,7 +1,0 @@
-use Rattle.std.proofs.Common.{◌≡◌, false, take}
-use Rattle.macho_exports.specs.Entries.{texts_of}
-use Rattle.macho_exports.specs.steps.Indexed.{is_match_of}
-use Rattle.macho_exports.proofs.parts.matches_one.Given as goal
-
-abbrev pub invariant-loop-number : goal.invariant-loop-number
-invariant-loop-number l = is_match_of (texts_of l.patterns) l.name (take l.number-index l.numbers) ≡ false

@@ -1,5 +1,0 @@
-use Rattle.macho_format_tests.proofs.model_laws.plain_pointer_at_a_slide.Goals as goal
-
-pub returns : goal.returns
-returns c l p first second f =
-    c.plain_pointers_stay.ensures l c.args.file.now p c.args.slide first second c.args.section f

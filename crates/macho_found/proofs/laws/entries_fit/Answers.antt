@@ -1,5 +1,0 @@
-use Rattle.macho_found.proofs.Entries.{own_fit, entries_fit, entries_of_link}
-use Rattle.macho_found.proofs.laws.entries_fit.Goals as goal
-
-pub returns : goal.returns
-returns c = record { own = own_fit; fit = entries_fit; of_link = entries_of_link }

@@ -1,5 +1,0 @@
-use Rattle.macho_found.proofs.Plain.{imports_plain, imports_tellable, libraries_whole}
-use Rattle.macho_found.proofs.laws.names_are_plain.Goals as goal
-
-pub returns : goal.returns
-returns c = record { plain = imports_plain; imports = imports_tellable; libraries = libraries_whole }

@@ -1,7 +1,0 @@
-use Rattle.macho_found.proofs.Rows.{stubs_follow, slots_follow}
-use Rattle.macho_found.proofs.Slots.{slots_stand}
-use Rattle.macho_found.proofs.Stubs.{stubs_stand}
-use Rattle.macho_found.proofs.laws.slots_and_stubs_stand.Goals as goal
-
-pub returns : goal.returns
-returns c = record { slots = slots_stand; stubs = stubs_stand; stubs_follow = stubs_follow; slots_follow = slots_follow }

@@ -1,0 +1,12 @@
+pub mod ByteReads
+pub mod SegmentWalk
+pub mod NthWalk
+pub mod ListedLaws
+pub mod ChainSets
+pub mod NumberedWalk
+pub mod WordWalk
+pub mod LoadedMemory
+pub mod WordFitting
+pub mod RuleWalk
+pub mod UnfitWords
+pub mod BrokenRules

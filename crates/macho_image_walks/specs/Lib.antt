@@ -1,0 +1,4 @@
+pub mod Readings
+pub mod Loaded
+pub mod steps
+pub mod Tests

@@ -1,0 +1,3 @@
+mod LastPart
+pub mod OneReading
+pub mod Taking

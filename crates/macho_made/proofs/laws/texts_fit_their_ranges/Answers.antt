@@ -1,5 +1,0 @@
-use Rattle.macho_made.proofs.Fitting.{texts_fit}
-use Rattle.macho_made.proofs.laws.texts_fit_their_ranges.Goals as goal
-
-pub returns : goal.returns
-returns c = texts_fit

@@ -1,6 +1,0 @@
-use Rattle.macho_memory_walks.proofs.NthWalk.{Passed}
-use Rattle.macho_memory_walks.proofs.walk.nth.Given as goal
-
--- of the commands before the place so many are of the list as the number has lost
-abbrev pub invariant-loop-i : goal.invariant-loop-i
-invariant-loop-i l = Passed l.list l.bytes l.number l.i l.place l.left

@@ -1,4 +1,0 @@
-pub mod WordFitting
-pub mod RuleWalk
-pub mod UnfitWords
-pub mod BrokenRules

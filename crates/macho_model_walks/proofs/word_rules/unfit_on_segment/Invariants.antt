@@ -1,7 +1,0 @@
--- The words of the pages so far fit.
-use Rattle.std.proofs.Common.{ℕ, ◌<◌}
-use Rattle.macho_model_walks.specs.steps.WordTests.{FitOnPage}
-use Rattle.macho_model_walks.proofs.word_rules.unfit_on_segment.Given as goal
-
-abbrev pub invariant-loop-page : goal.invariant-loop-page
-invariant-loop-page l = (k : ℕ) → k < l.page → FitOnPage l.bytes l.number l.place k

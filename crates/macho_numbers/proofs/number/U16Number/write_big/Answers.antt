@@ -1,9 +1,0 @@
-use Rattle.std.proofs.Common.{refl}
-use Rattle.macho_bytes.specs.Numbers.{be_bytes}
-use Rattle.macho_bytes.proofs.Writes.{put_mid-front}
-use Rattle.macho_numbers.proofs.number.U16Number.write_big.Goals as goal
-
-pub returns-clause-written : goal.returns-clause-written
-unfolding be_bytes
-returns-clause-written c =
-    put_mid-front c.args.at _ c.args.out.now (be_bytes 2 c.args.self) c.write_u16.new.buf refl c.requires c.write_u16.ensures

@@ -1,0 +1,16 @@
+pub mod Names
+pub mod Classes
+pub mod Headers
+pub mod Heads
+pub mod Entry
+pub mod Room
+pub mod Ties
+pub mod Backed
+pub mod Apart
+pub mod Parts
+pub mod OfLink
+pub mod Named
+pub mod Relocations
+pub mod Once
+pub mod Places
+pub mod Above

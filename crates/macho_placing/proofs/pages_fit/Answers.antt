@@ -1,6 +1,0 @@
--- The room of the fixup table holds all page starts.
-use Rattle.macho_placing.proofs.Placing.{pages_do_fit}
-use Rattle.macho_placing.proofs.pages_fit.Goals as goal
-
-pub returns : goal.returns
-returns c = pages_do_fit

@@ -1,5 +1,0 @@
-use Rattle.macho_sealing.proofs.Signing.{signature_said}
-use Rattle.macho_sealing.proofs.laws.signature_is_the_links.Goals as goal
-
-pub returns : goal.returns
-returns c = signature_said

@@ -1,6 +1,0 @@
--- A link of objects, libraries and stubs has one list of sizes.
-use Rattle.macho_sized.proofs.Taken.{links_have_sizes}
-use Rattle.macho_sized.proofs.laws.links_have_sizes.Goals as goal
-
-pub returns : goal.returns
-returns c = links_have_sizes

@@ -1,6 +1,0 @@
--- The lemma says just this.
-use Rattle.macho_standing.proofs.TemplateTold.{headers_tell_template}
-use Rattle.macho_standing.proofs.laws.headers_tell_the_template.Goals as goal
-
-pub returns : goal.returns
-returns c = headers_tell_template

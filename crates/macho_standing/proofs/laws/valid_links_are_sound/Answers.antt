@@ -1,6 +1,0 @@
--- The lemma says just this.
-use Rattle.macho_standing.proofs.Sounding.{valid_is_sound}
-use Rattle.macho_standing.proofs.laws.valid_links_are_sound.Goals as goal
-
-pub returns : goal.returns
-returns c = valid_is_sound

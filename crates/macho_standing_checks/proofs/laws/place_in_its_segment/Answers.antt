@@ -1,5 +1,0 @@
-use Rattle.macho_standing_checks.proofs.laws.place_in_its_segment.Goals as goal
-
-pub returns : goal.returns
-returns c =
-    c.places_are_in_segments.ensures c.args.segments.now c.args.segment c.args.address c.requires.order c.requires.one c.requires.holds

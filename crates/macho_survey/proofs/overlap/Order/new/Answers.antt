@@ -1,6 +1,0 @@
--- No field was seen.
-use Rattle.macho_survey.proofs.Hulls.{order_none}
-use Rattle.macho_survey.proofs.overlap.Order.new.Goals as goal
-
-pub returns : goal.returns
-returns c b k = order_none b k _

@@ -1,0 +1,23 @@
+pub mod Lists
+pub mod Rising
+pub mod Imported
+pub mod Exported
+pub mod Kept
+pub mod Defined
+pub mod Addressed
+pub mod Said
+pub mod ImportsTold
+pub mod Numbered
+pub mod Outputs
+pub mod MadeSections
+pub mod Headers
+pub mod Numbers
+pub mod ByName
+pub mod SectionNumbers
+pub mod TableRows
+pub mod Objects
+pub mod RowParts
+pub mod ListedRows
+pub mod Short
+-- what crates above take of those below
+pub use Rattle.macho_image_laws.proofs.Whole

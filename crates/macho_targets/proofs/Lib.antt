@@ -1,6 +1,0 @@
-pub mod OfLink
-pub mod Named
-pub mod Relocations
-pub mod Once
-pub mod Places
-pub mod Above

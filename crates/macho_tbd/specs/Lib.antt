@@ -1,0 +1,5 @@
+pub mod Offered
+pub mod Writable
+pub mod Text
+pub mod Answer
+pub mod steps

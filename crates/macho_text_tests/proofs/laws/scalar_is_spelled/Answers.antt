@@ -1,4 +1,0 @@
-use Rattle.macho_text_tests.proofs.laws.scalar_is_spelled.Goals as goal
-
-pub returns : goal.returns
-returns c = c.lines_are_trees.ensures.scalars.found c.args.line c.args.at c.args.value.now c.args.text.now c.requires

@@ -1,8 +1,0 @@
-pub mod Ranges
-pub mod Reach
-pub mod FieldTargets
-pub mod Near
-pub mod Fixed
-pub mod InReach
-pub mod Sizes
-pub mod PlacementRefusals

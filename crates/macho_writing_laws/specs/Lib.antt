@@ -1,0 +1,12 @@
+pub mod Premises
+pub mod Things
+pub mod Slots
+pub mod Rooms
+pub mod Heads
+pub mod Sizes
+pub mod Files
+pub mod Targets
+pub mod Names
+pub mod Entries
+pub mod Template
+pub mod Valid
