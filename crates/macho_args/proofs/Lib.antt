@@ -5,4 +5,3 @@ pub mod Reading
 pub mod Moves
 pub mod Roots
 mod Rows
-pub mod Unique

@@ -2,14 +2,14 @@
 --
 -- A path that doesn't begin with `/` stays, whatever is a directory. For the list, one more path and what
 -- becomes of it join what is known of those before; the file system tells the same at each turn.
-use Rattle.std.proofs.Common.{◌≡◌, ℕ, ◌+◌, ◌<◌, Bool, true, false, List, [], ◌∷◌, ◌++◌, length, map, take, drop, get_or, cond, Option, Some, None, String, refl, ◌∙◌, nat_eq}
+use Rattle.std.proofs.Common.{◌≡◌, ℕ, ◌+◌, ◌<◌, Bool, true, false, List, [], ◌∷◌, ◌++◌, length, map, take, drop, get_or, cond, Option, Some, None, String, refl, subst, nat_eq}
 use Rattle.std.specs.List.{AllZip, starts_with}
 use Rattle.std.specs.String.{string_bytes}
 use Rattle.std.proofs.lemmas.List.{map_more, map-append}
 use Rattle.std.proofs.lemmas.List.Elements.{AllZip-push}
 use Rattle.macho_args.specs.SearchPaths.{IsMoved}
 use Rattle.macho_args.specs.Effects.{joined}
-use Rattle.macho_args.specs.Store.{CanonicalPaths, Directories, IsToldDirectory, KeepsOutside, Store}
+use Rattle.macho_args.specs.Store.{Directories, FileSystem, IsToldDirectory}
 
 -- there is an answer that may be given
 pub some_answer : (known : Option Directories) (path : List ℕ) → (answer : Bool) × IsToldDirectory known path answer
@@ -40,22 +40,7 @@ moved-more known root old new i path next within is each one =
     (AllZip-push (IsMoved known root) (map string_bytes (take i old)) (map string_bytes new)
     (string_bytes path) (string_bytes next) each one)
 
--- what is told at a later time is what was told before
-module _ {D : Type 0} (directories : D → Option Directories) (canonical_paths : D → Option CanonicalPaths)
-    (holds : D → Option Store) (faults write_faults : D → ℕ) where
-  abbrev Keeps : D → D → Type 0
-  Keeps old new = KeepsOutside directories canonical_paths holds faults write_faults old new
-
-  pub keeps-twice : (a b c : D) → Keeps a b → Keeps b c → Keeps a c
-  keeps-twice a b c first second =
-      record {
-        same_directories = second.same_directories ∙ first.same_directories;
-        same_canonical_paths = second.same_canonical_paths ∙ first.same_canonical_paths;
-        same_files = second.same_files ∙ first.same_files;
-        same_faults = second.same_faults ∙ first.same_faults;
-        same_write_faults = second.same_write_faults ∙ first.same_write_faults;
-      }
-
-  pub moved-later : (a b : D) (root path new : List ℕ) → Keeps a b
-      → IsMoved (directories b) root path new → IsMoved (directories a) root path new
-  moved-later a b root path new keeps moves = rw keeps.same_directories at moves
+-- a path moves by what was told before
+pub moved-later : (old now : FileSystem) (root path new : List ℕ) → now ≡ old → IsMoved now.directories root path new
+    → IsMoved old.directories root path new
+moved-later old now root path new same moves = subst (λ (told : FileSystem). IsMoved told.directories root path new) same moves

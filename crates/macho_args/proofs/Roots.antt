@@ -22,7 +22,7 @@ use Rattle.macho_args.specs.declared.fault.ArgsFault.TheVariants.{Unknown, Unsup
 use Rattle.macho_args.specs.steps.Effects.{HasCause, uuid_of, count_of}
 use Rattle.macho_args.specs.Effects.{◌>>=◌, at_root, joined, with_flag, with_value, with_platform}
 use Rattle.std.specs.FinMap.{get}
-use Rattle.macho_args.specs.Store.{CanonicalPaths, Directories, IsToldCanonical}
+use Rattle.macho_args.specs.Store.{CanonicalPaths, Directories, FileSystem, IsToldCanonical}
 use Rattle.macho_args.specs.SearchPaths.{IsMoved, IsParsed, IsRefused}
 use Rattle.macho_args.specs.steps.KeptRoot.{FollowsRoot, IsRootFor, keep_root, kept_of, settled, SettlesRoot}
 use Rattle.macho_args.specs.Options.{option_named, joined_option}
@@ -221,8 +221,11 @@ stay known (path ∷ paths) =
     let answer = some_answer known (joined (codes "/") (drop 1 path)) in
     (record { is_directory = answer.0; told = answer.1; is = below_slash path answer.0 }, stay known paths)
 
-module _ (known : Option CanonicalPaths) (words : List (List ℕ)) (kept said : Settings)
+module _ (files : FileSystem) (words : List (List ℕ)) (kept said : Settings)
     (read : kept_of words ≡ Ok kept) where
+  abbrev known : Option CanonicalPaths
+  known = files.canonical_paths
+
   said_as : (canonical : List ℕ → Option (List ℕ)) → finish canonical kept ≡ said → args_of canonical words ≡ Ok said
   said_as canonical is = all-finish canonical words ∙ (rw read refl ∙ ap Ok is)
 
@@ -248,9 +251,9 @@ module _ (known : Option CanonicalPaths) (words : List (List ℕ)) (kept said : 
       let is_settled = finish-some chosen.canonical path some ∙ (ap (λ root. settled root kept) (sym chosen.here) ∙ sym settles.is) in
       record { canonical = chosen.canonical; each = chosen.each; is = said_as chosen.canonical is_settled }
 
-  parsed_below : (directories : Option Directories) (args : Settings) (root : Option (List ℕ)) → said.sysroot ≡ root
-      → Said known words said → FollowsRoot directories root said args → IsParsed directories known words args
-  parsed_below directories args None none one follows = record {
+  parsed_below : (args : Settings) (root : Option (List ℕ)) → said.sysroot ≡ root
+      → Said known words said → FollowsRoot files.directories root said args → IsParsed files words args
+  parsed_below args None none one follows = record {
     canonical = one.canonical;
     told = one.each;
     said = said;
@@ -258,10 +261,10 @@ module _ (known : Option CanonicalPaths) (words : List (List ℕ)) (kept said : 
     root = codes "/";
     is_root = rw none refl;
     frameworks = said.framework_search_path;
-    each = stay directories said.framework_search_path;
+    each = stay files.directories said.framework_search_path;
     is = follows;
   }
-  parsed_below directories args (Some root) some one follows = record {
+  parsed_below args (Some root) some one follows = record {
     canonical = one.canonical;
     told = one.each;
     said = said;
@@ -274,7 +277,7 @@ module _ (known : Option CanonicalPaths) (words : List (List ℕ)) (kept said : 
   }
 
   -- What was kept and then settled is what the words say, and the rule on framework paths follows.
-  pub words-parsed : (directories : Option Directories) (args : Settings) → SettlesRoot known kept.sysroot kept said
-      → FollowsRoot directories said.sysroot said args → IsParsed directories known words args
-  words-parsed directories args settles follows =
-      parsed_below directories args said.sysroot refl (said_by_settling kept.sysroot refl settles) follows
+  pub words-parsed : (args : Settings) → SettlesRoot known kept.sysroot kept said → FollowsRoot files.directories said.sysroot said args
+      → IsParsed files words args
+  words-parsed args settles follows =
+      parsed_below args said.sysroot refl (said_by_settling kept.sysroot refl settles) follows

@@ -4,7 +4,7 @@ use Rattle.std.specs.List.{AllZip, starts_with}
 use Rattle.macho_args.specs.declared.fault.ArgsFault.{ArgsFault}
 use Rattle.macho_args.specs.Effects.{joined}
 use Rattle.macho_args.specs.Settings.{Settings}
-use Rattle.macho_args.specs.Store.{CanonicalPaths, Directories, IsToldCanonical, IsToldDirectory}
+use Rattle.macho_args.specs.Store.{Directories, FileSystem, IsToldCanonical, IsToldDirectory}
 use Rattle.macho_args.specs.Words.{args_of}
 
 -- the two standard framework paths below a root
@@ -21,16 +21,15 @@ pub record IsMoved (known : Option Directories) (root path new : List ℕ) : Typ
 
 -- The fields are the meaning of the words: what the words say, by the canonical paths that are told; and then framework paths go below
 -- the root, `/` where none is given, by the directories that are told, and its standard ones come last.
-pub record IsParsed (directories : Option Directories) (canonical_paths : Option CanonicalPaths)
-    (words : List (List ℕ)) (args : Settings) : Type 0 where
+pub record IsParsed (files : FileSystem) (words : List (List ℕ)) (args : Settings) : Type 0 where
   pub canonical : List ℕ → Option (List ℕ)
-  pub told : (path : List ℕ) → IsToldCanonical canonical_paths path (canonical path)
+  pub told : (path : List ℕ) → IsToldCanonical files.canonical_paths path (canonical path)
   pub said : Settings
   pub read : args_of canonical words ≡ Ok said
   pub root : List ℕ
   pub is_root : root ≡ unwrap_or said.sysroot (codes "/")
   pub frameworks : List (List ℕ)
-  pub each : AllZip (IsMoved directories root) said.framework_search_path frameworks
+  pub each : AllZip (IsMoved files.directories root) said.framework_search_path frameworks
   pub is : args ≡ record said { framework_search_path = frameworks ++ standard_frameworks root }
 
 -- The words have no meaning: they have this fault, whatever the canonical paths are.

@@ -25,12 +25,11 @@ IsToldDirectory told path answer = IfSome told (λ known. answer ≡ contains kn
 abbrev pub IsToldCanonical : Option CanonicalPaths → List ℕ → Option (List ℕ) → Type 0
 IsToldCanonical told path answer = IfSome told (λ known. answer ≡ get known path)
 
--- No question changes what is known outside: the directories, the canonical paths, the files that are
--- held, and the numbers of failed reads and writes.
-pub record KeepsOutside {D : Type 0} (directories : D → Option Directories) (canonical_paths : D → Option CanonicalPaths)
-    (holds : D → Option Store) (faults write_faults : D → ℕ) (old new : D) : Type 0 where
-  pub same_directories : directories new ≡ directories old
-  pub same_canonical_paths : canonical_paths new ≡ canonical_paths old
-  pub same_files : holds new ≡ holds old
-  pub same_faults : faults new ≡ faults old
-  pub same_write_faults : write_faults new ≡ write_faults old
+-- What a file system tells: the directories, the canonical paths and the files, each as far as it is told, and how often its reads and
+-- its writes have failed.
+pub record FileSystem : Type 0 where
+  pub directories : Option Directories
+  pub canonical_paths : Option CanonicalPaths
+  pub files : Option Store
+  pub failed_reads : ℕ
+  pub failed_writes : ℕ

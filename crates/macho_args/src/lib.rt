@@ -18,5 +18,6 @@ mod words;
 
 pub use crate::fault::ArgsFault;
 pub use crate::fields::{InputSpec, MachOArgs, PlatformVersion};
+pub use crate::numbers::number_up_to;
 pub use crate::outside::Paths;
 pub use crate::version::{BadVersion, SemanticVersion};

@@ -6,7 +6,7 @@ ghost use Rattle.std.specs.List.{list_all};
 ghost use Rattle.macho_args.specs.Numbers.{number_up_to as number_of};
 
 /// The number that a text of decimal digits writes, if it is at most `most`. A sign is no digit.
-pub(crate) fn number_up_to(most: u32, text: &str) -> Option<u32>
+pub fn number_up_to(most: u32, text: &str) -> Option<u32>
     ensures found { result ≡ number_of most text.now }
     ensures small { IfSome result (λ number. number ≤ most) }
 {

@@ -14,7 +14,6 @@ ghost use Rattle.macho_args.specs.Effects.{with_value};
 ghost use Rattle.macho_args.specs.Options.{joined_option, option_named as option_of};
 ghost use Rattle.macho_args.specs.SearchPaths.{IsParsed, IsRefused};
 ghost use Rattle.macho_args.specs.Settings.{settings_of, fresh};
-ghost use Rattle.macho_args.specs.Store.{KeepsOutside};
 ghost use Rattle.macho_args.specs.Words.{read_from, read_option, read_plain, without_inputs};
 
 use crate::fault::ArgsFault;
@@ -34,14 +33,12 @@ impl MachOArgs {
         requires few { length words.now < 2 ^ 32 - 1 }
 
         // The fields are the meaning of the words.
-        ensures done { OnOk result (IsParsed (D.directories paths.old) (D.canonical_paths paths.old)
-            (map string_bytes words.now) (settings_of self.new)) }
+        ensures done { OnOk result (IsParsed (D.state paths.old) (map string_bytes words.now) (settings_of self.new)) }
 
         // A fault is that of the words, or memory ran out.
         ensures why { IfErr result (λ fault. (fault ≡ OutOfMemory) ⊎ IsRefused (map string_bytes words.now) fault) }
         ensures kept { OnErr result (settings_of self.new ≡ settings_of self.old) }
-        ensures outside { KeepsOutside D.directories D.canonical_paths D.holds D.faults D.write_faults
-            paths.old paths.new }
+        ensures outside { D.state paths.new ≡ D.state paths.old }
     {
         let alloc = *self.inputs.allocator();
         let mut args = MachOArgs::new(alloc)?;
@@ -59,11 +56,9 @@ impl MachOArgs {
     ) -> Result<(), ArgsFault>
         requires fresh { settings_of self.old ≡ fresh }
         requires few { length words.now < 2 ^ 32 - 1 }
-        ensures done { OnOk result (IsParsed (D.directories paths.old) (D.canonical_paths paths.old)
-            (map string_bytes words.now) (settings_of self.new)) }
+        ensures done { OnOk result (IsParsed (D.state paths.old) (map string_bytes words.now) (settings_of self.new)) }
         ensures why { IfErr result (λ fault. (fault ≡ OutOfMemory) ⊎ IsRefused (map string_bytes words.now) fault) }
-        ensures outside { KeepsOutside D.directories D.canonical_paths D.holds D.faults D.write_faults
-            paths.old paths.new }
+        ensures outside { D.state paths.new ≡ D.state paths.old }
     {
         self.read_words(alloc, words)?;
         self.refuse_inputs()?;

@@ -6,7 +6,6 @@ ghost use Rattle.std.specs.String.{string_bytes};
 ghost use Rattle.macho_args.specs.Effects.{joined as joined_path};
 ghost use Rattle.macho_args.specs.steps.KeptRoot.{FollowsRoot, IsBelow, IsRootFor, SettlesRoot, settled};
 ghost use Rattle.macho_args.specs.SearchPaths.{IsMoved, standard_frameworks};
-ghost use Rattle.macho_args.specs.Store.{KeepsOutside};
 
 use crate::fields::MachOArgs;
 use crate::outside::Paths;
@@ -34,10 +33,9 @@ impl MachOArgs {
         alloc: Global,
         paths: &mut D,
     ) -> Result<(), AllocError>
-        ensures done { OnOk result (SettlesRoot (D.canonical_paths paths.old) (settings_of self.old).sysroot
+        ensures done { OnOk result (SettlesRoot (D.state paths.old).canonical_paths (settings_of self.old).sysroot
             (settings_of self.old) (settings_of self.new)) }
-        ensures outside { KeepsOutside D.directories D.canonical_paths D.holds D.faults D.write_faults
-            paths.old paths.new }
+        ensures outside { D.state paths.new ≡ D.state paths.old }
     {
         let Some(path) = self.sysroot.take() else {
             return Ok(());
@@ -62,10 +60,9 @@ impl MachOArgs {
         alloc: Global,
         paths: &mut D,
     ) -> Result<(), AllocError>
-        ensures done { OnOk result (FollowsRoot (D.directories paths.old) (settings_of self.old).sysroot
+        ensures done { OnOk result (FollowsRoot (D.state paths.old).directories (settings_of self.old).sysroot
             (settings_of self.old) (settings_of self.new)) }
-        ensures outside { KeepsOutside D.directories D.canonical_paths D.holds D.faults D.write_faults
-            paths.old paths.new }
+        ensures outside { D.state paths.new ≡ D.state paths.old }
     {
         match self.sysroot.take() {
             Some(root) => self.move_below(alloc, root, paths),
@@ -80,10 +77,9 @@ impl MachOArgs {
         root: String,
         paths: &mut D,
     ) -> Result<(), AllocError>
-        ensures done { OnOk result (IsBelow (D.directories paths.old) (string_bytes root)
+        ensures done { OnOk result (IsBelow (D.state paths.old).directories (string_bytes root)
             (record (settings_of self.old) { sysroot = Some (string_bytes root) }) (settings_of self.new)) }
-        ensures outside { KeepsOutside D.directories D.canonical_paths D.holds D.faults D.write_faults
-            paths.old paths.new }
+        ensures outside { D.state paths.new ≡ D.state paths.old }
     {
         let old = &self.framework_search_path;
         let frameworks = moved_paths(alloc, root.as_str(), old, paths)?;
@@ -109,9 +105,8 @@ impl MachOArgs {
 
 // The root for a path that was given: its canonical path, else the path itself.
 fn root_for<D: Paths>(alloc: Global, path: &str, paths: &mut D) -> Result<String, AllocError>
-    ensures root { IfOk result (λ root. IsRootFor (D.canonical_paths paths.old) path.now (string_bytes root)) }
-    ensures outside { KeepsOutside D.directories D.canonical_paths D.holds D.faults D.write_faults
-        paths.old paths.new }
+    ensures root { IfOk result (λ root. IsRootFor (D.state paths.old).canonical_paths path.now (string_bytes root)) }
+    ensures outside { D.state paths.new ≡ D.state paths.old }
 {
     match paths.canonical(alloc, path)? {
         Some(canonical) => Ok(canonical),
@@ -127,9 +122,8 @@ fn moved_paths<D: Paths>(
     paths: &mut D,
 ) -> Result<Vec<String>, AllocError>
     ensures each { IfOk result (λ new.
-        AllZip (IsMoved (D.directories paths.old) root.now) (map string_bytes old.now) (map string_bytes new.items)) }
-    ensures outside { KeepsOutside D.directories D.canonical_paths D.holds D.faults D.write_faults
-        paths.old paths.new }
+        AllZip (IsMoved (D.state paths.old).directories root.now) (map string_bytes old.now) (map string_bytes new.items)) }
+    ensures outside { D.state paths.new ≡ D.state paths.old }
 {
     let mut new = Vec::new(alloc);
     for path in old {
@@ -145,9 +139,8 @@ fn moved_path<D: Paths>(
     path: &str,
     paths: &mut D,
 ) -> Result<String, AllocError>
-    ensures moved { IfOk result (λ new. IsMoved (D.directories paths.old) root.now path.now (string_bytes new)) }
-    ensures outside { KeepsOutside D.directories D.canonical_paths D.holds D.faults D.write_faults
-        paths.old paths.new }
+    ensures moved { IfOk result (λ new. IsMoved (D.state paths.old).directories root.now path.now (string_bytes new)) }
+    ensures outside { D.state paths.new ≡ D.state paths.old }
 {
     let Some(rest) = after_prefix(path, SEPARATOR) else {
         return String::from_str(alloc, path);

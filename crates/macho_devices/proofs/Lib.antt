@@ -1,3 +1,4 @@
 pub mod Lookups
 pub mod Streams
 pub mod Beside
+pub mod Counts

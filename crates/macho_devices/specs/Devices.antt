@@ -4,9 +4,10 @@ use Rattle.std.specs.Prelude.{◌≡◌, ℕ, List, ◌++◌, take, Option, None
 use Rattle.std.specs.Option.{option_map}
 use Rattle.std.specs.declared.vec.Vec.{Vec}
 use Rattle.std.specs.FinMap.{get, insert}
-use Rattle.macho_args.specs.Store.{Store, Directories, CanonicalPaths}
+use Rattle.macho_args.specs.Store.{FileSystem, Store}
 use Rattle.macho_devices.specs.declared.file_system.FileFault.{FileFault}
 use Rattle.macho_devices.specs.declared.file_system.FileFault.TheVariants.{Failed, OutOfMemory}
+use Rattle.macho_devices.specs.Faults.{CountsOn}
 
 -- what a read answered, without where it lies in memory
 abbrev pub content_of : {Z : Type 0} → Option (Vec ℕ Z) → Option (List ℕ)
@@ -32,26 +33,46 @@ abbrev pub LeavesFiles : FileFault → Option Store → Option Store → List �
 LeavesFiles Failed old new path bytes = TornWrite old new path bytes
 LeavesFiles OutOfMemory old new path bytes = new ≡ old
 
--- A read changes no file, no directory, no canonical path, and not the count of failed writes.
-pub record OnlyReads {D : Type 0} (directories : D → Option Directories) (canonical_paths : D → Option CanonicalPaths)
-    (holds : D → Option Store) (write_faults : D → ℕ) (old new : D) : Type 0 where
-  pub same_directories : directories new ≡ directories old
-  pub same_canonical_paths : canonical_paths new ≡ canonical_paths old
-  pub same_files : holds new ≡ holds old
-  pub same_write_faults : write_faults new ≡ write_faults old
+-- A read lets the count of failed reads go on. All else that a file system tells is the same.
+pub record OnlyReads (old new : FileSystem) : Type 0 where
+  pub counted : CountsOn old.failed_reads new.failed_reads
+  pub same_directories : new.directories ≡ old.directories
+  pub same_canonical_paths : new.canonical_paths ≡ old.canonical_paths
+  pub same_files : new.files ≡ old.files
+  pub same_failed_writes : new.failed_writes ≡ old.failed_writes
 
--- A write changes no directory, no canonical path, and not the count of failed reads.
-pub record OnlyWrites {D : Type 0} (directories : D → Option Directories) (canonical_paths : D → Option CanonicalPaths)
-    (faults : D → ℕ) (old new : D) : Type 0 where
-  pub same_directories : directories new ≡ directories old
-  pub same_canonical_paths : canonical_paths new ≡ canonical_paths old
-  pub same_faults : faults new ≡ faults old
+-- A write lets the count of failed writes go on, and changes files. All else that a file system tells is the same.
+pub record OnlyWrites (old new : FileSystem) : Type 0 where
+  pub counted : CountsOn old.failed_writes new.failed_writes
+  pub same_directories : new.directories ≡ old.directories
+  pub same_canonical_paths : new.canonical_paths ≡ old.canonical_paths
+  pub same_failed_reads : new.failed_reads ≡ old.failed_reads
+
+-- What a sink tells: all that was printed to it, as far as it is told, and how often its writes have failed.
+pub record Printed : Type 0 where
+  pub taken : Option (List ℕ)
+  pub failed : ℕ
+
+-- a file system that tells no more than its counts
+abbrev pub only_counts : (failed_reads failed_writes : ℕ) → FileSystem
+only_counts failed_reads failed_writes =
+    record {
+      directories = None;
+      canonical_paths = None;
+      files = None;
+      failed_reads = failed_reads;
+      failed_writes = failed_writes;
+    }
+
+-- a sink that tells no more than its count
+abbrev pub only_count : ℕ → Printed
+only_count failed = record { taken = None; failed = failed }
 
 -- A sink takes the bytes behind all that it took.
-abbrev pub TakesBytes : Option (List ℕ) → Option (List ℕ) → List ℕ → Type 0
-TakesBytes old new bytes = new ≡ option_map (λ taken. taken ++ bytes) old
+abbrev pub TakesBytes : Printed → Printed → List ℕ → Type 0
+TakesBytes old new bytes = new.taken ≡ option_map (λ taken. taken ++ bytes) old.taken
 
 -- A sink that failed took the first `left` of the bytes.
-pub record TakesPrefix (old new : Option (List ℕ)) (bytes : List ℕ) : Type 0 where
+pub record TakesPrefix (old new : Printed) (bytes : List ℕ) : Type 0 where
   pub left : ℕ
   pub taken : TakesBytes old new (take left bytes)

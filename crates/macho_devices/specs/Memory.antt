@@ -1,10 +1,10 @@
 -- The devices in memory as plain maps, sets and numbers. Clauses compare these.
-use Rattle.std.specs.Prelude.{◌≡◌, ℕ, true, false, List, map, take, Option, None, Some, IsSomeAnd, Result, Ok, Err}
+use Rattle.std.specs.Prelude.{◌≡◌, ℕ, true, false, List, map, take, None, Some, IsSomeAnd, Result, Ok, Err}
 use Rattle.std.specs.String.{string_bytes}
 use Rattle.std.specs.Ordering.{nat_cmp}
 use Rattle.std.specs.FinMap as maps
 use Rattle.std.specs.FinSet as sets
-use Rattle.macho_args.specs.Store.{Store, Directories, CanonicalPaths}
+use Rattle.macho_args.specs.Store.{FileSystem, Store, Directories, CanonicalPaths}
 use Rattle.macho_devices.specs.declared.held_files.HeldFile.{HeldFile}
 use Rattle.macho_devices.specs.declared.held_files.CanonicalPath.{CanonicalPath}
 use Rattle.macho_devices.specs.declared.held_files.HeldFiles.{HeldFiles}
@@ -99,9 +99,20 @@ memory_of files =
       write_faults = files.write_faults;
     }
 
--- the files that it tells
-abbrev pub files_in : MemoryFiles → Option Store
-files_in files = Some (memory_of files).held.files
+-- A file system tells all that it holds, and how often its reads and its writes have failed.
+abbrev pub all_told : Held → (failed_reads failed_writes : ℕ) → FileSystem
+all_told held failed_reads failed_writes =
+    record {
+      directories = Some held.directories;
+      canonical_paths = Some held.canonical_paths;
+      files = Some held.files;
+      failed_reads = failed_reads;
+      failed_writes = failed_writes;
+    }
+
+-- what a file system in memory tells
+abbrev pub told_by : MemoryFiles → FileSystem
+told_by files = let memory = memory_of files in all_told memory.held memory.faults memory.write_faults
 
 -- What is held is changed so, and nothing else.
 abbrev pub ChangesHeld : (Held → Held) → FilesInMemory → FilesInMemory → Type 0

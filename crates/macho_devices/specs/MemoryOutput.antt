@@ -1,7 +1,8 @@
 -- The sink in memory as plain lists, sets and numbers. Clauses compare these.
-use Rattle.std.specs.Prelude.{◌≡◌, ℕ, ◌+◌, ◌<◌, ◌≤◌, ◌⊎◌, true, false, List, [], ◌++◌, length, Result, Ok, Err}
+use Rattle.std.specs.Prelude.{◌≡◌, ℕ, ◌+◌, ◌<◌, ◌≤◌, ◌⊎◌, true, false, List, [], ◌++◌, length, Some, Result, Ok, Err}
 use Rattle.std.specs.FinSet as sets
 use Rattle.macho_devices.specs.declared.memory_sink.MemorySink.{MemorySink}
+use Rattle.macho_devices.specs.Devices.{Printed}
 use Rattle.macho_devices.specs.Faults.{one_more}
 use Rattle.macho_devices.specs.Memory.{Numbers}
 
@@ -27,6 +28,10 @@ output_of sink =
       writes = sink.writes;
       faults = sink.faults;
     }
+
+-- what a sink in memory tells
+abbrev pub printed_by : MemorySink → Printed
+printed_by sink = record { taken = Some (output_of sink).taken; failed = (output_of sink).faults }
 
 -- One write more is to fail, and nothing else is changed.
 abbrev pub FailsPiece : ℕ → Output → Output → Type 0

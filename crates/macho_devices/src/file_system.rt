@@ -2,7 +2,7 @@
 
 ghost use Rattle.std.specs.Prelude.{◌≡◌, IfOk, IfErr, OnOk};
 ghost use Rattle.macho_devices.specs.declared.file_system.FileFault.TheVariants.{OutOfMemory};
-ghost use Rattle.macho_devices.specs.Faults.{CountsOn, HasCause};
+ghost use Rattle.macho_devices.specs.Faults.{HasCause};
 ghost use Rattle.macho_devices.specs.Devices.{content_of, ReadsFile, WritesFile, LeavesFiles, OnlyReads, OnlyWrites};
 
 use macho_args::Paths;
@@ -34,16 +34,15 @@ impl From<AllocError> for FileFault {
 pub trait Files: Paths {
     /// The bytes of the file under the path, or `None` where there is no such file.
     fn read(&mut self, alloc: Global, path: &str) -> Result<Option<Vec<u8>>, FileFault>
-        ensures found { IfOk result (λ answer. ReadsFile (Self.holds self.old) path.now (content_of answer)) }
-        ensures why { IfErr result (λ fault. HasCause fault (Self.faults self.old) (Self.faults self.new)) }
-        ensures counted { CountsOn (Self.faults self.old) (Self.faults self.new) }
-        ensures kept { OnlyReads Self.directories Self.canonical_paths Self.holds Self.write_faults self.old self.new };
+        ensures found { IfOk result (λ answer. ReadsFile (Self.state self.old).files path.now (content_of answer)) }
+        ensures why { IfErr result (λ fault. HasCause fault (Self.state self.old).failed_reads (Self.state self.new).failed_reads) }
+        ensures kept { OnlyReads (Self.state self.old) (Self.state self.new) };
 
     /// Makes the path hold the bytes. A write that failed may leave the first of them.
     fn write(&mut self, path: &str, bytes: &[u8]) -> Result<(), FileFault>
-        ensures done { OnOk result (WritesFile (Self.holds self.old) (Self.holds self.new) path.now bytes.now) }
-        ensures left { IfErr result (λ fault. LeavesFiles fault (Self.holds self.old) (Self.holds self.new) path.now bytes.now) }
-        ensures why { IfErr result (λ fault. HasCause fault (Self.write_faults self.old) (Self.write_faults self.new)) }
-        ensures counted { CountsOn (Self.write_faults self.old) (Self.write_faults self.new) }
-        ensures kept { OnlyWrites Self.directories Self.canonical_paths Self.faults self.old self.new };
+        ensures done { OnOk result (WritesFile (Self.state self.old).files (Self.state self.new).files path.now bytes.now) }
+        ensures left { IfErr result (λ fault.
+            LeavesFiles fault (Self.state self.old).files (Self.state self.new).files path.now bytes.now) }
+        ensures why { IfErr result (λ fault. HasCause fault (Self.state self.old).failed_writes (Self.state self.new).failed_writes) }
+        ensures kept { OnlyWrites (Self.state self.old) (Self.state self.new) };
 }

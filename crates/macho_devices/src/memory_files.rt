@@ -6,9 +6,9 @@ ghost use Rattle.std.specs.Option.{option_map, option_copied};
 ghost use Rattle.std.specs.FinMap as maps;
 ghost use Rattle.std.specs.FinSet as sets;
 ghost use Rattle.macho_devices.specs.declared.file_system.FileFault.TheVariants.{OutOfMemory};
-ghost use Rattle.macho_devices.specs.Faults.{CountsOn, HasCause};
-ghost use Rattle.macho_devices.specs.Devices.{content_of, LeavesFiles};
-ghost use Rattle.macho_devices.specs.Memory.{memory_of, steady_of, fresh_files, nothing_held, failing_entry, with_dir, with_canonical, with_file, files_in, ChangesHeld, FailsRead, FailsWrite, ReadsAsTold, WritesAsTold};
+ghost use Rattle.macho_devices.specs.Faults.{HasCause};
+ghost use Rattle.macho_devices.specs.Devices.{content_of, LeavesFiles, OnlyReads, OnlyWrites};
+ghost use Rattle.macho_devices.specs.Memory.{memory_of, steady_of, fresh_files, nothing_held, failing_entry, with_dir, with_canonical, with_file, all_told, told_by, ChangesHeld, FailsRead, FailsWrite, ReadsAsTold, WritesAsTold};
 
 use crate::file_system::{FileFault, Files};
 use crate::held_files::HeldFiles;
@@ -128,15 +128,7 @@ impl MemoryFiles {
 }
 
 impl Paths for MemoryFiles {
-    ghost directories = { λ files. Some (memory_of files).held.directories };
-
-    ghost canonical_paths = { λ files. Some (memory_of files).held.canonical_paths };
-
-    ghost holds = { files_in };
-
-    ghost faults = { λ files. (memory_of files).faults };
-
-    ghost write_faults = { λ files. (memory_of files).write_faults };
+    ghost state = { told_by };
 
     fn is_dir(&mut self, path: &str) -> bool {
         self.held.is_dir(path)
@@ -151,7 +143,7 @@ impl Files for MemoryFiles {
     fn read(&mut self, alloc: Global, path: &str) -> Result<Option<Vec<u8>>, FileFault>
         ensures found { IfOk result (λ answer. content_of answer ≡ maps.get (memory_of self.old).held.files path.now) }
         ensures why { IfErr result (λ fault. HasCause fault (memory_of self.old).faults (memory_of self.new).faults) }
-        ensures counted { CountsOn (memory_of self.old).faults (memory_of self.new).faults }
+        ensures kept { OnlyReads (told_by self.old) (told_by self.new) }
         ensures exact { ReadsAsTold (memory_of self.old) (memory_of self.new) result }
     {
         if is_among(&self.failing_reads, self.reads) {
@@ -169,9 +161,9 @@ impl Files for MemoryFiles {
     }
 
     fn write(&mut self, path: &str, bytes: &[u8]) -> Result<(), FileFault>
-        ensures left { IfErr result (λ fault. LeavesFiles fault (files_in self.old) (files_in self.new) path.now bytes.now) }
+        ensures left { IfErr result (λ fault. LeavesFiles fault (told_by self.old).files (told_by self.new).files path.now bytes.now) }
         ensures why { IfErr result (λ fault. HasCause fault (memory_of self.old).write_faults (memory_of self.new).write_faults) }
-        ensures counted { CountsOn (memory_of self.old).write_faults (memory_of self.new).write_faults }
+        ensures kept { OnlyWrites (told_by self.old) (told_by self.new) }
         ensures exact { WritesAsTold (memory_of self.old) (memory_of self.new) path.now bytes.now result }
     {
         match left_by(&self.failing_writes, self.writes) {
@@ -236,15 +228,7 @@ impl SteadyFiles {
 }
 
 impl Paths for SteadyFiles {
-    ghost directories = { λ files. Some (steady_of files).directories };
-
-    ghost canonical_paths = { λ files. Some (steady_of files).canonical_paths };
-
-    ghost holds = { λ files. Some (steady_of files).files };
-
-    ghost faults = { λ _. 0 };
-
-    ghost write_faults = { λ _. 0 };
+    ghost state = { λ files. all_told (steady_of files) 0 0 };
 
     fn is_dir(&mut self, path: &str) -> bool {
         self.held.is_dir(path)

@@ -60,14 +60,12 @@ impl MemorySink {
 impl Sink for MemorySink {
     ghost use Rattle.macho_devices.specs.Faults.{CountsOn, CountRose};
     ghost use Rattle.macho_devices.specs.Devices.{TakesPrefix};
-    ghost use Rattle.macho_devices.specs.MemoryOutput.{output_of, PrintsAsTold};
+    ghost use Rattle.macho_devices.specs.MemoryOutput.{output_of, printed_by, PrintsAsTold};
 
-    ghost taken = { λ sink. Some (output_of sink).taken };
-
-    ghost faults = { λ sink. (output_of sink).faults };
+    ghost state = { printed_by };
 
     fn write(&mut self, bytes: &[u8]) -> Result<(), SinkFault>
-        ensures left { OnErr result (TakesPrefix (Some (output_of self.old).taken) (Some (output_of self.new).taken) bytes.now) }
+        ensures left { OnErr result (TakesPrefix (printed_by self.old) (printed_by self.new) bytes.now) }
         ensures why { OnErr result (CountRose (output_of self.old).faults (output_of self.new).faults) }
         ensures counted { CountsOn (output_of self.old).faults (output_of self.new).faults }
         ensures exact { PrintsAsTold (output_of self.old) (output_of self.new) bytes.now result }
@@ -97,9 +95,9 @@ impl SteadySink {
 }
 
 impl Sink for SteadySink {
-    ghost taken = { λ _. None };
+    ghost use Rattle.macho_devices.specs.Devices.{only_count};
 
-    ghost faults = { λ _. 0 };
+    ghost state = { λ _. only_count 0 };
 
     fn write(&mut self, _bytes: &[u8]) -> Result<(), SinkFault>
         ensures { IsOk result }

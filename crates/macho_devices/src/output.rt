@@ -1,8 +1,8 @@
 //! A place that text is printed to.
 
-ghost use Rattle.std.specs.Prelude.{ℕ, List, Option, OnOk, OnErr};
+ghost use Rattle.std.specs.Prelude.{OnOk, OnErr};
 ghost use Rattle.macho_devices.specs.Faults.{CountsOn, CountRose};
-ghost use Rattle.macho_devices.specs.Devices.{TakesBytes, TakesPrefix};
+ghost use Rattle.macho_devices.specs.Devices.{Printed, TakesBytes, TakesPrefix};
 
 use thiserror::Error;
 
@@ -15,15 +15,15 @@ pub enum SinkFault {
 }
 
 /// A place that takes bytes one piece after another, as standard output does.
+///
+/// Its state, for proofs, is what was printed to it, as far as it tells that, and how many of its writes have failed.
 pub trait Sink {
-    ghost taken: { Self → Option (List ℕ) };
-
-    ghost faults: { Self → ℕ };
+    ghost state: { Self → Printed };
 
     /// Takes the bytes behind all that it took before.
     fn write(&mut self, bytes: &[u8]) -> Result<(), SinkFault>
-        ensures done { OnOk result (TakesBytes (taken self.old) (taken self.new) bytes.now) }
-        ensures left { OnErr result (TakesPrefix (taken self.old) (taken self.new) bytes.now) }
-        ensures why { OnErr result (CountRose (faults self.old) (faults self.new)) }
-        ensures counted { CountsOn (faults self.old) (faults self.new) };
+        ensures done { OnOk result (TakesBytes (state self.old) (state self.new) bytes.now) }
+        ensures left { OnErr result (TakesPrefix (state self.old) (state self.new) bytes.now) }
+        ensures why { OnErr result (CountRose (state self.old).failed (state self.new).failed) }
+        ensures counted { CountsOn (state self.old).failed (state self.new).failed };
 }

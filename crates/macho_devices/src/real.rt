@@ -1,11 +1,11 @@
 //! The system's own files and streams. They are trusted: what the system holds is told by no clause.
 
-ghost use Rattle.std.specs.Prelude.{None};
+ghost use Rattle.macho_devices.specs.Devices.{only_count, only_counts};
 
 use crate::file_system::{FileFault, Files};
 use crate::output::{Sink, SinkFault};
 use crate::read::read_file;
-use crate::write::{write_all, write_file};
+use crate::write::{PROGRAM_MODE, TEXT_MODE, write_all, write_file};
 use macho_args::Paths;
 use std::alloc::{AllocError, Global};
 use std::io::{ErrorKind, Write};
@@ -16,17 +16,19 @@ use std::{fs, rt};
 /// A read answers `None` exactly where the system says that there is no such file. Every other error is a failed
 /// read, a path below a plain file too, and so is a file of 4 GiB or more. A call that a signal interrupts is made again.
 ///
-/// Where the path of a write is a plain file or nothing, the bytes are written to a new file in the same folder, which takes
-/// the path's place when it is whole; after a failure that file is removed, and the path has what it had. So a write that is cut
-/// off leaves no half file under the path, and the file may be run as a program whatever the old one was. Anything else, as a
-/// device, a pipe or a link to another path, is written in place. A write fails at an error, and where the system takes no byte.
-/// Each failure raises its count by one.
+/// Where the path of a write is a plain file or nothing, or a symbolic link to one or to nothing, the bytes are written to a new
+/// file in the same folder, which takes the path's place when it is whole; after a failure that file is removed, and the path has
+/// what it had. So a write that is cut off leaves no half file under the path, and the file may be run as a program whatever the
+/// old one was: no bytes of a file that may be running change. What a link led to stays as it was. Anything else, as a device or a
+/// pipe, and each path below `/dev`, is written in place. A write fails at an error, and where the system takes no byte. Each failure
+/// raises its count by one.
 #[derive(Drop)]
 pub struct RealFiles<'a, R> {
     rt: &'a R,
     alloc: Global,
     faults: u64,
     write_faults: u64,
+    mode: u32,
 }
 
 /// A stream of the system, as standard output. It tells nothing of what it took.
@@ -39,27 +41,31 @@ pub struct RealSink<W> {
 }
 
 impl<'a, R> RealFiles<'a, R> {
-    /// The files that the runtime reaches. The allocator serves the names of new files.
+    /// The files that the runtime reaches, where what is written is a program. The allocator serves the names of new files.
     pub fn new(rt: &'a R, alloc: Global) -> RealFiles<'a, R> {
         RealFiles {
             rt,
             alloc,
             faults: 0,
             write_faults: 0,
+            mode: PROGRAM_MODE,
+        }
+    }
+
+    /// The same files, where what is written is a text, which no one executes.
+    pub fn of_texts(rt: &'a R, alloc: Global) -> RealFiles<'a, R> {
+        RealFiles {
+            rt,
+            alloc,
+            faults: 0,
+            write_faults: 0,
+            mode: TEXT_MODE,
         }
     }
 }
 
 impl<'a, R: rt::Files> Paths for RealFiles<'a, R> {
-    ghost directories = { λ _. None };
-
-    ghost canonical_paths = { λ _. None };
-
-    ghost holds = { λ _. None };
-
-    ghost faults = { λ files. files.faults };
-
-    ghost write_faults = { λ files. files.write_faults };
+    ghost state = { λ files. only_counts files.faults files.write_faults };
 
     fn is_dir(&mut self, path: &str) -> bool {
         match fs::metadata(self.rt, path) {
@@ -89,7 +95,7 @@ impl<'a, R: rt::Files> Files for RealFiles<'a, R> {
     }
 
     fn write(&mut self, path: &str, bytes: &[u8]) -> Result<(), FileFault> {
-        if write_file(self.rt, self.alloc, path, bytes)? {
+        if write_file(self.rt, self.alloc, path, bytes, self.mode)? {
             return Ok(());
         }
         self.write_faults = self.write_faults.saturating_add(1);
@@ -105,9 +111,7 @@ impl<W> RealSink<W> {
 }
 
 impl<W: Write> Sink for RealSink<W> {
-    ghost taken = { λ _. None };
-
-    ghost faults = { λ sink. sink.faults };
+    ghost state = { λ sink. only_count sink.faults };
 
     fn write(&mut self, bytes: &[u8]) -> Result<(), SinkFault> {
         if write_all(&mut self.stream, bytes) {

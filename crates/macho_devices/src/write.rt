@@ -15,8 +15,14 @@ use std::{fs, rt};
 /// How many names are tried for the file beside an output.
 const NAMES: u32 = 1000;
 
-/// The permissions of a new file, before the process takes its own away: what is written is a program.
-const NEW_FILE_MODE: u32 = 0o777;
+/// The permissions of a new program, before the process takes its own away.
+pub(crate) const PROGRAM_MODE: u32 = 0o777;
+
+/// Those of a new text.
+pub(crate) const TEXT_MODE: u32 = 0o666;
+
+/// A path below this folder is a device, or leads to a stream that is open already.
+const DEVICES: &str = "/dev/";
 
 // One write. If a signal interrupts it, it is made again.
 fn write_once<W: Write>(stream: &mut W, bytes: &[u8]) -> io::Result<usize>
@@ -50,13 +56,9 @@ pub(crate) fn write_all<W: Write>(stream: &mut W, bytes: &[u8]) -> bool
 }
 
 // Writes in place, where the path is no plain file.
-fn write_in_place<R: rt::Files>(rt: &R, path: &str, bytes: &[u8]) -> bool {
+fn write_in_place<R: rt::Files>(rt: &R, path: &str, bytes: &[u8], mode: u32) -> bool {
     let mut options = OpenOptions::new();
-    options
-        .write(true)
-        .create(true)
-        .truncate(true)
-        .mode(NEW_FILE_MODE);
+    options.write(true).create(true).truncate(true).mode(mode);
     match options.open(rt, path) {
         Ok(mut file) => write_all(&mut file, bytes),
         Err(_error) => false,
@@ -64,9 +66,9 @@ fn write_in_place<R: rt::Files>(rt: &R, path: &str, bytes: &[u8]) -> bool {
 }
 
 // Writes a file under a name that isn't taken, and answers whether it is whole.
-fn write_new<R: rt::Files>(rt: &R, name: &str, bytes: &[u8]) -> io::Result<bool> {
+fn write_new<R: rt::Files>(rt: &R, name: &str, bytes: &[u8], mode: u32) -> io::Result<bool> {
     let mut options = OpenOptions::new();
-    options.write(true).create_new(true).mode(NEW_FILE_MODE);
+    options.write(true).create_new(true).mode(mode);
     match options.open(rt, name) {
         Ok(mut file) => Ok(write_all(&mut file, bytes)),
         Err(error) => Err(error),
@@ -98,10 +100,11 @@ fn write_beside<R: rt::Files>(
     alloc: Global,
     path: &str,
     bytes: &[u8],
+    mode: u32,
 ) -> Result<bool, AllocError> {
     for number in 0..NAMES {
         let name = name_beside(alloc, path, number)?;
-        match write_new(rt, name.as_str(), bytes) {
+        match write_new(rt, name.as_str(), bytes, mode) {
             Ok(whole) => return Ok(put_in_place(rt, name.as_str(), path, whole)),
             Err(error) if error.kind() == ErrorKind::AlreadyExists => {}
             Err(_error) => return Ok(false),
@@ -110,24 +113,29 @@ fn write_beside<R: rt::Files>(
     Ok(false)
 }
 
-// Whether the path is a plain file or nothing.
+// Whether the path is a plain file or nothing, or a symbolic link to one or to nothing. `/dev/stdout` is none of them, even if it leads
+// to a file.
 fn is_plain<R: rt::Files>(rt: &R, path: &str) -> bool {
-    match fs::symlink_metadata(rt, path) {
+    if path.starts_with(DEVICES) {
+        return false;
+    }
+    match fs::metadata(rt, path) {
         Ok(metadata) => metadata.is_file(),
         Err(error) => error.kind() == ErrorKind::NotFound,
     }
 }
 
-/// Makes the path hold the bytes, and answers whether it does.
+/// Makes the path hold the bytes, and answers whether it does. A new file has these permissions.
 pub(crate) fn write_file<R: rt::Files>(
     rt: &R,
     alloc: Global,
     path: &str,
     bytes: &[u8],
+    mode: u32,
 ) -> Result<bool, AllocError> {
     if is_plain(rt, path) {
-        write_beside(rt, alloc, path, bytes)
+        write_beside(rt, alloc, path, bytes, mode)
     } else {
-        Ok(write_in_place(rt, path, bytes))
+        Ok(write_in_place(rt, path, bytes, mode))
     }
 }

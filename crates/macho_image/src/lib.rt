@@ -7,7 +7,11 @@ mod link;
 
 pub use link::LinkImage;
 pub use macho_answer::{ExportName, ImportName, InputFault, LinkError, LinkedImage, Placement};
+pub use macho_args::MachOArgs;
 pub use macho_linker::{InputView, Linker};
 pub use macho_loader::{LoadFault, LoadRule, Loaded, LoadedFixup};
 pub use macho_model::{Limit, Site, Target, UnwindRule};
+pub use macho_object::{File, ObjectFault, ObjectRule};
+pub use macho_records::SegmentCommand;
 pub use macho_signature::write_uuid;
+pub use macho_stub::StubRule;

@@ -2,13 +2,14 @@
 --
 -- The inputs before a place, and that at the place, are those before the next place. So what is gathered of each, in order, is
 -- what was gathered before and what the new one adds: the objects with their numbers.
-use Rattle.std.proofs.Common.{◌≡◌, ℕ, ◌+◌, ◌<◌, ◌≤◌, List, [], ◌∷◌, ◌++◌, length, get_or, take, map, sym, ap, subst, ◌∙◌, arith, refl, Option, Vec, Global}
+use Rattle.std.proofs.Common.{◌≡◌, ℕ, ◌+◌, ◌<◌, ◌≤◌, List, [], ◌∷◌, ◌++◌, length, get_or, take, map, sym, ap, subst, ◌∙◌, arith, refl}
 use Rattle.std.specs.List.{enumerate_from, filter_map}
 use Rattle.std.proofs.lemmas.List.{length-map, length-take, map-append, take_all, take_more}
 use Rattle.std.proofs.lemmas.List.Elements.{filter_map-append}
 use Rattle.macho_model.specs.Links.{Input}
 use Rattle.macho_symbol_names.specs.Kept.{FileRows, Keeps}
 use Rattle.macho_linkedit.specs.Listing.{object_in}
+use Rattle.macho_linker.specs.declared.owned.ObjectBytes.{ObjectBytes}
 use Rattle.macho_linker.specs.declared.owned.OwnedInput.{OwnedInput}
 use Rattle.macho_linker.specs.declared.owned.OwnedInput.TheVariants as owned
 use Rattle.macho_linker.specs.Owned.{input_of}
@@ -35,16 +36,16 @@ objects_more xs i x old new lt is so_far added =
     ∙ filter_map-append object_in (enumerate_from 0 before) ((i, input_of x) ∷ []))
 
 -- a library is no object
-pub no_object : (n : ℕ) (x : OwnedInput) → ((bytes : Vec ℕ Global) → x ≡ owned.Object bytes → ⊥)
+pub no_object : (n : ℕ) (x : OwnedInput) → ((object : ObjectBytes) → x ≡ owned.Object object → ⊥)
     → filter_map object_in ((n, input_of x) ∷ []) ≡ []
-no_object n (owned.Object bytes) other = absurd (other bytes refl)
+no_object n (owned.Object object) other = absurd (other object refl)
 no_object n (owned.Dylib bytes) other = refl
 no_object n (owned.Stub text) other = refl
 
 -- an object is one, with its bytes
-pub one_object : (n : ℕ) (x : OwnedInput) (bytes : Vec ℕ Global) (seen : List ℕ) → x ≡ owned.Object bytes → seen ≡ bytes.items
+pub one_object : (n : ℕ) (x : OwnedInput) (object : ObjectBytes) (seen : List ℕ) → x ≡ owned.Object object → seen ≡ object.bytes.items
     → (n, seen) ∷ [] ≡ filter_map object_in ((n, input_of x) ∷ [])
-one_object n x bytes seen is same =
+one_object n x object seen is same =
     ap (λ (b : List ℕ). (n, b) ∷ []) same ∙ sym (ap (λ (y : OwnedInput). filter_map object_in ((n, input_of y) ∷ [])) is)
 
 -- all inputs were taken in

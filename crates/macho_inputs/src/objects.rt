@@ -27,9 +27,9 @@ pub fn list_objects(
     let mut objects = Vec::new(alloc);
     for (number, input) in inputs.iter().enumerate() {
         match input {
-            OwnedInput::Object(bytes) => objects.push(LinkedObject {
+            OwnedInput::Object(object) => objects.push(LinkedObject {
                 number: number as u32,
-                file: File::of_valid(bytes, false),
+                file: File::of_valid(&object.bytes, false),
             })?,
             _ => {}
         }

@@ -27,8 +27,8 @@ fn add_input<'data>(
     ensures { (inputs : List Input) → Keeps inputs resolver.old → OnOk result (Keeps (inputs ++ input_of input.now ∷ []) resolver.new) }
 {
     match input {
-        OwnedInput::Object(bytes) => {
-            resolver.add_object(&File::of_valid(bytes, false))?;
+        OwnedInput::Object(object) => {
+            resolver.add_object(&File::of_valid(&object.bytes, false))?;
         }
         OwnedInput::Dylib(bytes) => {
             resolver.add_dylib(&File::of_valid(bytes, true))?;

@@ -15,7 +15,7 @@ fn view_of(input: &OwnedInput) -> Option<File<'_>>
     ensures rules { ViewsObject result }
 {
     match input {
-        OwnedInput::Object(bytes) => Some(File::of_valid(bytes, false)),
+        OwnedInput::Object(object) => Some(File::of_valid(&object.bytes, false)),
         OwnedInput::Dylib(_) => None,
         OwnedInput::Stub(_) => None,
     }

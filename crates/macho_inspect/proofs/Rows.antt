@@ -1,7 +1,9 @@
 -- What the definitions of a report say of small parts of images, by computing. The bytes are written by hand after the records of the
 -- formats.
-use Rattle.std.proofs.Common.{◌≡◌, ℕ, List, [], ◌∷◌, ◌++◌, replicate, refl, arith, Some, None}
+use Rattle.std.proofs.Common.{◌≡◌, ℕ, List, [], ◌∷◌, ◌++◌, map, replicate, refl, arith, Some, None}
 use Rattle.std.specs.Prelude.{codes}
+use Rattle.std.specs.List.{flat_map, enumerate_from}
+use Rattle.std.specs.Fmt.{digits}
 use Rattle.macho_bytes.specs.Numbers.{le_at}
 use Rattle.macho_bytes.specs.Layouts.{reading}
 use Rattle.macho_bytes.specs.Uleb.{uleb_at}
@@ -14,6 +16,7 @@ use Rattle.macho_trie.specs.Walks as walks
 use Rattle.macho_inspect.specs.Tries.{trie_of, IsTrieMalformed}
 use Rattle.macho_inspect.specs.Tries as tries
 use Rattle.macho_inspect.specs.Reports.{segment_line, answer_of}
+use Rattle.macho_inspect.specs.Lines.{line_text, library_pieces, malformed_pieces}
 
 -- `__PAGEZERO` of 4 GiB at 0, which nothing may access
 abbrev pagezero : SegmentCommand
@@ -42,6 +45,16 @@ pub line_of_pagezero : segment_line pagezero ≡
       protection = 0;
     }
 line_of_pagezero = refl
+
+-- the lines of two libraries, and of a malformed trie
+pub texts_of_libraries : flat_map line_text (map library_pieces (enumerate_from 1 (codes "/usr/lib/a" ∷ codes "/usr/lib/b" ∷ [])))
+    ≡ codes "library 1 /usr/lib/a\nlibrary 2 /usr/lib/b\n"
+unfolding digits
+texts_of_libraries = refl
+
+pub text_of_malformed : line_text (malformed_pieces 32968) ≡ codes "exports malformed 32968\n"
+unfolding digits
+text_of_malformed = refl
 
 -- an address with flags 0; the reexport of a name of library 2 under another name
 pub answers : (answer_of 0 0x1234 None ≡ as_value 0 0x1234) × (answer_of 8 2 (Some (codes "_there")) ≡ as_reexport 8 2 (codes "_there"))

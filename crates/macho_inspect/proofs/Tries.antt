@@ -8,12 +8,11 @@ use Rattle.std.proofs.Common.{Some, None}
 use Rattle.std.proofs.Common.{inl, inr, drop, min, ◌⊎◌}
 use Rattle.std.specs.Prelude.{slice_range}
 use Rattle.std.proofs.lemmas.List.{length-take, length-map}
-use Rattle.macho_bytes.specs.Uleb.{uleb_at}
 use Rattle.macho_model.specs.Commands.{Command}
 use Rattle.macho_model.specs.Images.{table_of_command, tries_of}
 use Rattle.macho_model.specs.Lists.{IsNumber, of_first}
 use Rattle.macho_trie.specs.Exports.{Exported}
-use Rattle.macho_trie.specs.Nodes.{node_at, terminal_at}
+use Rattle.macho_trie.specs.Nodes.{node_at}
 use Rattle.macho_trie.specs.Lookup.{Finds, trie_finds}
 use Rattle.macho_trie.specs.Lookup as lookup
 use Rattle.macho_trie.specs.Walks.{IsMalformedAt}

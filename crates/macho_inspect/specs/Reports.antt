@@ -44,16 +44,17 @@ answer_of flags value (Some name) = as_reexport flags value name
 abbrev pub reexport_of : ExportLine → Option (List ℕ)
 reexport_of x = option_map (λ name. name.items) x.reexport
 
-abbrev pub export_in : ExportLine → List ℕ × Exported
-export_in x = (x.name.items, answer_of x.flags x.value (reexport_of x))
+abbrev pub exported_by : ExportLine → List ℕ × Exported
+exported_by x = (x.name.items, answer_of x.flags x.value (reexport_of x))
 
 -- what is said of the exports of an image: where its trie is malformed nowhere, all names that look-up finds in it; else a place where it
 -- is
 abbrev pub AreExportsOf : List ℕ → Exports → Type 0
-AreExportsOf b (Listed lines) = AreExports (trie_of b) (map export_in lines.items) × ((place : ℕ) → IsTrieMalformed b place → ⊥)
+AreExportsOf b (Listed lines) = AreExports (trie_of b) (map exported_by lines.items) × ((place : ℕ) → IsTrieMalformed b place → ⊥)
 AreExportsOf b (Malformed place) = IsTrieMalformed b place
 
--- THE report of an image that the loader accepts.
+-- THE report of an image that the loader accepts. The bytes determine all of it but one number: of a trie that is malformed at several
+-- places any of them may be told.
 pub record IsReport (b : List ℕ) (r : Report) : Type 0 where
   pub accepted : IsAccepted b
   pub base_is : r.base ≡ base_of b

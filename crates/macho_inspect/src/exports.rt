@@ -3,7 +3,7 @@ ghost use Rattle.std.specs.Prelude.{◌≡◌, map, IfOk};
 ghost use Rattle.macho_trie.specs.Exports.{Exported};
 ghost use Rattle.macho_trie.specs.Lists.{line_of};
 ghost use Rattle.macho_model.specs.Loader.{IsAccepted};
-ghost use Rattle.macho_inspect.specs.Reports.{export_in, AreExportsOf};
+ghost use Rattle.macho_inspect.specs.Reports.{exported_by, AreExportsOf};
 ghost use Rattle.macho_inspect.specs.steps.Ranges.{IsOneTrie};
 
 use crate::report::{ExportLine, Exports};
@@ -13,9 +13,24 @@ use macho_records::LC_DYLD_EXPORTS_TRIE;
 use macho_trie::{Export, NamedExport, TrieNames, list_exports};
 use std::alloc::{AllocError, Global};
 
+/// The most bytes that the names of reexports may have together: their ends may be shared, so that a trie of some hundred
+/// kilobytes can have names of gigabytes.
+const MOST_BYTES: u64 = 1 << 32;
+
+/// How many bytes the names of reexports have together.
+fn bytes_there(names: &[NamedExport<'_>]) -> u64 {
+    let mut size = 0u64;
+    for named in names {
+        if let Export::Reexport { name, .. } = named.export {
+            size = size.saturating_add(name.len() as u64);
+        }
+    }
+    size
+}
+
 /// The line of an exported name.
 fn export_line(alloc: Global, named: NamedExport<'_>) -> Result<ExportLine, AllocError>
-    ensures { IfOk result (λ x. export_in x ≡ line_of named.entry) }
+    ensures { IfOk result (λ x. exported_by x ≡ line_of named.entry) }
 {
     let NamedExport { name, export } = named;
     match export {
@@ -38,10 +53,14 @@ fn export_line(alloc: Global, named: NamedExport<'_>) -> Result<ExportLine, Allo
     }
 }
 
-/// The lines of exported names.
+/// The lines of exported names. Where the names of reexports have more than four gigabytes together, no memory is taken for
+/// them, and the answer is want of memory.
 fn export_lines(alloc: Global, names: Vec<NamedExport<'_>>) -> Result<Vec<ExportLine>, AllocError>
-    ensures { IfOk result (λ v. map export_in v.items ≡ map line_of names.entry.items) }
+    ensures { IfOk result (λ v. map exported_by v.items ≡ map line_of names.entry.items) }
 {
+    if bytes_there(&names) > MOST_BYTES {
+        return Err(AllocError);
+    }
     let mut lines = Vec::with_capacity(alloc, names.len())?;
     let mut rest = names.into_iter();
     while let Some(named) = rest.next() {

@@ -92,8 +92,14 @@ fn report(alloc: Global, bytes: &[u8], loaded: &Loaded<'_>) -> Result<Report, Al
 /// # Errors
 ///
 /// The loader does not accept the file: it breaks the rule that is told, at the file offset that is told. Or there is not
-/// enough memory, which also is the answer where the names of all imports, or of all exports, would have more than four
-/// gigabytes together.
+/// enough memory. Some small files would have reports of any size; of them the answer is want of memory, too, and none is
+/// taken for what is too much:
+///
+/// - The names of all imports have more than four gigabytes together, or those of all exports, or those of all reexports. A
+///   table of names has fewer bytes, but names may share them.
+/// - There are more fixups than a quarter of the bytes of the file. Words begin at least 4 bytes apart, so this is possible
+///   only where segments share bytes of the file.
+/// - More nodes of a trie are pending than it has bytes, as is possible only in a malformed trie.
 pub fn inspect(alloc: Global, bytes: &[u8]) -> Result<Report, InspectFault>
     ensures found { IfOk result (IsReport bytes.now) }
     ensures only { (IsAccepted bytes.now → ⊥) → IsRejected result }

@@ -11,11 +11,8 @@ use Rattle.macho_args.specs.Settings as args
 use Rattle.macho_args.specs.Settings.{Settings}
 use Rattle.macho_args.specs.Store.{Store}
 use Rattle.macho_model.specs.Links.{StubReading, Input, Stub}
-use Rattle.macho_stub.specs.Answer.{IsStub}
-use Rattle.macho_stub.specs.Library.{LibraryFields}
-use Rattle.macho_stub.proofs.Answered.{answer_only}
 use Rattle.macho_promise.specs.Inputs.{IsStubInput}
-use Rattle.macho_promise.proofs.Stubs.{reading_of, library_of}
+use Rattle.macho_linker.proofs.OneReading.{one_reading}
 use Rattle.macho_job.specs.declared.heads.Head.{Head}
 use Rattle.macho_job.specs.declared.heads.Head.TheVariants as head
 use Rattle.macho_job.specs.Heads.{head_of}
@@ -30,23 +27,12 @@ one-text files path a b one other = cc
 pub not-missing : (files : Store) (path a : List ℕ) → get files path ≡ None → get files path ≡ Some a → ⊥
 not-missing files path a none some = let no : None ≡ Some a = sym none ∙ some in cc
 
--- a text says one thing
-one-library : (text : List ℕ) (a b : LibraryFields) → IsStub text a → IsStub text b → a ≡ b
-one-library text a b one other =
-    let h : Ok a ≡ Ok b = sym (answer_only text a one) ∙ answer_only text b other in cc
-
-one-saying : (text : List ℕ) (a b : StubReading) → IsStubInput text a → IsStubInput text b → a ≡ b
-one-saying text a b one other =
-    let x = library_of text a one in
-    let y = library_of text b other in
-    x.is ∙ (ap reading_of (one-library text x.library y.library x.in_grammar y.in_grammar) ∙ sym y.is)
-
 -- bytes are read as one input
 pub one-input : (h : Head) (bytes : List ℕ) (i j : Input) → IsReadAs h bytes i → IsReadAs h bytes j → i ≡ j
 one-input head.Object bytes i j one other = one.0 ∙ sym other.0
 one-input head.Dylib bytes i j one other = one.0 ∙ sym other.0
 one-input head.Stub bytes i j one other =
-    one.1 ∙ (ap (Stub bytes) (one-saying bytes one.0 other.0 one.2 other.2) ∙ sym other.1)
+    one.1 ∙ (ap (Stub bytes) (one_reading bytes one.0 other.0 one.2 other.2) ∙ sym other.1)
 one-input (head.Unknown kind) bytes i j one other = absurd one
 
 -- Two paths of a list, each the first that holds a file.

@@ -4,10 +4,9 @@
 -- stands behind those before it: the files are one more, the link has its input last, and the paths end with its own. What
 -- refused it is the cause of a fault of the whole: the inputs before it are taken, and a count that rose in this call rose since
 -- the first, since no count falls. A list is asked for behind all inputs.
-use Rattle.std.proofs.Common.{◌≡◌, ℕ, suc, ◌+◌, ◌<◌, ◌≤◌, inl, inr, arith, refl, ap, sym, subst, ◌∙◌, List, [], ◌∷◌, ◌++◌, map, take, drop, length, get_or, All, Option, Some, None, String, Result, Ok, Err, OnOk}
+use Rattle.std.proofs.Common.{◌≡◌, ℕ, suc, ◌+◌, ◌<◌, ◌≤◌, inl, inr, refl, ap, sym, subst, ◌∙◌, List, [], ◌∷◌, ◌++◌, map, take, drop, length, get_or, All, Option, Some, None, String, Result, Ok, Err, OnOk}
 use Rattle.std.specs.Prelude.{IfErr}
 use Rattle.std.proofs.Math.Seq.{drop-cons}
-use Rattle.std.proofs.lemmas.Bool.{cases_lt}
 use Rattle.std.proofs.lemmas.List.{take-append-drop, take_all, map-append, map_more}
 use Rattle.std.proofs.lemmas.Slice.Zip.{all_zipped_more}
 use Rattle.std.specs.List.{AllZip, last_or}
@@ -20,12 +19,13 @@ use Rattle.macho_model.specs.Links as model
 use Rattle.macho_model.specs.LinkLaws.{with_input}
 use Rattle.macho_linker.specs.Linkers.{link_of, with_export_list}
 use Rattle.macho_devices.specs.Devices.{ReadsFile}
-use Rattle.macho_devices.specs.Faults.{CountsOn, CountRose}
+use Rattle.macho_devices.specs.Faults.{CountsOn}
+use Rattle.macho_devices.proofs.Counts.{rose-since}
 use Rattle.macho_job.specs.declared.fault.Fault.{Fault}
 use Rattle.macho_job.specs.declared.fault.Fault.TheVariants as fault
 use Rattle.macho_job.specs.Search.{candidates_of, FileIs, IsFirstHeld}
 use Rattle.macho_job.specs.Job.{SourceFile, IsTaken, IsListed, Links}
-use Rattle.macho_job.specs.Causes.{IsAsked, IsListAsked, JobFails, reading}
+use Rattle.macho_job.specs.Causes.{IsAsked, IsListAsked, JobFails}
 use Rattle.macho_job.specs.steps.Gathering.{TakesFile, TakesBytesOf, EndsWith, InputFails, ListFails, Gathered, HaveInputs, HaveLists}
 use Rattle.macho_bytes.proofs.Comparing.{on_ok_one}
 
@@ -135,20 +135,11 @@ lists-more {A} told now s Such lists i list paths l m text same within at have h
       linked = added ∙ ap (λ (k : Link). with_export_list k text) have.linked;
     }
 
--- a count that rose rose since an earlier value
-pub rose-since : (old mid new : ℕ) → CountsOn old mid → CountsOn mid new → CountRose mid new → CountRose old new
-rose-since old mid new before after (inl rose) = inl (omega (arith, before.never_falls, rose))
-rose-since old mid new before after (inr stood) =
-    elim (cases_lt old new) [
-      | inl below ↦ inl below
-      | inr above ↦ inr (omega (arith, before.never_falls, after.never_falls, stood, above))
-    ]
-
 -- what refused an input is the cause of a fault of the whole: those before it are taken
 pub input-fails : (told now : Option Store) (s : Settings) (specs : List InputSpec) (i : ℕ) (spec : InputSpec) (seen paths : List (List ℕ))
     (l : Link) (old mid new : ℕ) (f : Fault) → now ≡ told → s.inputs ≡ map input_of specs → i < length specs → spec ≡ get_or specs i spec
     → HaveInputs told s (map input_of (take i specs)) seen l → s.generate ≡ None → CountsOn old mid → CountsOn mid new
-    → InputFails now s paths (input_of spec) mid new f → JobFails told s paths (reading old) (reading new) f
+    → InputFails now s paths (input_of spec) mid new f → JobFails told s paths old new f
 input-fails told now s specs i spec seen paths l old mid new f same asks within at have alone before after fails =
     by f (subst (λ (o : Option Store). InputFails o s paths asked mid new f) same fails)
   where
@@ -166,7 +157,7 @@ input-fails told now s specs i spec seen paths l old mid new f same asks within 
       alone = alone;
     }
 
-    by : (f : Fault) → InputFails told s paths asked mid new f → JobFails told s paths (reading old) (reading new) f
+    by : (f : Fault) → InputFails told s paths asked mid new f → JobFails told s paths old new f
     by (fault.MissingFile word) (is, missing) = inl (asked, this word is, missing)
     by (fault.UnknownKind word kind) (is, unknown) =
         (unknown.path, unknown.bytes, record { input = asked; asked = this word is; found = unknown.found }, unknown.is)
@@ -197,7 +188,7 @@ pub list-fails : {A : Type 0} (told now : Option Store) (s : Settings) (lists : 
     (seen paths : List (List ℕ)) (l : Link) (old mid new : ℕ) (f : Fault) → now ≡ told
     → s.export_list_paths ≡ map (λ p. (p.0, string_bytes p.1)) lists → i < length lists → list ≡ get_or lists i list
     → HaveLists told s (map (λ p. (p.0, string_bytes p.1)) (take i lists)) seen l → CountsOn old mid → CountsOn mid new
-    → ListFails now list.0 (string_bytes list.1) mid new f → JobFails told s paths (reading old) (reading new) f
+    → ListFails now list.0 (string_bytes list.1) mid new f → JobFails told s paths old new f
 list-fails {A} told now s lists i list seen paths l old mid new f same asks within at have before after fails =
     by f (subst (λ (o : Option Store). ListFails o word path mid new f) same fails)
   where
@@ -222,7 +213,7 @@ list-fails {A} told now s lists i list seen paths l old mid new f same asks with
       listed = have.listed;
     }
 
-    by : (f : Fault) → ListFails told word path mid new f → JobFails told s paths (reading old) (reading new) f
+    by : (f : Fault) → ListFails told word path mid new f → JobFails told s paths old new f
     by (fault.MissingFile w) (is, missing) = inr (path, this w is, missing)
     by (fault.UnknownKind w kind) none = absurd none
     by (fault.Input w refusal) none = absurd none
@@ -251,11 +242,11 @@ lists-since told now s lists paths l same have = subst (λ (o : Option Store). H
 -- a later refusal is one of the whole
 pub later-fails : (told now : Option Store) (s : Settings) (paths : List (List ℕ)) (old mid new : ℕ) (f : Fault) → now ≡ told
     → CountsOn old mid → CountsOn mid new
-    → JobFails now s paths (reading mid) (reading new) f → JobFails told s paths (reading old) (reading new) f
+    → JobFails now s paths mid new f → JobFails told s paths old new f
 later-fails told now s paths old mid new f same before after why = by f
-    (subst (λ (o : Option Store). JobFails o s paths (reading mid) (reading new) f) same why)
+    (subst (λ (o : Option Store). JobFails o s paths mid new f) same why)
   where
-    by : (f : Fault) → JobFails told s paths (reading mid) (reading new) f → JobFails told s paths (reading old) (reading new) f
+    by : (f : Fault) → JobFails told s paths mid new f → JobFails told s paths old new f
     by (fault.MissingFile word) why = why
     by (fault.UnknownKind word kind) why = why
     by (fault.Input word refusal) why = why
@@ -278,8 +269,8 @@ lists-joined told now s paths l m r same have more =
 -- a list was refused
 pub lists-fail : {T : Type 0} (told now : Option Store) (s : Settings) (paths : List (List ℕ)) (l : Link) (old mid new : ℕ)
     (r : Result T Fault) → now ≡ told → CountsOn old mid → CountsOn mid new → HaveLists told s [] paths l
-    → IfErr r (λ f. (ps : List (List ℕ)) → HaveLists now s [] ps l → JobFails now s ps (reading mid) (reading new) f)
-    → IfErr r (JobFails told s paths (reading old) (reading new))
+    → IfErr r (λ f. (ps : List (List ℕ)) → HaveLists now s [] ps l → JobFails now s ps mid new f)
+    → IfErr r (JobFails told s paths old new)
 lists-fail told now s paths l old mid new (Ok x) same before after have why = tt
 lists-fail told now s paths l old mid new (Err f) same before after have why =
     later-fails told now s paths old mid new f same before after (why paths (lists-since told now s [] paths l same have))

@@ -16,7 +16,7 @@ use Rattle.macho_linker.specs.Linkers.{link_of}
 use Rattle.macho_job.specs.declared.fault.Fault.{Fault}
 use Rattle.macho_job.specs.declared.fault.Fault.TheVariants as fault
 use Rattle.macho_job.specs.declared.heads.Head.TheVariants as head
-use Rattle.macho_job.specs.Causes.{Failures, BytesRefused, JobFails}
+use Rattle.macho_job.specs.Causes.{BytesRefused, JobFails}
 use Rattle.macho_job.specs.steps.Gathering.{HaveLists}
 use Rattle.macho_job.specs.Generator.{generated_object, generated_path}
 use Rattle.macho_job.specs.Job.{SourceFile, AreFiles}
@@ -79,7 +79,7 @@ all-made told s n i paths start l asked empty low high linked objects named =
           (sym (map-map (λ (f : SourceFile). f.input) (made_file n) ks))));
     }
 
-pub made-fails : (told : Option Store) (s : Settings) (n i : ℕ) (paths : List (List ℕ)) (old new : Failures) (f : Fault)
+pub made-fails : (told : Option Store) (s : Settings) (n i : ℕ) (paths : List (List ℕ)) (old new : ℕ) (f : Fault)
     → s.generate ≡ Some n → i < n
     → ((k : ℕ) → k < i → IsObject (generated_object k n)) → paths ≡ map generated_path (range_with_len 0 (i + 1)) → MadeFails i n f
     → JobFails told s paths old new f

@@ -32,7 +32,7 @@ use Rattle.macho_job.specs.Heads.{head_of}
 use Rattle.macho_job.specs.Search.{candidates_of, FileIs, IsFirstHeld}
 use Rattle.macho_job.specs.Generator.{generated_object}
 use Rattle.macho_job.specs.Job.{Job, IsJob, SourceFile, IsReadAs, IsTaken, IsListed, AreFiles, linked, paths_of}
-use Rattle.macho_job.specs.Causes.{Failures, NoneFailed, IsAsked, BytesRefused, MadeRefused, IsClear, LinkRefused, JobFails}
+use Rattle.macho_job.specs.Causes.{IsAsked, BytesRefused, MadeRefused, IsClear, LinkRefused, JobFails}
 use Rattle.macho_job.proofs.Determined.{one-held, not-missing, job-once}
 
 -- an element of a list has its partner
@@ -43,7 +43,8 @@ partner R [] behind x (y ∷ ys) all = (y, all.0)
 partner R (first ∷ before) behind x [] all = absurd all
 partner R (first ∷ before) behind x (y ∷ ys) all = partner R before behind x ys all.1
 
-never-rose : (old new last : ℕ) → new ≡ old → old < last → (old < new) ⊎ (old ≡ last) → ⊥
+-- a count that stands below its last value didn't rise
+pub never-rose : (old new last : ℕ) → new ≡ old → old < last → (old < new) ⊎ (old ≡ last) → ⊥
 never-rose old new last same below (inl rose) = omega arith
 never-rose old new last same below (inr stood) = omega arith
 
@@ -160,32 +161,30 @@ link-refused files s paths (error.ImageTooLarge p) safe why = safe.never (error.
 link-refused files s paths (error.RebaseTarget at p) safe why = safe.never (error.RebaseTarget at p) refl why
 link-refused files s paths (error.RelocationRange at p) safe why = safe.never (error.RelocationRange at p) refl why
 
--- THE fault of a job that has nothing against it, where no device failed: want of memory
-pub sure-fault : (files : Store) (s : Settings) (paths : List (List ℕ)) (job : Job) (old new : Failures) (f : Fault)
+-- THE fault of a job that has nothing against it, where no read failed: want of memory
+pub sure-fault : (files : Store) (s : Settings) (paths : List (List ℕ)) (job : Job) (old new : ℕ) (f : Fault)
     → IsJob (Some files) s job → IsClear (linked s job)
-    → NoneFailed old new → JobFails (Some files) s paths old new f → f ≡ fault.OutOfMemory
-sure-fault files s paths job old new (fault.MissingFile word) is clear calm (inl (asked, asks, missing)) =
+    → new ≡ old → old < last_count → JobFails (Some files) s paths old new f → f ≡ fault.OutOfMemory
+sure-fault files s paths job old new (fault.MissingFile word) is clear calm below (inl (asked, asks, missing)) =
     let f = asked-file files s word asked s.generate job.files refl is.files asks in
     absurd (held-among files (candidates_of s asked.kind asked.name) f.0.path f.1.bytes f.1.found missing)
-sure-fault files s paths job old new (fault.MissingFile word) is clear calm (inr (list, asks, missing)) =
+sure-fault files s paths job old new (fault.MissingFile word) is clear calm below (inr (list, asks, missing)) =
     let text = partner (IsListed (Some files)) asks.before asks.behind (word, list) job.lists
     (subst (λ (xs : List (ℕ × List ℕ)). AllZip (IsListed (Some files)) xs job.lists) asks.split is.lists) in
     absurd (not-missing files list text.0 missing text.1)
-sure-fault files s paths job old new (fault.UnknownKind word kind) is clear calm (path, bytes, has, begins) =
+sure-fault files s paths job old new (fault.UnknownKind word kind) is clear calm below (path, bytes, has, begins) =
     let f = asked-file files s word has.input s.generate job.files refl is.files has.asked in
     absurd (begins-unknown files s has.input f.0 kind path bytes f.1 has.found begins)
-sure-fault files s paths job old new (fault.Input word refusal) is clear calm (inl (path, bytes, has, last, refused)) =
+sure-fault files s paths job old new (fault.Input word refusal) is clear calm below (inl (path, bytes, has, last, refused)) =
     let f = asked-file files s word has.input s.generate job.files refl is.files has.asked in
     absurd (taken-refused files s has.input f.0 refusal path bytes f.1 has.found refused)
-sure-fault files s paths job old new (fault.Input word refusal) is clear calm (inr made) =
+sure-fault files s paths job old new (fault.Input word refusal) is clear calm below (inr made) =
     absurd (made-refused files s paths word refusal job.files is.files made)
-sure-fault files s paths job old new (fault.Link refusal) is clear calm why =
+sure-fault files s paths job old new (fault.Link refusal) is clear calm below why =
     absurd (link-refused files s paths refusal (known files s paths job is clear) why)
-sure-fault files s paths job old new (fault.Words refusal) is clear calm why = absurd why
-sure-fault files s paths job old new (fault.Read word) is clear calm (asks, rose) =
-    absurd (never-rose old.reads new.reads last_count (ap (λ (n : Failures). n.reads) calm.none) calm.reads rose)
-sure-fault files s paths job old new fault.Write is clear calm rose =
-    absurd (never-rose old.writes new.writes last_count (ap (λ (n : Failures). n.writes) calm.none) calm.writes rose)
-sure-fault files s paths job old new fault.Print is clear calm rose =
-    absurd (never-rose old.prints new.prints last_count (ap (λ (n : Failures). n.prints) calm.none) calm.prints rose)
-sure-fault files s paths job old new fault.OutOfMemory is clear calm why = refl
+sure-fault files s paths job old new (fault.Words refusal) is clear calm below why = absurd why
+sure-fault files s paths job old new (fault.Read word) is clear calm below (asks, rose) =
+    absurd (never-rose old new last_count calm below rose)
+sure-fault files s paths job old new fault.Write is clear calm below why = absurd why
+sure-fault files s paths job old new fault.Print is clear calm below why = absurd why
+sure-fault files s paths job old new fault.OutOfMemory is clear calm below why = refl

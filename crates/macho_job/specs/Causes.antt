@@ -16,7 +16,7 @@ use Rattle.macho_answer.specs.declared.fault.InputFault.TheVariants as input
 use Rattle.macho_stub_lines.specs.declared.fault.StubRule.TheVariants.{S1}
 use Rattle.macho_linker.specs.Linkers.{link_of}
 use Rattle.macho_answer.specs.Linked.{RefusalStands}
-use Rattle.macho_devices.specs.Faults.{CountRose, last_count}
+use Rattle.macho_devices.specs.Faults.{CountRose}
 use Rattle.macho_job.specs.declared.fault.Fault.{Fault}
 use Rattle.macho_job.specs.declared.fault.Fault.TheVariants.{MissingFile, UnknownKind, Input, Link as LinkFault, Words, Read, Write, Print, OutOfMemory}
 use Rattle.macho_job.specs.declared.heads.Head.{Head}
@@ -35,26 +35,6 @@ status_of (Some Write) = 4
 status_of (Some Print) = 4
 status_of (Some OutOfMemory) = 5
 status_of (Some refusal) = 1
-
--- How often the devices of a run have failed: reads and writes of its files, and pieces that it printed.
-pub record Failures : Type 0 where
-  pub reads : ℕ
-  pub writes : ℕ
-  pub prints : ℕ
-
-abbrev pub failures : ℕ → ℕ → ℕ → Failures
-failures reads writes prints = record { reads = reads; writes = writes; prints = prints }
-
--- No device failed, and none stands at the last value of its count.
-pub record NoneFailed (old new : Failures) : Type 0 where
-  pub none : new ≡ old
-  pub reads : old.reads < last_count
-  pub writes : old.writes < last_count
-  pub prints : old.prints < last_count
-
--- failures where reads alone are counted
-abbrev pub reading : ℕ → Failures
-reading reads = failures reads 0 0
 
 -- Bytes are refused, by their head: they break the rule that is told, at the place that is told, and so are no such input. Bytes that
 -- begin as a stub and aren't UTF-8 break the first rule of stubs at line 1, and no other.
@@ -107,9 +87,9 @@ pub record HasBytes (told : Option Store) (s : Settings) (word : ℕ) (path byte
   pub asked : IsAsked told s word input
   pub found : IsFirstHeld told (candidates_of s input.kind input.name) path bytes
 
--- THE causes of the faults of settings, a row for each; `paths` are of files that were read, the last of them an input that is refused.
--- Want of memory is free.
-abbrev pub JobFails : Option Store → Settings → List (List ℕ) → Failures → Failures → Fault → Type 0
+-- THE causes of the faults of a job by settings, a row for each: `paths` are of files that were read, the last of them an input that is
+-- refused, and `old` and `new` count the reads that have failed. Want of memory is free. No write and no print comes before the image.
+abbrev pub JobFails : Option Store → Settings → List (List ℕ) → (old new : ℕ) → Fault → Type 0
 JobFails told s paths old new (MissingFile word) =
     ((asked : args.Input) × IsAsked told s word asked × All (FileIs told None) (candidates_of s asked.kind asked.name))
     ⊎ ((list : List ℕ) × IsListAsked told s word list × FileIs told None list)
@@ -120,12 +100,10 @@ JobFails told s paths old new (Input word refusal) =
     × BytesRefused (head_of bytes) bytes refusal)
     ⊎ MadeRefused s paths word refusal
 JobFails told s paths old new (LinkFault refusal) = LinkRefused told s paths refusal
-JobFails told s paths old new (Words fault) = ⊥
 JobFails told s paths old new (Read word) =
-    (((asked : args.Input) × IsAsked told s word asked) ⊎ ((list : List ℕ) × IsListAsked told s word list)) × CountRose old.reads new.reads
-JobFails told s paths old new Write = CountRose old.writes new.writes
-JobFails told s paths old new Print = CountRose old.prints new.prints
+    (((asked : args.Input) × IsAsked told s word asked) ⊎ ((list : List ℕ) × IsListAsked told s word list)) × CountRose old new
 JobFails told s paths old new OutOfMemory = Unit {0}
+JobFails told s paths old new fault = ⊥
 
 -- a fault of the words: that of the first argument that is not accepted
 abbrev pub WordsFail : List (List ℕ) → Fault → Type 0

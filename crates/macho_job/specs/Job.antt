@@ -4,7 +4,7 @@ use Rattle.std.specs.List.{AllZip, flat_map, range_with_len}
 use Rattle.sha2.specs.Sha256.{sha256}
 use Rattle.macho_args.specs.Settings as args
 use Rattle.macho_args.specs.Settings.{Settings}
-use Rattle.macho_args.specs.Store.{Store, Directories, CanonicalPaths}
+use Rattle.macho_args.specs.Store.{Store}
 use Rattle.macho_model.specs.Links.{Link, Input, Object, Dylib, Stub, StubReading}
 use Rattle.macho_model.specs.Grammar.{IsObject, IsDylib}
 use Rattle.macho_promise.specs.Inputs.{IsStubInput}
@@ -14,12 +14,6 @@ use Rattle.macho_job.specs.declared.heads.Head.TheVariants as head
 use Rattle.macho_job.specs.Heads.{head_of}
 use Rattle.macho_job.specs.Search.{candidates_of, FileIs, IsFirstHeld}
 use Rattle.macho_job.specs.Generator.{generated_object, generated_path}
-
--- What is told of the files outside: the directories, the canonical paths, and what stands under each path.
-pub record Outside : Type 0 where
-  pub directories : Option Directories
-  pub canonical_paths : Option CanonicalPaths
-  pub store : Option Store
 
 -- a file of the link, and the path that it is told by
 pub record SourceFile : Type 0 where

@@ -5,11 +5,10 @@ ghost use Rattle.macho_args.specs.Settings.{settings_of, input_of};
 ghost use Rattle.macho_args.specs.Store.{Store};
 ghost use Rattle.macho_linker.specs.Linkers.{link_of, TakesStub};
 ghost use Rattle.macho_devices.specs.Devices.{OnlyReads};
-ghost use Rattle.macho_devices.specs.Faults.{CountsOn};
 ghost use Rattle.macho_job.specs.Search.{candidates_of};
 ghost use Rattle.macho_job.specs.steps.Found.{IsSearched, FailedSince};
 ghost use Rattle.macho_job.specs.Names.{names_of};
-ghost use Rattle.macho_job.specs.Causes.{JobFails, reading};
+ghost use Rattle.macho_job.specs.Causes.{JobFails};
 ghost use Rattle.macho_job.specs.steps.Gathering.{TakesFile, TakesBytesOf, TextRefused, BytesFail, InputFails, HaveInputs};
 
 use crate::fault::Fault;
@@ -36,12 +35,11 @@ pub(crate) fn add_inputs<F: Files>(
     requires empty { linker.old ≡ link_of (settings_of args.now) }
     requires unnamed { names_of names.old ≡ [] }
     requires alone { (settings_of args.now).generate ≡ None }
-    ensures added { OnOk result (HaveInputs (F.holds files.old) (settings_of args.now) (settings_of args.now).inputs
+    ensures added { OnOk result (HaveInputs (F.state files.old).files (settings_of args.now) (settings_of args.now).inputs
         (names_of names.new) linker.new) }
-    ensures why { IfErr result (JobFails (F.holds files.old) (settings_of args.now) (names_of names.new)
-        (reading (F.faults files.old)) (reading (F.faults files.new))) }
-    ensures counted { CountsOn (F.faults files.old) (F.faults files.new) }
-    ensures kept { OnlyReads F.directories F.canonical_paths F.holds F.write_faults files.old files.new }
+    ensures why { IfErr result (JobFails (F.state files.old).files (settings_of args.now) (names_of names.new)
+        (F.state files.old).failed_reads (F.state files.new).failed_reads) }
+    ensures kept { OnlyReads (F.state files.old) (F.state files.new) }
 {
     for spec in &args.inputs {
         add_input(alloc, args, spec, files, linker, names)?;
@@ -58,12 +56,11 @@ fn add_input<F: Files>(
     linker: &mut Linker,
     names: &mut FileNames,
 ) -> Result<(), Fault>
-    ensures added { OnOk result (TakesFile (F.holds files.old) (settings_of args.now) (input_of spec.now)
+    ensures added { OnOk result (TakesFile (F.state files.old).files (settings_of args.now) (input_of spec.now)
         (names_of names.old) (names_of names.new) linker.old linker.new) }
-    ensures why { IfErr result (InputFails (F.holds files.old) (settings_of args.now) (names_of names.new) (input_of spec.now)
-        (F.faults files.old) (F.faults files.new)) }
-    ensures counted { CountsOn (F.faults files.old) (F.faults files.new) }
-    ensures kept { OnlyReads F.directories F.canonical_paths F.holds F.write_faults files.old files.new }
+    ensures why { IfErr result (InputFails (F.state files.old).files (settings_of args.now) (names_of names.new) (input_of spec.now)
+        (F.state files.old).failed_reads (F.state files.new).failed_reads) }
+    ensures kept { OnlyReads (F.state files.old) (F.state files.new) }
 {
     let FoundFile { path, bytes } = find_input(alloc, args, spec, files)?;
     names.push(path)?;
@@ -77,13 +74,12 @@ fn find_input<F: Files>(
     spec: &InputSpec,
     files: &mut F,
 ) -> Result<FoundFile, Fault>
-    ensures found { IfOk result (λ found. IsSearched (F.holds files.old)
+    ensures found { IfOk result (λ found. IsSearched (F.state files.old).files
         (candidates_of (settings_of args.now) (input_of spec.now).kind (input_of spec.now).name) (Some found)) }
     ensures why { IfErr result (λ fault. (paths : List (List ℕ))
-        → InputFails (F.holds files.old) (settings_of args.now) paths (input_of spec.now)
-        (F.faults files.old) (F.faults files.new) fault) }
-    ensures counted { CountsOn (F.faults files.old) (F.faults files.new) }
-    ensures kept { OnlyReads F.directories F.canonical_paths F.holds F.write_faults files.old files.new }
+        → InputFails (F.state files.old).files (settings_of args.now) paths (input_of spec.now)
+        (F.state files.old).failed_reads (F.state files.new).failed_reads fault) }
+    ensures kept { OnlyReads (F.state files.old) (F.state files.new) }
 {
     let paths = candidates_of(alloc, args, spec)?;
     match first_held(alloc, files, &paths) {

@@ -3,11 +3,10 @@
 ghost use Rattle.std.specs.Prelude.{◌≡◌, ℕ, List, [], Some, IfOk, IfErr, OnOk};
 ghost use Rattle.macho_args.specs.Settings.{settings_of};
 ghost use Rattle.macho_devices.specs.Devices.{OnlyReads};
-ghost use Rattle.macho_devices.specs.Faults.{CountsOn};
 ghost use Rattle.macho_linker.specs.Linkers.{with_export_list};
 ghost use Rattle.macho_job.specs.declared.fault.Fault.TheVariants.{OutOfMemory};
 ghost use Rattle.macho_job.specs.Search.{FileIs};
-ghost use Rattle.macho_job.specs.Causes.{JobFails, reading};
+ghost use Rattle.macho_job.specs.Causes.{JobFails};
 ghost use Rattle.macho_job.specs.steps.Gathering.{HaveLists, ListFails};
 
 use crate::fault::Fault;
@@ -23,12 +22,14 @@ pub(crate) fn add_lists<F: Files>(
     files: &mut F,
     linker: &mut Linker,
 ) -> Result<(), Fault>
-    ensures added { (paths : List (List ℕ)) → HaveLists (F.holds files.old) (settings_of args.now) [] paths linker.old
-        → OnOk result (HaveLists (F.holds files.old) (settings_of args.now) (settings_of args.now).export_list_paths paths linker.new) }
-    ensures why { IfErr result (λ fault. (paths : List (List ℕ)) → HaveLists (F.holds files.old) (settings_of args.now) [] paths linker.old
-        → JobFails (F.holds files.old) (settings_of args.now) paths (reading (F.faults files.old)) (reading (F.faults files.new)) fault) }
-    ensures counted { CountsOn (F.faults files.old) (F.faults files.new) }
-    ensures kept { OnlyReads F.directories F.canonical_paths F.holds F.write_faults files.old files.new }
+    ensures added { (paths : List (List ℕ)) → HaveLists (F.state files.old).files (settings_of args.now) [] paths linker.old
+        → OnOk result (HaveLists (F.state files.old).files (settings_of args.now)
+        (settings_of args.now).export_list_paths paths linker.new) }
+    ensures why { IfErr result (λ fault. (paths : List (List ℕ))
+        → HaveLists (F.state files.old).files (settings_of args.now) [] paths linker.old
+        → JobFails (F.state files.old).files (settings_of args.now) paths
+        (F.state files.old).failed_reads (F.state files.new).failed_reads fault) }
+    ensures kept { OnlyReads (F.state files.old) (F.state files.new) }
 {
     for list in &args.export_list_paths {
         let text = read_list(alloc, files, list.0, list.1.as_str())?;
@@ -44,10 +45,10 @@ fn read_list<F: Files>(
     word: u32,
     path: &str,
 ) -> Result<Vec<u8>, Fault>
-    ensures held { IfOk result (λ text. FileIs (F.holds files.old) (Some text.items) path.now) }
-    ensures why { IfErr result (ListFails (F.holds files.old) word path.now (F.faults files.old) (F.faults files.new)) }
-    ensures counted { CountsOn (F.faults files.old) (F.faults files.new) }
-    ensures kept { OnlyReads F.directories F.canonical_paths F.holds F.write_faults files.old files.new }
+    ensures held { IfOk result (λ text. FileIs (F.state files.old).files (Some text.items) path.now) }
+    ensures why { IfErr result (ListFails (F.state files.old).files word path.now
+        (F.state files.old).failed_reads (F.state files.new).failed_reads) }
+    ensures kept { OnlyReads (F.state files.old) (F.state files.new) }
 {
     match files.read(alloc, path) {
         Ok(Some(text)) => Ok(text),

@@ -7,7 +7,7 @@ ghost use Rattle.std.specs.String.{string_bytes};
 ghost use Rattle.macho_args.specs.Settings.{Settings};
 ghost use Rattle.macho_args.specs.Store.{Store};
 ghost use Rattle.macho_linker.specs.Linkers.{link_of};
-ghost use Rattle.macho_job.specs.Causes.{JobFails, Failures};
+ghost use Rattle.macho_job.specs.Causes.{JobFails};
 ghost use Rattle.macho_job.specs.steps.Gathering.{HaveLists};
 ghost use Rattle.macho_job.specs.Generator.{generated_object, generated_path, function_name};
 ghost use Rattle.macho_job.specs.steps.Objects.{joined_all, OBJECT_HEAD, CALLING_SECTIONS, LAST_SECTIONS, calling_parts, last_parts, calling_object, last_object};
@@ -49,7 +49,7 @@ pub(crate) fn add_made(
     requires unnamed { names_of names.old ≡ [] }
     ensures added { (told : Option Store) (s : Settings) → s.generate ≡ Some count → linker.old ≡ link_of s
         → OnOk result (HaveLists told s [] (names_of names.new) linker.new) }
-    ensures why { (told : Option Store) (s : Settings) (old new : Failures) → s.generate ≡ Some count
+    ensures why { (told : Option Store) (s : Settings) (old new : ℕ) → s.generate ≡ Some count
         → IfErr result (JobFails told s (names_of names.new) old new) }
 {
     for index in 0..count {

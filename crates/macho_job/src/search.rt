@@ -10,7 +10,6 @@ ghost use Rattle.std.specs.String.{string_bytes};
 ghost use Rattle.macho_args.specs.Effects.{joined as joined_path};
 ghost use Rattle.macho_args.specs.Settings.{settings_of, input_of};
 ghost use Rattle.macho_devices.specs.Devices.{OnlyReads};
-ghost use Rattle.macho_devices.specs.Faults.{CountsOn};
 ghost use Rattle.macho_job.specs.Search.{library_files, framework_files, candidates_of};
 ghost use Rattle.macho_job.specs.steps.Found.{IsSearched, FailedSince};
 
@@ -118,10 +117,9 @@ pub(crate) fn first_held<F: Files>(
     files: &mut F,
     paths: &[String],
 ) -> Result<Option<FoundFile>, FileFault>
-    ensures found { IfOk result (IsSearched (F.holds files.old) (map string_bytes paths.now)) }
-    ensures why { IfErr result (λ fault. FailedSince (F.faults files.old) (F.faults files.new) fault) }
-    ensures counted { CountsOn (F.faults files.old) (F.faults files.new) }
-    ensures kept { OnlyReads F.directories F.canonical_paths F.holds F.write_faults files.old files.new }
+    ensures found { IfOk result (IsSearched (F.state files.old).files (map string_bytes paths.now)) }
+    ensures why { IfErr result (λ fault. FailedSince (F.state files.old).failed_reads (F.state files.new).failed_reads fault) }
+    ensures kept { OnlyReads (F.state files.old) (F.state files.new) }
 {
     for path in paths {
         if let Some(bytes) = files.read(alloc, path.as_str())? {

@@ -3,9 +3,8 @@
 ghost use Rattle.std.specs.Prelude.{◌≡◌, ℕ, List, [], Some, None, IfErr, OnOk};
 ghost use Rattle.macho_args.specs.Settings.{settings_of};
 ghost use Rattle.macho_devices.specs.Devices.{OnlyReads};
-ghost use Rattle.macho_devices.specs.Faults.{CountsOn};
 ghost use Rattle.macho_linker.specs.Linkers.{link_of};
-ghost use Rattle.macho_job.specs.Causes.{JobFails, reading};
+ghost use Rattle.macho_job.specs.Causes.{JobFails};
 ghost use Rattle.macho_job.specs.Job.{Links};
 ghost use Rattle.macho_job.specs.Names.{names_of};
 ghost use Rattle.macho_job.specs.steps.Gathering.{HaveLists};
@@ -37,13 +36,12 @@ pub fn gather<F: Files>(
     requires unnamed { names_of names.old ≡ [] }
 
     // The linker has what the arguments link, whose files have these paths.
-    ensures gathered { OnOk result (Links (F.holds files.old) (settings_of args.now) (names_of names.new) linker.new) }
+    ensures gathered { OnOk result (Links (F.state files.old).files (settings_of args.now) (names_of names.new) linker.new) }
 
     // A fault has its cause.
-    ensures why { IfErr result (JobFails (F.holds files.old) (settings_of args.now) (names_of names.new)
-        (reading (F.faults files.old)) (reading (F.faults files.new))) }
-    ensures counted { CountsOn (F.faults files.old) (F.faults files.new) }
-    ensures kept { OnlyReads F.directories F.canonical_paths F.holds F.write_faults files.old files.new }
+    ensures why { IfErr result (JobFails (F.state files.old).files (settings_of args.now) (names_of names.new)
+        (F.state files.old).failed_reads (F.state files.new).failed_reads) }
+    ensures kept { OnlyReads (F.state files.old) (F.state files.new) }
 {
     add_files(alloc, args, files, linker, names)?;
     add_lists(alloc, args, files, linker)
@@ -59,11 +57,10 @@ fn add_files<F: Files>(
 ) -> Result<(), Fault>
     requires empty { linker.old ≡ link_of (settings_of args.now) }
     requires unnamed { names_of names.old ≡ [] }
-    ensures added { OnOk result (HaveLists (F.holds files.old) (settings_of args.now) [] (names_of names.new) linker.new) }
-    ensures why { IfErr result (JobFails (F.holds files.old) (settings_of args.now) (names_of names.new)
-        (reading (F.faults files.old)) (reading (F.faults files.new))) }
-    ensures counted { CountsOn (F.faults files.old) (F.faults files.new) }
-    ensures kept { OnlyReads F.directories F.canonical_paths F.holds F.write_faults files.old files.new }
+    ensures added { OnOk result (HaveLists (F.state files.old).files (settings_of args.now) [] (names_of names.new) linker.new) }
+    ensures why { IfErr result (JobFails (F.state files.old).files (settings_of args.now) (names_of names.new)
+        (F.state files.old).failed_reads (F.state files.new).failed_reads) }
+    ensures kept { OnlyReads (F.state files.old) (F.state files.new) }
 {
     match args.generate {
         Some(count) => add_made(alloc, linker, names, count),

@@ -2,14 +2,18 @@
 --
 -- It says one thing: so what was read of it is that. And what is in the grammar is read, so that a text that is a stub is refused
 -- for want of memory alone.
-use Rattle.std.proofs.Common.{◌≡◌, ℕ, List, sym, Ok}
+use Rattle.std.proofs.Common.{◌≡◌, ℕ, List, sym, ap, ◌∙◌, Ok}
 use Rattle.std.proofs.Math.Logic.{∥∥₁_elim}
 use mathlib.Core.HLevel.{⊥_prop}
 use Rattle.macho_stub_lines.specs.declared.fault.StubRule.{StubRule}
 use Rattle.macho_stub_lines.specs.Faults.{broken}
 use Rattle.macho_stub.specs.Answer.{IsStub}
 use Rattle.macho_stub.specs.Library.{LibraryFields}
+use Rattle.macho_model.specs.Links.{StubReading}
+use Rattle.macho_promise.specs.Inputs.{IsStubInput}
 use Rattle.macho_promise.proofs.Stubs.{reading_of, library_of, stub_of}
+use Rattle.macho_stub.proofs.Answered.{answer_only}
+use Rattle.macho_stub_lines.proofs.Bind.{same_ok}
 use Rattle.macho_linker.specs.Readings.{SaysOneThing}
 use Rattle.macho_linker.specs.steps.OneReading.{same_readings}
 
@@ -27,3 +31,11 @@ none_told text line rule one only = ∥∥₁_elim one.1.0 ⊥_prop (λ is.
   where
     none_of : {library : LibraryFields} → Ok library ≡ broken line rule → ⊥
     none_of e = cc
+
+-- a text says one thing
+pub one_reading : (text : List ℕ) (a b : StubReading) → IsStubInput text a → IsStubInput text b → a ≡ b
+one_reading text a b one other =
+    let x = library_of text a one in
+    let y = library_of text b other in
+    let same : Ok x.library ≡ Ok y.library = sym (answer_only text x.library x.in_grammar) ∙ answer_only text y.library y.in_grammar in
+    x.is ∙ (ap reading_of (same_ok x.library y.library same) ∙ sym y.is)

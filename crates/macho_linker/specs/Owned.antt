@@ -12,6 +12,6 @@ says_of stub = stub.reading.0
 
 -- the input that is owned; of a stub what its text says
 abbrev pub input_of : OwnedInput → Input
-input_of (owned.Object bytes) = model.Object bytes.items
+input_of (owned.Object object) = model.Object object.bytes.items
 input_of (owned.Dylib bytes) = model.Dylib bytes.items
 input_of (owned.Stub stub) = model.Stub (string_bytes stub.text) (says_of stub)

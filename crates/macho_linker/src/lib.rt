@@ -1,13 +1,11 @@
 //! The linker as a value: it takes the arguments and what is linked, in order, and shows what it holds. It links nothing itself.
 #![tactic(auto)]
 
-mod asked;
 mod linker;
 mod owned;
 mod paths;
 
-pub use asked::LinkAsked;
 pub use linker::{InputView, Linker};
 pub use macho_answer::{InputFault, LinkError};
-pub use owned::{OwnedInput, StubText};
+pub use owned::{ObjectBytes, OwnedInput, StubText};
 pub use paths::last_part;

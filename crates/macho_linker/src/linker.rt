@@ -1,5 +1,5 @@
 //! The linker: what is linked, gathered before the link.
-ghost use Rattle.std.specs.Prelude.{◌≡◌, ◌-◌, ◌^◌, false, not, ◌<◌, ◌≤◌, length, map, Some, IfOk, IfErr, IfSome, OnOk, OnErr};
+ghost use Rattle.std.specs.Prelude.{◌≡◌, ◌-◌, ◌^◌, false, not, ◌<◌, ◌≤◌, length, map, All, Some, IfOk, IfErr, IfSome, OnOk, OnErr};
 ghost use Rattle.std.specs.Option.{option_map};
 ghost use Rattle.std.specs.List.{list_any};
 ghost use Rattle.std.specs.String.{string_bytes};
@@ -8,7 +8,7 @@ ghost use Rattle.macho_model.specs.Links.{Object, Dylib};
 ghost use Rattle.macho_model.specs.Grammar.{IsObject, IsDylib};
 ghost use Rattle.macho_model.specs.Faults.{bad_name, has_zero};
 ghost use Rattle.macho_model.specs.LinkLaws.{with_input};
-ghost use Rattle.macho_linker.specs.Asked.{link_asked, IsGiven};
+ghost use Rattle.macho_linker.specs.Held.{IsHeld};
 ghost use Rattle.macho_linker.specs.Linkers.{link_of, with_export_list, TakesStub};
 ghost use Rattle.macho_promise.specs.Inputs.{IsInput};
 ghost use Rattle.macho_linker.specs.Owned.{input_of};
@@ -17,8 +17,7 @@ ghost use Rattle.macho_linker.specs.Shown.{Shows, ShowsInput, ShowsBytes};
 ghost use Rattle.macho_linker.specs.steps.StubRefusals.{stub_refusal, IsReadStub};
 ghost use Rattle.macho_linker.specs.Refusals.{ArgsRefused, ObjectRefused, DylibRefused, StubRefused};
 
-use crate::asked::LinkAsked;
-use crate::owned::{OwnedInput, StubText};
+use crate::owned::{ObjectBytes, OwnedInput, StubText};
 use crate::paths::{has_no_file_name, has_nul};
 use macho_answer::{InputFault, LinkError};
 use macho_args::{MachOArgs, PlatformVersion};
@@ -128,7 +127,7 @@ fn view_of(input: &OwnedInput) -> InputView<'_>
     ensures { Shows (input_of input.now) result }
 {
     match input {
-        OwnedInput::Object(bytes) => InputView::Object(File::of_valid(bytes, false)),
+        OwnedInput::Object(object) => InputView::Object(File::of_valid(&object.bytes, false)),
         OwnedInput::Dylib(bytes) => InputView::Dylib(File::of_valid(bytes, true)),
         OwnedInput::Stub(stub) => InputView::Stub(stub.text.as_str()),
     }
@@ -186,7 +185,7 @@ impl Linker {
             });
         }
         let file = self.num_inputs();
-        self.inputs.push(OwnedInput::Object(bytes))?;
+        self.inputs.push(OwnedInput::Object(ObjectBytes { bytes }))?;
         Ok(file)
     }
 
@@ -268,7 +267,7 @@ impl Linker {
         ensures { ShowsBytes self.now index result }
     {
         match self.inputs.get(index as usize) {
-            Some(OwnedInput::Object(bytes)) => Some(bytes.as_slice()),
+            Some(OwnedInput::Object(object)) => Some(object.bytes.as_slice()),
             Some(OwnedInput::Dylib(bytes)) => Some(bytes.as_slice()),
             Some(OwnedInput::Stub(stub)) => Some(stub.text.as_bytes()),
             None => None,
@@ -289,22 +288,61 @@ impl Linker {
         self.executable
     }
 
-    /// What is held, as it is linked.
-    pub fn asked(&self) -> LinkAsked<'_>
-        ensures given { IsGiven result }
-        ensures same { link_asked result ≡ self.now }
+    /// Whether libraries that nothing uses are left out.
+    pub fn dead_strip_dylibs(&self) -> bool
+        ensures { result ≡ self.now.dead_strip_dylibs }
     {
-        LinkAsked {
-            executable: self.executable,
-            dead_strip_dylibs: self.dead_strip_dylibs,
-            headerpad: self.headerpad,
-            output: &self.output,
-            entry: &self.entry,
-            install_name: &self.install_name,
-            rpaths: &self.rpaths,
-            versions: self.versions,
-            inputs: &self.inputs,
-            export_lists: &self.export_lists,
-        }
+        self.dead_strip_dylibs
+    }
+
+    /// Whether room for longer names is asked for.
+    pub fn headerpad(&self) -> bool
+        ensures { result ≡ self.now.headerpad }
+    {
+        self.headerpad
+    }
+
+    /// The path of the output.
+    pub fn output(&self) -> &[u8]
+        ensures { result.now ≡ self.now.output }
+    {
+        &self.output
+    }
+
+    /// The name at which an executable begins.
+    pub fn entry(&self) -> &[u8]
+        ensures { result.now ≡ self.now.entry }
+    {
+        &self.entry
+    }
+
+    /// The own name of a dynamic library.
+    pub fn install_name(&self) -> &[u8]
+        ensures { result.now ≡ self.now.install_name }
+    {
+        &self.install_name
+    }
+
+    /// The paths to search `@rpath` in.
+    pub fn rpaths(&self) -> &[Vec<u8>]
+        ensures { map (λ path. path.items) result.now ≡ self.now.rpaths }
+    {
+        &self.rpaths
+    }
+
+    /// The least version of the system and that of the SDK, as 16, 8 and 8 bits.
+    pub fn versions(&self) -> Option<(u32, u32)>
+        ensures { result ≡ self.now.versions }
+    {
+        self.versions
+    }
+
+    /// The inputs, by the numbers of their files.
+    pub fn inputs(&self) -> &[OwnedInput]
+        ensures same { map input_of result.now ≡ self.now.inputs }
+        ensures read { All (λ input. IsInput (input_of input)) result.now }
+        ensures held { IsHeld self.now }
+    {
+        &self.inputs
     }
 }

@@ -1,4 +1,5 @@
 //! An input as a linker owns it.
+ghost use Rattle.std.specs.Prelude.{◌<◌, All};
 ghost use Rattle.std.specs.String.{string_bytes};
 ghost use Rattle.macho_linker.specs.Readings.{SaysOneThing};
 ghost use Rattle.macho_linker.specs.steps.OneReading.{one_thing};
@@ -11,11 +12,19 @@ pub struct StubText {
     pub ghost reading: { SaysOneThing (string_bytes text) } by { one_thing (string_bytes text) },
 }
 
+/// The bytes of an object: each is a number below 256.
+#[derive(Drop)]
+pub struct ObjectBytes {
+    /// The bytes.
+    pub bytes: Vec<u8>,
+    pub ghost are_bytes: { All (λ x. x < 256) bytes.items },
+}
+
 /// An input, with the kind that its bytes have.
 #[derive(Drop)]
 pub enum OwnedInput {
     /// A relocatable object.
-    Object(Vec<u8>),
+    Object(ObjectBytes),
     /// A dynamic library.
     Dylib(Vec<u8>),
     /// The text of a stub.

@@ -17,7 +17,6 @@ use Rattle.macho_model.specs.Told.{imports_told}
 use Rattle.macho_layout_laws.specs.Laws.{NonePasses}
 use Rattle.macho_promise.specs.Sizes.{AreCounts}
 use Rattle.macho_answer.specs.declared.fault.LinkError.{LinkError}
-use Rattle.macho_answer.specs.declared.fault.LinkError.TheVariants as error
 use Rattle.macho_answer.specs.Standing.{IsStanding}
 use Rattle.macho_linkedit.specs.declared.exports.NamedExport.{NamedExport}
 use Rattle.macho_sizing.specs.Sized.{IsSizedOf}
@@ -44,28 +43,19 @@ use Rattle.macho_linking.specs.declared.write.Written.{Written}
 use Rattle.macho_linking.specs.steps.Planned.{IsPlanned, AreInputs}
 use Rattle.macho_linking.specs.steps.Unwritten.{UnwrittenStands, refusal_of}
 use Rattle.macho_linking.specs.steps.Imaged.{StandsAlways, IsToSize, HasSizes, IsToAnswer}
-use Rattle.macho_linker.specs.declared.asked.LinkAsked.{LinkAsked}
-use Rattle.macho_linker.specs.Asked.{link_asked, IsGiven}
-use Rattle.macho_linking.proofs.Given.{inputs_given}
+use Rattle.macho_linker.specs.Held.{IsHeld}
 
--- What holds of every link that is asked for: its objects are objects, made of bytes, and its names can be written.
+-- What holds of every link that a linker holds: its objects are objects, made of bytes, and its names can be written.
 pub record IsFine (l : Link) : Type 0 where
   pub objects : ObjectsAreRead l
   pub bytes : ObjectsAreBytes l
   pub name : bad_name l ≡ false
 
-pub fine_link : (a : LinkAsked) → IsGiven a → All HasBytes (link_asked a).inputs → IsFine (link_asked a)
-fine_link a given bytes = record {
-  objects = inputs_are_read (link_asked a) (inputs_given a given);
-  bytes = inputs_are_bytes (link_asked a) bytes;
-  name = given.names;
-}
+pub fine_link : (l : Link) → IsHeld l → All HasBytes l.inputs → IsFine l
+fine_link l held bytes =
+    record { objects = inputs_are_read l held.inputs; bytes = inputs_are_bytes l bytes; name = held.names }
 
 -- a refusal that stands is the link's
-pub refused : {X : Type 0} (l : Link) (r : Result X LinkError) → IsFine l → IfErr r (StandsAlways l) → IfErr r (IsRefused l)
-refused l (Ok x) fine stands = tt
-refused l (Err e) fine stands = standing_is_told l e fine.objects fine.bytes fine.name stands
-
 pub refused_with : {X : Type 0} (l : Link) (r : Result X LinkError) (e : LinkError) → IsFine l → IsErrAnd r (λ x. x ≡ e) → StandsAlways l e
     → IfErr r (IsRefused l)
 refused_with l (Ok x) e fine told stands = absurd told
@@ -106,13 +96,6 @@ unwritten_stands l read s (Unmade made.TooLarge) h stands = late l h.kept s (Ima
 unwritten_stands l read s (Unmade made.OutOfMemory) h stands = λ counts are. tt
 unwritten_stands l read s OutOfMemory h stands = λ counts are. tt
 
--- want of memory is free
-pub refused_memory : {X : Type 0} (l : Link) (r : Result X LinkError) → IsFine l → IfErr r (λ e. e ≡ error.OutOfMemory)
-    → IfErr r (IsRefused l)
-refused_memory l (Ok x) fine is = tt
-refused_memory l (Err e) fine is =
-    standing_is_told l e fine.objects fine.bytes fine.name (subst (StandsAlways l) (sym is) (λ counts are. tt))
-
 -- what was sized is planned
 pub planned : (l : Link) (b : Planned) → AreInputs l b → IsReadOf l b.read.now → AreKnown b.views.now b.read.now
     → HasSizes l b.read.now b.sized.now
@@ -121,7 +104,7 @@ planned l b inputs read known sizes =
     record { inputs = inputs; read = read; known = known; kept = sizes.kept; exports = sizes.exports; sized = sizes.sizes }
 
 -- what was viewed and read, with its sizes, is planned
-pub to_planned : (l : Link) (b : Planned) → l ≡ link_asked b.asked.now
+pub to_planned : (l : Link) (b : Planned) → l ≡ b.linker.now
     → IsToSize l b.views.now b.objects.now (option_copied b.list) b.read.now (map (λ n. n.items) b.libraries.now)
     → HasSizes l b.read.now b.sized.now → IsPlanned l b
 to_planned l b arguments h sizes = planned l b (record {

@@ -1,28 +1,26 @@
 -- What is given to a link, as the passes ask for it; and answers of a link by those of its passes.
-use Rattle.std.proofs.Common.{◌≡◌, ℕ, ◌<◌, ◌^◌, ◌==◌, not, true, List, [], ◌∷◌, map, length, refl, ap, arith, All}
+use Rattle.std.proofs.Common.{◌≡◌, ℕ, ◌<◌, ◌^◌, ◌==◌, not, true, List, [], ◌∷◌, map, length, get_or, refl, ap, arith, All}
 use Rattle.std.specs.Prelude.{Option, Some, None, Result, Ok, Err, OnOk, IfErr}
 use Rattle.std.proofs.lemmas.Bool.{ne_eqb}
 use Rattle.std.proofs.lemmas.List.{length-map}
 use Rattle.std.proofs.lemmas.List.Elements.{All-map}
 use Rattle.macho_model.specs.declared.placed.Counts.{Counts}
-use Rattle.macho_model.specs.declared.targets.Limit.TheVariants as limit
 use Rattle.macho_model.specs.Links.{Link}
-use Rattle.macho_model.specs.Needs.{libraries_needed}
 use Rattle.macho_object.specs.Views.{FileBytes}
 use Rattle.macho_export_lists.specs.Entries.{ListEntries}
 use Rattle.macho_symbols.specs.Kept.{ResolvedRows, IsResolved}
 use Rattle.macho_symbols.specs.Exported.{AreLists}
 use Rattle.macho_promise.specs.Views.{object_view, views_of}
 use Rattle.macho_refusal_laws.specs.Surveys.{AreOfInputs}
-use Rattle.macho_promise.specs.Inputs.{IsInput}
+use Rattle.macho_refusal_laws.specs.Inputs.{HasBytes}
 use Rattle.macho_promise.specs.Sizes.{AreCounts}
 use Rattle.macho_answer.specs.declared.fault.LinkError.{LinkError}
-use Rattle.macho_answer.specs.declared.fault.LinkError.TheVariants as error
 use Rattle.macho_answer.specs.Standing.{Stands}
 use Rattle.macho_refusal_laws.specs.Read.{IsLinkOf, entry_of}
 use Rattle.macho_linker.specs.Owned.{input_of}
-use Rattle.macho_linker.specs.declared.asked.LinkAsked.{LinkAsked}
-use Rattle.macho_linker.specs.Asked.{link_asked, IsGiven}
+use Rattle.macho_linker.specs.declared.owned.OwnedInput.{OwnedInput}
+use Rattle.macho_linker.specs.declared.owned.OwnedInput.TheVariants as owned
+use Rattle.macho_linker.specs.Held.{IsHeld}
 use Rattle.macho_linking.specs.steps.Lists.{AreListsOf}
 use Rattle.macho_linking.specs.steps.Imaged.{StandsAlways}
 
@@ -61,13 +59,17 @@ pub stands_counted : {X : Type 0} (l : Link) (r : Result X LinkError) → ((coun
 stands_counted l (Ok x) each = tt
 stands_counted l (Err e) each = each
 
--- inputs that are what their kinds say
-pub inputs_given : (a : LinkAsked) → IsGiven a → All IsInput (link_asked a).inputs
-inputs_given a given = All-map IsInput input_of a.inputs.now given.inputs
+-- the bytes of an input that is owned are numbers below 256
+pub owned_bytes : (inputs : List OwnedInput) → All HasBytes (map input_of inputs)
+owned_bytes inputs = All-map HasBytes input_of inputs (λ k d lt. each (get_or inputs k d))
+  where
+    each : (input : OwnedInput) → HasBytes (input_of input)
+    each (owned.Object object) = object.are_bytes
+    each (owned.Dylib bytes) = tt
+    each (owned.Stub stub) = tt
 
 -- views are as few as inputs
-pub views_few : (a : LinkAsked) (views : List (Option FileBytes)) → IsGiven a → views ≡ views_of (link_asked a)
-    → length views < 2 ^ 32
-views_few a views given is =
-    let long : length views ≡ length (map object_view (map input_of a.inputs.now)) = ap length is in
-    omega (arith, long, length-map (map input_of a.inputs.now) object_view, length-map a.inputs.now input_of, given.few)
+pub views_few : (l : Link) (views : List (Option FileBytes)) → IsHeld l → views ≡ views_of l → length views < 2 ^ 32
+views_few l views held is =
+    let long : length views ≡ length (map object_view l.inputs) = ap length is in
+    omega (arith, long, length-map l.inputs object_view, held.few)

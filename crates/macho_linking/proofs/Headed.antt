@@ -3,7 +3,7 @@
 -- The entry's name leads to a part of the link, which ends below 2 ^ 64, or to nothing that moves; so its address is told as it is.
 -- Symbols and strings fill ranges that end below 2 ^ 32, so their counts are told as they are. The head's bytes end where the parts
 -- begin, in the file.
-use Rattle.std.proofs.Common.{◌≡◌, ℕ, ◌-◌, ◌<◌, ◌≤◌, ◌^◌, true, List, refl, sym, ap, subst, ◌∙◌, arith}
+use Rattle.std.proofs.Common.{◌≡◌, ℕ, ◌-◌, ◌<◌, ◌≤◌, ◌^◌, true, List, map, refl, sym, ap, subst, ◌∙◌, arith, Bor, Vec, Global}
 use Rattle.macho_model.specs.declared.placed.Counts.{Counts}
 use Rattle.macho_model.specs.declared.targets.Target.{Target}
 use Rattle.macho_model.specs.Links.{Link}
@@ -37,14 +37,15 @@ entry_low l b h defined =
     (names_have l (imports_of l) l.entry h.inputs.rules.0 defined)
 
 -- THE entry
-pub entry_is : (l : Link) (b : Planned) (look : Look) (t : Target) (n said : ℕ) → IsLooked l b look
+pub entry_is : (l : Link) (b : Planned) (look : Look) (t : Target) (n said : ℕ) (shown : List ℕ) → IsLooked l b look
+    → shown ≡ b.linker.now.entry
     → ((m : Link) (noted : List (List ℕ)) → IsResolved m noted b.read.now.needs.resolved
-    → t ≡ definition_target m noted b.asked.now.entry.now (definition_of m b.asked.now.entry.now))
+    → t ≡ definition_target m noted shown (definition_of m shown))
     → ((p : Placed) → TellsAddresses p look → (is_defined t ≡ true → address_of p t < 2 ^ 64) → n ≡ address_of p t)
     → said ≡ n - (placement_of b).base
     → said ≡ entry_said l (placement_of b)
-entry_is l b look t n said h leads stands is =
-    let name : b.asked.now.entry.now ≡ l.entry = sym (ap (λ (k : Link). k.entry) h.planned.inputs.arguments) in
+entry_is l b look t n said shown h of_linker leads stands is =
+    let name : shown ≡ l.entry = of_linker ∙ sym (ap (λ (k : Link). k.entry) h.planned.inputs.arguments) in
     let named : t ≡ target_of_name l l.entry =
     leads l (imports_of l) h.planned.read.resolved ∙ ap (target_of_name l) name in
     let low : is_defined t ≡ true → address_of (placement_of b) t < 2 ^ 64 =
@@ -71,34 +72,28 @@ strings_low l b h =
     let many = ap (λ (c : Counts). c.strings) h.sized.counted.are in
     omega (arith, kept.strings, end, many)
 
--- what the head is made of
-abbrev pub head_of : Planned → ℕ → List ℕ → ℕ → HeadParts
-head_of b entry uuid trie = record {
-  executable = b.asked.now.executable;
-  entry = entry;
-  uuid = uuid;
-  versions = b.asked.now.versions;
-  install_name = b.asked.now.install_name;
-  libraries = b.libraries;
-  rpaths = b.asked.now.rpaths;
-  trie_size = trie;
-  symbols = (counts_of b).symbols;
-  strings_size = (counts_of b).strings;
-}
+-- what the head is made of, beside what the linker shows
+pub record IsHeadOf (b : Planned) (head : HeadParts) : Type 0 where
+  pub executable : head.executable ≡ b.linker.now.executable
+  pub versions : head.versions ≡ b.linker.now.versions
+  pub install_name : head.install_name.now ≡ b.linker.now.install_name
+  pub libraries : head.libraries ≡ b.libraries
+  pub rpaths : map (λ path. path.items) head.rpaths.now ≡ b.linker.now.rpaths
+  pub symbols : head.symbols ≡ (counts_of b).symbols
+  pub strings : head.strings_size ≡ (counts_of b).strings
 
-pub head_parts : (l : Link) (b : Planned) (entry : ℕ) (uuid stamped : List ℕ) (trie : ℕ) → IsPlanned l b
-    → entry ≡ entry_said l (placement_of b)
-    → stamped ≡ uuid_written uuid → AreHeadParts l (counts_of b) uuid (placement_of b) (head_of b entry stamped trie)
-head_parts l b entry uuid stamped trie h is stamp = record {
-  executable = sym (ap (λ (k : Link). k.executable) h.inputs.arguments);
+pub head_parts : (l : Link) (b : Planned) (head : HeadParts) (uuid : List ℕ) → IsPlanned l b → IsHeadOf b head
+    → head.entry ≡ entry_said l (placement_of b) → head.uuid ≡ uuid_written uuid → AreHeadParts l (counts_of b) uuid (placement_of b) head
+head_parts l b head uuid h of_plan is stamp = record {
+  executable = of_plan.executable ∙ sym (ap (λ (k : Link). k.executable) h.inputs.arguments);
   entry = is;
   uuid_is = stamp;
-  versions = sym (ap (λ (k : Link). k.versions) h.inputs.arguments);
-  install_name = sym (ap (λ (k : Link). k.install_name) h.inputs.arguments);
-  libraries = h.inputs.libraries;
-  rpaths = sym (ap (λ (k : Link). k.rpaths) h.inputs.arguments);
-  symbols = refl;
-  strings = refl;
+  versions = of_plan.versions ∙ sym (ap (λ (k : Link). k.versions) h.inputs.arguments);
+  install_name = of_plan.install_name ∙ sym (ap (λ (k : Link). k.install_name) h.inputs.arguments);
+  libraries = ap (λ (xs : Bor (List (Vec ℕ Global))). map (λ n. n.items) xs.now) of_plan.libraries ∙ h.inputs.libraries;
+  rpaths = of_plan.rpaths ∙ sym (ap (λ (k : Link). k.rpaths) h.inputs.arguments);
+  symbols = of_plan.symbols;
+  strings = of_plan.strings;
 }
 
 -- what is owed to the writer of the head

@@ -2,7 +2,7 @@
 --
 -- The signer is the link's: the first `__TEXT` is the only one. The signature's range has just the room that its text takes. What is
 -- signed stands in front of the range, so the file has the same signature before and after it is put.
-use Rattle.std.proofs.Common.{◌≡◌, ℕ, ◌+◌, ◌<◌, ◌≤◌, ◌^◌, List, length, get_or, refl, sym, ap, subst, ◌∙◌, arith, rules, Bor}
+use Rattle.std.proofs.Common.{◌≡◌, ℕ, ◌+◌, ◌<◌, ◌≤◌, ◌^◌, List, length, get_or, refl, sym, ap, subst, ◌∙◌, arith, rules, Bor, Bool}
 use Rattle.macho_bytes.specs.Texts.{put}
 use Rattle.macho_bytes.proofs.Puts.{length-put, get_or-put_below}
 use Rattle.macho_bytes.proofs.Layouts.{length-spelling}
@@ -27,13 +27,13 @@ use Rattle.macho_wire.specs.Spellings.{code_directory_rows}
 
 -- what a signer says of a planned link
 pub record Says (b : Planned) (signer : Signer) : Type 0 where
-  pub name : signer.identifier.now ≡ last_part b.asked.now.output.now
-  pub executable : signer.executable ≡ b.asked.now.executable
+  pub name : signer.identifier.now ≡ last_part b.linker.now.output
+  pub executable : signer.executable ≡ b.linker.now.executable
   pub offset : signer.text_offset ≡ 0
   pub size : IsTextSize (placement_of b).segments signer.text_size
 
-pub says_of : (b : Planned) (signer : Signer) (segments : List PlacedSegment) → signer.identifier.now ≡ last_part b.asked.now.output.now
-    → signer.executable ≡ b.asked.now.executable
+pub says_of : (b : Planned) (signer : Signer) (segments : List PlacedSegment) → signer.identifier.now ≡ last_part b.linker.now.output
+    → signer.executable ≡ b.linker.now.executable
     → signer.text_offset ≡ 0 → segments ≡ (placement_of b).segments → IsTextSize segments signer.text_size → Says b signer
 says_of b signer segments name executable offset same size = record {
   name = name;
@@ -52,8 +52,8 @@ signs l b signer h says = record {
 }
 
 -- the signer by the parts that a planned link has
-abbrev pub signer_of : Planned → Bor (List ℕ) → ℕ → Signer
-signer_of b identifier size = record { identifier = identifier; text_offset = 0; text_size = size; executable = b.asked.now.executable }
+abbrev pub signer_of : Bor (List ℕ) → ℕ → Bool → Signer
+signer_of identifier size executable = record { identifier = identifier; text_offset = 0; text_size = size; executable = executable }
 
 -- what is owed to the one who signs
 pub record SignatureIsOwed (p : Placed) (signer : Signer) : Type 0 where

@@ -10,11 +10,10 @@ ghost use Rattle.macho_linking.specs.steps.Written.{OffsetsArePut, UnwindIsPut};
 
 use crate::fault::Unwritten;
 use crate::planned::Planned;
+use macho_contents::{file_offset, fill_contents, write_words};
 use macho_fields::Places;
 use macho_fixups::Fixup;
-use macho_promise_laws::{
-    INIT_OFFSET_SIZE, file_offset, fill_contents, unwind_section, write_initializers, write_words,
-};
+use macho_synthetic::{INIT_OFFSET_SIZE, unwind_section, write_initializers};
 use std::alloc::Global;
 
 /// Fills sections and stubs, and writes the words of the loader over them. The words are answered, by their addresses.

@@ -6,7 +6,7 @@ ghost use Rattle.macho_linking.specs.steps.Unwritten.{refusal_of};
 use macho_answer::LinkError;
 use macho_fields::FillFault;
 use macho_layout::Placement;
-use macho_promise_laws::MadeFault;
+use macho_synthetic::MadeFault;
 use std::alloc::{AllocError, AllocFailed};
 
 /// Why an image isn't written.

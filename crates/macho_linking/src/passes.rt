@@ -1,7 +1,19 @@
 //! The link as a list of passes: each takes what the passes before it made, and the first that refuses ends the link.
+//!
+//!      1  view_inputs, list_objects    the objects, as they lie in the bytes of the inputs
+//!      2  read_lists                   the export lists, as one
+//!      3  resolve_inputs               which definition each name has
+//!      4  read_link                    what the objects need: imports, slots, import jumps, initializers, unwind entries, exports
+//!      5  needed_libraries             the libraries of the image
+//!      6  kept_exports                 the exported names of the trie
+//!      7  size_link                    all sizes, the limits, and a place for each part
+//!      8  told_imports                 the imports, as they are told
+//!      9  write_image                  the bytes: contents, tables, head, signature
+//!     10  answer                       the image, with what is told beside it
 ghost use Rattle.std.specs.Prelude.{◌≡◌, ℕ, ◌+◌, ◌<◌, ◌^◌, false, List, map, length, All, IfOk, OnOk, IfErr};
 ghost use Rattle.std.specs.Option.{option_copied};
 ghost use Rattle.macho_model.specs.Links.{Link};
+ghost use Rattle.macho_model.specs.Told.{imports_told};
 ghost use Rattle.macho_promise.specs.Views.{views_of, ViewsObject};
 ghost use Rattle.macho_symbols.specs.Exported.{AreLists};
 ghost use Rattle.macho_linkedit.specs.Counting.{AreArguments};
@@ -9,23 +21,22 @@ ghost use Rattle.macho_linkedit.specs.Listing.{AreObjects};
 ghost use Rattle.macho_answer.specs.declared.fault.LinkError.TheVariants.{OutOfMemory};
 ghost use Rattle.macho_refusal_laws.specs.Inputs.{HasBytes};
 ghost use Rattle.macho_refusal_laws.specs.Read.{IsReadOf, AreKnown, entry_of};
-ghost use Rattle.macho_answer.specs.Linked.{IsImageOf, IsRefused, RefusalStands};
+ghost use Rattle.macho_answer.specs.Linked.{import_of, IsImageOf, IsRefused, RefusalStands};
 ghost use Rattle.macho_model.specs.declared.placed.Counts.{Counts};
 ghost use Rattle.macho_model.specs.Valid.{IsValid};
 ghost use Rattle.macho_promise.specs.Sizes.{AreCounts};
-ghost use Rattle.macho_linker.specs.Asked.{link_asked, IsGiven};
+ghost use Rattle.macho_linker.specs.Held.{IsHeld};
 ghost use Rattle.macho_linking.specs.steps.Imaged.{IsSingle, StandsAlways, IsToSize, HasSizes, IsMade, IsToAnswer};
 
-use crate::bytes::hold_bytes;
 use crate::fault::refusal;
 use crate::lists::read_lists;
 use crate::planned::Planned;
 use crate::write::{Written, write_image};
-use macho_answer::{LinkError, LinkedImage};
+use macho_answer::{ImportName, LinkError, LinkedImage};
 use macho_export_lists::ExportList;
 use macho_inputs::{list_objects, needed_libraries, resolve_inputs, view_inputs};
 use macho_linkedit::{LinkedObject, SizeArguments};
-use macho_linker::{LinkAsked, Linker, last_part};
+use macho_linker::{Linker, last_part};
 use macho_model::Limit;
 use macho_object::File;
 use macho_refusal_laws::{ReadLink, read_link};
@@ -34,11 +45,11 @@ use macho_symbol_tables::{kept_exports, told_imports};
 use std::alloc::Global;
 
 /// The name at which an executable begins, None for a dynamic library.
-fn entry_name<'a>(asked: &LinkAsked<'a>) -> Option<&'a [u8]>
-    ensures { option_copied result ≡ entry_of (link_asked asked.now) }
+fn entry_name(linker: &Linker) -> Option<&[u8]>
+    ensures { option_copied result ≡ entry_of linker.now }
 {
-    if asked.executable {
-        Some(asked.entry)
+    if linker.is_executable() {
+        Some(linker.entry())
     } else {
         None
     }
@@ -55,50 +66,50 @@ fn seed_of(uuid: [u8; 16]) -> u64 {
 /// Resolves the symbols of the inputs, and reads what the objects ask for.
 fn read_inputs<'a>(
     alloc: Global,
-    asked: &LinkAsked<'a>,
+    linker: &'a Linker,
     views: &[Option<File<'_>>],
     list: Option<&ExportList>,
     seed: u64,
 ) -> Result<ReadLink<'a>, LinkError>
-    requires given { IsGiven asked.now }
-    requires views { views.now ≡ views_of (link_asked asked.now) }
-    requires lists { AreLists (link_asked asked.now) (option_copied list) }
-    ensures done { IfOk result (IsReadOf (link_asked asked.now)) }
+    requires held { IsHeld linker.now }
+    requires views { views.now ≡ views_of linker.now }
+    requires lists { AreLists linker.now (option_copied list) }
+    ensures done { IfOk result (IsReadOf linker.now) }
     ensures known { IfOk result (AreKnown views.now) }
-    ensures single { OnOk result (IsSingle (link_asked asked.now)) }
-    ensures why { IfErr result (StandsAlways (link_asked asked.now)) }
+    ensures single { OnOk result (IsSingle linker.now) }
+    ensures why { IfErr result (StandsAlways linker.now) }
 {
-    let resolved = resolve_inputs(alloc, asked.inputs, seed)?;
-    read_link(alloc, resolved, views, entry_name(asked), list)
+    let resolved = resolve_inputs(alloc, linker.inputs(), seed)?;
+    read_link(alloc, resolved, views, entry_name(linker), list)
 }
 
 /// The arguments that sizes depend on.
-fn size_arguments<'a>(asked: &'a LinkAsked<'a>) -> SizeArguments<'a>
-    ensures { AreArguments (link_asked asked.now) result }
+fn size_arguments(linker: &Linker) -> SizeArguments<'_>
+    ensures { AreArguments linker.now result }
 {
     SizeArguments {
-        executable: asked.executable,
-        install_name: asked.install_name,
-        has_versions: asked.versions.is_some(),
-        rpaths: asked.rpaths,
-        headerpad: asked.headerpad,
-        name: last_part(asked.output),
+        executable: linker.is_executable(),
+        install_name: linker.install_name(),
+        has_versions: linker.versions().is_some(),
+        rpaths: linker.rpaths(),
+        headerpad: linker.headerpad(),
+        name: last_part(linker.output()),
     }
 }
 
 /// Sizes and places what was read.
 fn size_inputs<'a>(
     alloc: Global,
-    asked: &'a LinkAsked<'a>,
+    linker: &'a Linker,
     views: &'a [Option<File<'a>>],
     objects: &'a [LinkedObject<'a>],
     list: Option<&'a ExportList>,
     read: &'a ReadLink<'a>,
     libraries: &'a [Vec<u8>],
 ) -> Result<SizedLink, LinkError>
-    requires { IsToSize (link_asked asked.now) views.now objects.now (option_copied list) read.now (map (λ n. n.items) libraries.now) }
-    ensures done { IfOk result (λ sized. HasSizes (link_asked asked.now) read.now sized) }
-    ensures why { IfErr result (StandsAlways (link_asked asked.now)) }
+    requires { IsToSize linker.now views.now objects.now (option_copied list) read.now (map (λ n. n.items) libraries.now) }
+    ensures done { IfOk result (λ sized. HasSizes linker.now read.now sized) }
+    ensures why { IfErr result (StandsAlways linker.now) }
 {
     if libraries.len() >= u32::MAX as usize {
         return Err(LinkError::TooMany {
@@ -114,7 +125,7 @@ fn size_inputs<'a>(
         libraries,
     )?;
     let sizes = SizesOf {
-        arguments: size_arguments(asked),
+        arguments: size_arguments(linker),
         libraries,
         views,
         objects,
@@ -130,7 +141,7 @@ fn size_inputs<'a>(
 #[derive(Clone, Copy)]
 struct Viewed<'a> {
     /// What is linked.
-    asked: &'a LinkAsked<'a>,
+    linker: &'a Linker,
     /// Views of the objects by the numbers of their files, None of another input.
     views: &'a [Option<File<'a>>],
     /// The objects, each with its number.
@@ -139,11 +150,12 @@ struct Viewed<'a> {
     list: Option<&'a ExportList>,
 }
 
-/// The image of a link, with its sizes and its placement.
+/// The image of a link, with its sizes and its placement, and what is told of its imports.
 #[derive(Drop)]
 struct Made {
     written: Written,
     sized: SizedLink,
+    imports: Vec<ImportName>,
 }
 
 /// Sizes and places a link that was read, and writes its image.
@@ -154,28 +166,30 @@ fn make_image(
     libraries: &[Vec<u8>],
     uuid: [u8; 16],
 ) -> Result<Made, LinkError>
-    requires { IsToSize (link_asked viewed.now.asked.now) viewed.now.views.now viewed.now.objects.now (option_copied viewed.now.list)
+    requires { IsToSize viewed.now.linker.now viewed.now.views.now viewed.now.objects.now (option_copied viewed.now.list)
         read.now (map (λ n. n.items) libraries.now) }
-    ensures done { IfOk result (λ made. IsMade (link_asked viewed.now.asked.now) uuid read.now made.written made.sized) }
-    ensures why { IfErr result (StandsAlways (link_asked viewed.now.asked.now)) }
+    ensures done { IfOk result (λ made. IsMade viewed.now.linker.now uuid read.now made.written made.sized) }
+    ensures told { IfOk result (λ made. map import_of made.imports.items ≡ imports_told viewed.now.linker.now) }
+    ensures why { IfErr result (StandsAlways viewed.now.linker.now) }
 {
     let Viewed {
-        asked,
+        linker,
         views,
         objects,
         list,
     } = *viewed;
     let sized = size_inputs(
         alloc,
-        &*asked,
+        &*linker,
         &*views,
         &*objects,
         list,
         &*read,
         &*libraries,
     )?;
+    let imports = told_imports(alloc, read.needs.resolved.imports(), &*libraries)?;
     let planned = Planned {
-        asked,
+        linker,
         views,
         objects,
         list,
@@ -184,34 +198,33 @@ fn make_image(
         sized: &sized,
     };
     match write_image(alloc, &planned, uuid) {
-        Ok(written) => Ok(Made { written, sized }),
+        Ok(written) => Ok(Made {
+            written,
+            sized,
+            imports,
+        }),
         Err(fault) => Err(refusal(fault, sized.placement)),
     }
 }
 
 /// The image with what is told beside its bytes.
-fn answer(
-    alloc: Global,
-    made: Made,
-    read: ReadLink<'_>,
-    libraries: Vec<Vec<u8>>,
-) -> Result<LinkedImage, LinkError>
-    requires few { length libraries.items + 1 < 2 ^ 32 }
-    ensures done { (l : Link) (uuid : List ℕ) → IsToAnswer l uuid made.written made.sized read.entry (map (λ n. n.items) libraries.items)
-        → IfOk result (IsImageOf l uuid) }
-    ensures why { IfErr result (λ e. e ≡ OutOfMemory) }
+fn answer(made: Made, read: ReadLink<'_>, libraries: Vec<Vec<u8>>) -> LinkedImage
+    ensures { (l : Link) (uuid : List ℕ) → IsToAnswer l uuid made.written made.sized read.entry (map (λ n. n.items) libraries.items)
+        → map import_of made.imports.items ≡ imports_told l → IsImageOf l uuid result }
 {
-    let Made { written, sized } = made;
-    let ReadLink { needs, exports, .. } = read;
-    let imports = told_imports(alloc, needs.resolved.imports(), &libraries)?;
-    Ok(LinkedImage {
+    let Made {
+        written,
+        sized,
+        imports,
+    } = made;
+    LinkedImage {
         bytes: written.bytes,
         placement: sized.placement,
         libraries,
         imports,
-        exports,
+        exports: read.exports,
         fixups: written.fixups,
-    })
+    }
 }
 
 /// Makes the image of a link that was read, and answers it.
@@ -222,54 +235,49 @@ fn link_read(
     libraries: Vec<Vec<u8>>,
     uuid: [u8; 16],
 ) -> Result<LinkedImage, LinkError>
-    requires given { IsGiven viewed.now.asked.now }
-    requires bytes { All HasBytes (link_asked viewed.now.asked.now).inputs }
-    requires read_is { IsToSize (link_asked viewed.now.asked.now) viewed.now.views.now viewed.now.objects.now
+    requires held { IsHeld viewed.now.linker.now }
+    requires bytes { All HasBytes viewed.now.linker.now.inputs }
+    requires read_is { IsToSize viewed.now.linker.now viewed.now.views.now viewed.now.objects.now
         (option_copied viewed.now.list) read (map (λ n. n.items) libraries.items) }
-    requires single { IsSingle (link_asked viewed.now.asked.now) }
-    ensures done { IfOk result (IsImageOf (link_asked viewed.now.asked.now) uuid) }
-    ensures why { IfErr result (IsRefused (link_asked viewed.now.asked.now)) }
+    requires single { IsSingle viewed.now.linker.now }
+    ensures done { IfOk result (IsImageOf viewed.now.linker.now uuid) }
+    ensures why { IfErr result (IsRefused viewed.now.linker.now) }
 {
     let made = make_image(alloc, viewed, &read, &libraries, uuid)?;
-    answer(alloc, made, read, libraries)
+    Ok(answer(made, read, libraries))
 }
 
 /// Reads a link that was viewed, and answers its image.
 fn link_viewed(alloc: Global, viewed: &Viewed<'_>, uuid: [u8; 16]) -> Result<LinkedImage, LinkError>
-    requires given { IsGiven viewed.now.asked.now }
-    requires bytes { All HasBytes (link_asked viewed.now.asked.now).inputs }
-    requires views { (viewed.now.views.now ≡ views_of (link_asked viewed.now.asked.now)) × All ViewsObject viewed.now.views.now }
-    requires objects { AreObjects (link_asked viewed.now.asked.now) viewed.now.objects.now
+    requires held { IsHeld viewed.now.linker.now }
+    requires bytes { All HasBytes viewed.now.linker.now.inputs }
+    requires views { (viewed.now.views.now ≡ views_of viewed.now.linker.now) × All ViewsObject viewed.now.views.now }
+    requires objects { AreObjects viewed.now.linker.now viewed.now.objects.now
         × All (λ o. o.file.is_dynamic ≡ false) viewed.now.objects.now }
-    requires lists { AreLists (link_asked viewed.now.asked.now) (option_copied viewed.now.list) }
-    ensures done { IfOk result (IsImageOf (link_asked viewed.now.asked.now) uuid) }
-    ensures why { IfErr result (IsRefused (link_asked viewed.now.asked.now)) }
+    requires lists { AreLists viewed.now.linker.now (option_copied viewed.now.list) }
+    ensures done { IfOk result (IsImageOf viewed.now.linker.now uuid) }
+    ensures why { IfErr result (IsRefused viewed.now.linker.now) }
 {
-    let asked = viewed.asked;
+    let linker = viewed.linker;
     let seed = seed_of(uuid);
-    let read = read_inputs(alloc, asked, viewed.views, viewed.list, seed)?;
+    let read = read_inputs(alloc, linker, viewed.views, viewed.list, seed)?;
     let symbols = &read.needs.resolved;
-    let libraries = needed_libraries(alloc, symbols, asked.dead_strip_dylibs)?;
+    let libraries = needed_libraries(alloc, symbols, linker.dead_strip_dylibs())?;
     link_read(alloc, viewed, read, libraries, uuid)
 }
 
 /// Links what is held, pass by pass.
-fn link_given(
-    alloc: Global,
-    asked: &LinkAsked<'_>,
-    uuid: [u8; 16],
-) -> Result<LinkedImage, LinkError>
-    requires { IsGiven asked.now }
-    ensures done { IfOk result (IsImageOf (link_asked asked.now) uuid) }
-    ensures why { IfErr result (IsRefused (link_asked asked.now)) }
+fn link_held(alloc: Global, linker: &Linker, uuid: [u8; 16]) -> Result<LinkedImage, LinkError>
+    ensures done { IfOk result (IsImageOf linker.now uuid) }
+    ensures why { IfErr result (IsRefused linker.now) }
 {
-    hold_bytes(asked.inputs);
-    let views = view_inputs(alloc, asked.inputs)?;
-    let objects = list_objects(alloc, asked.inputs)?;
-    let list = read_lists(alloc, asked.export_lists)?;
+    let inputs = linker.inputs();
+    let views = view_inputs(alloc, inputs)?;
+    let objects = list_objects(alloc, inputs)?;
+    let list = read_lists(alloc, linker.export_lists())?;
     let list = list.as_ref();
     let viewed = Viewed {
-        asked: &*asked,
+        linker: &*linker,
         views: &views,
         objects: &objects,
         list,
@@ -305,7 +313,7 @@ pub fn link(alloc: Global, linker: &Linker, uuid: [u8; 16]) -> Result<LinkedImag
     // A valid link is refused for want of memory alone.
     ensures complete { (counts : Counts) → AreCounts linker.now counts → IsValid linker.now counts → IfErr result (λ e. e ≡ OutOfMemory) }
 {
-    match link_given(alloc, &linker.asked(), uuid) {
+    match link_held(alloc, linker, uuid) {
         Ok(image) => Ok(image),
         Err(error) => Err(refusal_of(error)),
     }

@@ -1,7 +1,7 @@
 //! A link with its sizes and its placement: what its image is written from.
 use macho_export_lists::ExportList;
 use macho_linkedit::LinkedObject;
-use macho_linker::LinkAsked;
+use macho_linker::Linker;
 use macho_object::File;
 use macho_refusal_laws::ReadLink;
 use macho_sizing::SizedLink;
@@ -10,7 +10,7 @@ use macho_sizing::SizedLink;
 #[derive(Clone, Copy)]
 pub(crate) struct Planned<'a> {
     /// What is linked.
-    pub(crate) asked: &'a LinkAsked<'a>,
+    pub(crate) linker: &'a Linker,
     /// Views of the objects by the numbers of their files, None of another input.
     pub(crate) views: &'a [Option<File<'a>>],
     /// The objects, each with its number.

@@ -56,7 +56,7 @@ fn entry_offset<P: Places>(b: &Planned<'_>, places: &P) -> u64
     requires link { (l : Link) × IsLooked l b.now (P.look places.now) }
     ensures { (l : Link) → IsLooked l b.now (P.look places.now) → result ≡ entry_said l (placement_of b.now) }
 {
-    let target = b.read.needs.resolved.definition(b.asked.entry);
+    let target = b.read.needs.resolved.definition(b.linker.entry());
     place_of(places, target).saturating_sub(b.sized.placement.base)
 }
 
@@ -77,13 +77,13 @@ pub(crate) fn write_head<P: Places>(
         → OnOk result (HeadIsWritten l (counts_of b.now) uuid (placement_of b.now) trie out.old out.new) }
 {
     let parts = HeadParts {
-        executable: b.asked.executable,
+        executable: b.linker.is_executable(),
         entry: entry_offset(b, places),
         uuid: stamped_uuid(uuid),
-        versions: b.asked.versions,
-        install_name: b.asked.install_name,
+        versions: b.linker.versions(),
+        install_name: b.linker.install_name(),
         libraries: b.libraries,
-        rpaths: b.asked.rpaths,
+        rpaths: b.linker.rpaths(),
         trie_size: trie as u32,
         symbols: b.sized.counts.symbols as u32,
         strings_size: b.sized.counts.strings as u32,
@@ -99,10 +99,10 @@ pub(crate) fn sign(b: &Planned<'_>, out: &mut [u8])
 {
     let placement = &b.sized.placement;
     let signer = Signer {
-        identifier: last_part(b.asked.output),
+        identifier: last_part(b.linker.output()),
         text_offset: 0,
         text_size: text_size(&placement.segments),
-        executable: b.asked.executable,
+        executable: b.linker.is_executable(),
     };
     sign_file(out, placement.linkedit.signature.start as usize, &signer);
 }

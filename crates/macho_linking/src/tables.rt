@@ -7,12 +7,13 @@ ghost use Rattle.macho_linking.specs.steps.Planned.{IsPlanned, IsLooked, KnowsAl
 ghost use Rattle.macho_linking.specs.steps.Written.{FixupsArePut, TrieIsPut, SymbolsArePut};
 
 use crate::planned::Planned;
+use macho_contents::write_fixup_table;
 use macho_fields::Places;
 use macho_fixups::Fixup;
 use macho_linkedit::import_table;
-use macho_promise_laws::{Tables, write_fixup_table};
 use macho_symbol_tables::{said_exports, write_symbol_table};
 use macho_symbols::OwnEntry;
+use macho_synthetic::Tables;
 use std::alloc::{AllocError, Global};
 
 /// The entries of the import table that pointers need of their own.

@@ -12,8 +12,9 @@ use crate::planned::Planned;
 use crate::refused::try_contents;
 use crate::sealing::{sign, write_head};
 use crate::tables::{write_imports, write_symbols, write_trie};
+use macho_contents::LinkPlaces;
 use macho_fields::Places;
-use macho_promise_laws::{LinkPlaces, written_files_are_linked};
+use macho_promise_laws::written_files_are_linked;
 use std::alloc::Global;
 
 /// The bytes of an image, and how many words the loader writes.

@@ -18,7 +18,7 @@ use Rattle.macho_image_walks.specs.Readings.{IsNth, HasWord, segment_there, tabl
 use Rattle.macho_image_walks.specs.Tests.{page_holds}
 use Rattle.macho_image_walks.specs.steps.Walks.{Leads}
 use Rattle.macho_image_walks.specs.steps.Walks as walks
-use Rattle.macho_image_walks.specs.steps.WordTests.{address_in, FitFrom, UnfitFrom}
+use Rattle.macho_image_walks.specs.steps.WordTests.{address_in, FitFrom}
 use Rattle.macho_model.proofs.Apart.{Holds_address, all_rise, one_holds}
 use Rattle.macho_image_walks.proofs.NumberedWalk.{word_in_segment, segment_has_word, nth_number}
 use Rattle.macho_image_walks.proofs.WordWalk.{leads_more, starts_found, start_is}

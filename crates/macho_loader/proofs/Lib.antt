@@ -2,6 +2,7 @@ pub mod Cursors
 pub mod NameEnds
 pub mod ListWalks
 pub mod ChainWalks
+pub mod BlankRecords
 pub mod Segments
 pub mod ChainLookups
 pub mod CommandLists

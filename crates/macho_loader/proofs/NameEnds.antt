@@ -3,11 +3,9 @@
 -- A name that begins at or in front of a NUL ends: the part of it before its first NUL is shorter than all of it. A name
 -- behind the last NUL has none: it is all of what is left. So a name ends exactly where it begins in front of the place
 -- behind the last NUL.
-use Rattle.std.proofs.Common.{◌≡◌, ℕ, ◌+◌, ◌-◌, ◌<◌, ◌≤◌, ◌==◌, true, false, List, length, drop, slice_index, inl, inr, sym, ap, ◌∙◌, arith, eq-eqb, length-take, length-drop, get_or-drop}
-use Rattle.std.specs.List.{position_or_len}
+use Rattle.std.proofs.Common.{◌≡◌, ℕ, ◌+◌, ◌-◌, ◌≤◌, false, List, length, drop, slice_index, inl, inr, sym, ap, ◌∙◌, arith, eq-eqb, length-drop, get_or-drop}
 use Rattle.std.proofs.lemmas.Bool.{cases_lt, lt-ltb, le-ltb, eqb-true}
 use Rattle.memchr.specs.Find.{NoneAfter, Nowhere, Passes, is_byte}
-use Rattle.macho_bytes.specs.Texts.{name_of}
 use Rattle.macho_model.specs.ObjectRules.{has_nul}
 use Rattle.macho_loader.specs.steps.Names.{EndsBelow}
 use Rattle.macho_model.proofs.Strings.{nul_ends, nul_missing}

@@ -4,3 +4,4 @@ pub mod Names
 pub mod Words
 pub mod Held
 pub mod Listing
+pub mod Blank

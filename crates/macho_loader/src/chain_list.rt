@@ -83,6 +83,9 @@ fn kind_of(bytes: &[u8], table: u64, base: u64, word: u64) -> LineKind
 }
 
 /// Lists the word at an offset in a segment, and those of its page that it leads to.
+///
+/// Words begin at least 4 bytes apart. So more of them than a quarter of the file's bytes stand only in segments that share
+/// bytes of the file, and no memory is taken for more: a small file could have any number.
 fn list_from(
     bytes: &[u8],
     walk: Walk,
@@ -98,6 +101,9 @@ fn list_from(
 {
     let mut offset = from;
     'words: loop {
+        if lines.len() > bytes.len() / 4 {
+            return Err(AllocError);
+        }
         let word = u64_from(bytes, walk.numbers.file_offset, offset);
         lines.push(FixupLine {
             address: walk.numbers.address + offset,
@@ -150,6 +156,9 @@ fn list_segment(
         numbers: segment_at(bytes, segment.place),
         base,
     };
+    if walk.numbers.size == 0 {
+        return Ok(());
+    }
     for page in 0..pages_in(bytes, segment.table, segment.number) {
         list_page(bytes, walk, page, lines)?;
     }

@@ -11,6 +11,7 @@
 #![tactic(auto)]
 
 mod accept;
+mod blank;
 mod chain_list;
 mod command_rules;
 mod commands;
@@ -20,6 +21,7 @@ mod import_rules;
 mod imports;
 mod loaded;
 mod table_rules;
+mod texts;
 mod word_rules;
 
 pub use accept::LoadFault;
@@ -29,3 +31,4 @@ pub use fixups::LoadedFixup;
 pub use imports::LoadedImport;
 pub use loaded::Loaded;
 pub use macho_model::LoadRule;
+pub use texts::rule_text;

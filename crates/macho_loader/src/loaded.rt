@@ -130,7 +130,8 @@ impl<'a> Loaded<'a> {
     }
 
     /// The ranges of the file that the load commands of a number give, in order: for a table of `__LINKEDIT`, as an exports
-    /// trie.
+    /// trie. Of commands with another record the places are right, and what is called a range is their third and fourth
+    /// words.
     pub fn ranges(&self, alloc: Global, number: u32) -> Result<Vec<LinkeditRange>, AllocError>
         ensures { IfOk result (λ v. v.items ≡ map (range_of self.now) (numbered number self.now)) }
     {
@@ -138,7 +139,9 @@ impl<'a> Loaded<'a> {
     }
 
     /// What the loader makes of each word on the chains, by rising addresses: a value at the image's own address, or the
-    /// number of an import and what is added to its address.
+    /// number of an import and what is added to its address. The answer is want of memory where there are more than a
+    /// quarter of the bytes of the file: words begin at least 4 bytes apart, so only segments that share bytes of the file
+    /// have more.
     pub fn fixups(&self, alloc: Global) -> Result<Vec<FixupLine>, AllocError>
         ensures { IfOk result (λ v. AreFixups self.now v.items) }
     {

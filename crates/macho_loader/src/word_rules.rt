@@ -10,7 +10,9 @@ ghost use Rattle.macho_image_walks.specs.Readings.{IsNth, segment_there, starts_
 ghost use Rattle.macho_image_walks.specs.steps.WordTests.{address_in, UnfitFrom, FitFrom, UnfitOnPage, FitOnPage, EachWordFits};
 ghost use Rattle.macho_image_walks.specs.declared.walk.Listed.TheVariants as list;
 ghost use Rattle.macho_loader.specs.steps.Words.{StandApart, IsChained, IsFittingWord};
+ghost use Rattle.macho_loader.specs.steps.Blank.{AreBlank};
 
+use crate::blank::{Blank, no_records};
 use crate::cursor::{first, step_from};
 use macho_image_walks::{
     Listed, binds, nth, ordinal, page_has, pages_in, segment_at, start_of_page, steps_of, table_at,
@@ -111,6 +113,21 @@ fn unfit_on_segment(bytes: &[u8], segment: Chained) -> Option<u64>
     None
 }
 
+/// The same; no page is walked where the segment's record of starts is known to have none.
+fn unfit_by_record(bytes: &[u8], segment: Chained, blank: &mut Blank) -> Option<u64>
+    requires apart { StandApart bytes.now }
+    requires chained { IsChained bytes.now segment }
+    requires blank { AreBlank bytes.now segment.table blank.old }
+    ensures blank { AreBlank bytes.now segment.table blank.new }
+    ensures found { (x : ℕ) → result ≡ Some x → WordFails bytes.now x }
+    ensures only { result ≡ None → (page : ℕ) → FitOnPage bytes.now segment.number segment.place page }
+{
+    if blank.holds(bytes, segment) {
+        return None;
+    }
+    unfit_on_segment(bytes, segment)
+}
+
 /// The file offset of the first chain word that does not fit, by the fixup table of a command.
 fn first_unfit_in(bytes: &[u8], table: u64) -> Option<u64>
     requires apart { StandApart bytes.now }
@@ -119,13 +136,14 @@ fn first_unfit_in(bytes: &[u8], table: u64) -> Option<u64>
     ensures only { result ≡ None → EachWordFits bytes.now }
 {
     let mut at = first();
+    let mut blank = no_records(bytes, table);
     while let Some(step) = step_from(bytes, Listed::Segments, at) {
         let segment = Chained {
             table,
             number: at.number,
             place: step.place,
         };
-        if let Some(word) = unfit_on_segment(bytes, segment) {
+        if let Some(word) = unfit_by_record(bytes, segment, &mut blank) {
             return Some(word);
         }
         at = step.next;

@@ -1,5 +1,3 @@
-pub mod Prints
-pub mod Pushes
 pub mod Words
 pub mod Listed
 pub use Rattle.macho_job.proofs.Sure

@@ -1,6 +1,7 @@
 pub mod Lines
-pub mod Printing
 pub mod steps
+-- what a sink says of a text that is printed, of the crate below
+pub use Rattle.macho_printing.specs.Printing
 -- the job of a run, of the crate below
 pub use Rattle.macho_job.specs.Job
 pub use Rattle.macho_job.specs.Causes

@@ -4,7 +4,6 @@ use Rattle.std.specs.Option.{option_map_or}
 use Rattle.std.specs.List.{flat_map}
 use Rattle.hex.specs.Hex.{encode_lower}
 use Rattle.sha2.specs.Sha256.{sha256}
-use Rattle.byteorder.specs.Endian.{big_bytes}
 use Rattle.macho_bytes.specs.Texts.{name_of}
 use Rattle.macho_args.specs.Settings.{Settings, Input}
 use Rattle.macho_args.specs.declared.fault.ArgsFault.{ArgsFault}
@@ -29,6 +28,7 @@ use Rattle.macho_answer.specs.declared.fault.LinkError.TheVariants as error
 use Rattle.macho_answer.specs.declared.fault.InputFault.TheVariants as input
 use Rattle.macho_answer.specs.Errors.{fault_of}
 use Rattle.macho_answer.specs.declared.image.LinkedImage.{LinkedImage}
+use Rattle.macho_printing.specs.Printing.{hex_text}
 use Rattle.macho_job.specs.Names.{file_name, last_name}
 use Rattle.macho_job.specs.declared.fault.Fault.{Fault}
 use Rattle.macho_job.specs.declared.fault.Fault.TheVariants.{MissingFile, UnknownKind, Input as InputRefused, Link as LinkRefused, Words, Read, Write, Print, OutOfMemory}
@@ -161,10 +161,6 @@ fault_text inputs lists paths OutOfMemory = codes "out of memory" ∷ []
 -- THE line of a text: the program's name before it, and a line feed behind it
 abbrev pub line_of : List (List ℕ) → List ℕ
 line_of text = flat_map (λ piece. piece) (codes "wild_macho: " ∷ (text ++ codes "\n" ∷ []))
-
--- a number as `0x` and its 16 digits
-abbrev pub hex_text : ℕ → List ℕ
-hex_text n = codes "0x" ++ encode_lower (big_bytes 8 n)
 
 -- THE line of a placed section in the map: its address, the size, segment and name of its header, and the path of its file
 abbrev pub map_line : Link → List (List ℕ) → PlacedSection → List ℕ

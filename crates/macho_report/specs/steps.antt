@@ -1,4 +1,3 @@
 -- The code's own steps: what private functions say. No clause of a public function cites them.
 pub mod Groups
-pub mod Pushes
 pub mod Sections

@@ -4,10 +4,8 @@
 //! from `macho_job`.
 #![tactic(auto)]
 
-mod line_buffer;
 mod lines;
 mod map;
-mod pieces;
 mod refusals;
 mod report;
 mod rules;

@@ -7,7 +7,7 @@ ghost use Rattle.macho_model.specs.Links.{carried_of};
 ghost use Rattle.macho_model.specs.Placement.{id_of};
 ghost use Rattle.macho_job.specs.Names.{names_of};
 ghost use Rattle.macho_report.specs.Lines.{map_line, run_lines};
-ghost use Rattle.macho_report.specs.Printing.{IsPrinted};
+ghost use Rattle.macho_printing.specs.Printing.{IsPrinted};
 
 use crate::map::print_map;
 use crate::totals::print_totals;
@@ -29,7 +29,7 @@ pub fn print_lines<O: Sink>(
     image: &LinkedImage,
 ) -> Result<(), SinkFault>
     requires { map id_of image.now.placement.sections.items ≡ carried_of linker.now }
-    ensures printed { IsPrinted (O.taken out.old) (O.taken out.new) (O.faults out.old) (O.faults out.new)
+    ensures printed { IsPrinted (O.state out.old) (O.state out.new)
         (run_lines (settings_of args.now) linker.now (names_of names.now) image.now) result }
 
     // Where no lines are asked for, nothing is printed.
@@ -48,7 +48,7 @@ fn print_wanted<O: Sink>(
     sections: &[PlacedSection],
 ) -> Result<(), SinkFault>
     requires { map id_of sections.now ≡ carried_of linker.now }
-    ensures printed { IsPrinted (O.taken out.old) (O.taken out.new) (O.faults out.old) (O.faults out.new)
+    ensures printed { IsPrinted (O.state out.old) (O.state out.new)
         (if wanted then flat_map (map_line linker.now (names_of names.now)) sections.now else []) result }
     ensures silent { wanted ≡ false → IsOk result × (out.new ≡ out.old) }
 {

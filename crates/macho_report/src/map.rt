@@ -9,17 +9,15 @@ ghost use Rattle.macho_model.specs.Links.{Link, header_at, carried_of};
 ghost use Rattle.macho_model.specs.Objects.{num_sections, section_at};
 ghost use Rattle.macho_model.specs.Placement.{id_of};
 ghost use Rattle.macho_job.specs.Names.{names_of};
-ghost use Rattle.macho_report.specs.Lines.{hex_text, map_line};
-ghost use Rattle.macho_report.specs.Printing.{IsPrinted};
-ghost use Rattle.macho_report.specs.steps.Pushes.{IsPushed};
+ghost use Rattle.macho_printing.specs.Printing.{IsPrinted, IsPushed, held_in, hex_text};
+ghost use Rattle.macho_report.specs.Lines.{map_line};
 ghost use Rattle.macho_report.specs.steps.Sections.{HasSection, IsViewed};
 
-use crate::line_buffer::LineBuffer;
-use crate::pieces::{Piece, push_pieces};
 use macho_devices::{Sink, SinkFault};
 use macho_job::{FileNames, InputView, Linker};
 use macho_layout::PlacedSection;
 use macho_object::File;
+use macho_printing::{LineBuffer, Piece, push_pieces};
 use macho_records::{SectionHeader, name_bytes};
 
 /// Prints a line for each placed section. Where the sink fails, nothing more is printed.
@@ -30,7 +28,7 @@ pub(crate) fn print_map<O: Sink>(
     sections: &[PlacedSection],
 ) -> Result<(), SinkFault>
     requires { map id_of sections.now ≡ carried_of linker.now }
-    ensures { IsPrinted (O.taken out.old) (O.taken out.new) (O.faults out.old) (O.faults out.new)
+    ensures { IsPrinted (O.state out.old) (O.state out.new)
         (flat_map (map_line linker.now (names_of names.now)) sections.now) result }
 {
     let mut lines = LineBuffer::new();
@@ -55,8 +53,8 @@ fn push_sections<O: Sink>(
     sections: &[PlacedSection],
 ) -> Result<(), SinkFault>
     requires { map id_of sections.now ≡ carried_of linker.now }
-    ensures { IsPushed (O.taken out.old) (O.taken out.new) (O.faults out.old) (O.faults out.new)
-        lines.old.held.items lines.new.held.items
+    ensures { IsPushed (O.state out.old) (O.state out.new)
+        (held_in lines.old) (held_in lines.new)
         (flat_map (map_line linker.now (names_of names.now)) sections.now) result }
 {
     let mut last = None;
@@ -120,8 +118,8 @@ fn push_section<O: Sink>(
     header: SectionHeader,
 ) -> Result<(), SinkFault>
     ensures { (l : Link) → header ≡ header_at l (id_of section.now)
-        → IsPushed (O.taken out.old) (O.taken out.new) (O.faults out.old) (O.faults out.new)
-        lines.old.held.items lines.new.held.items (map_line l (names_of names.now) section.now) result }
+        → IsPushed (O.state out.old) (O.state out.new)
+        (held_in lines.old) (held_in lines.new) (map_line l (names_of names.now) section.now) result }
 {
     let segment = name_bytes(&header.segname);
     let name = name_bytes(&header.sectname);
@@ -147,8 +145,8 @@ fn push_row<'a, O: Sink>(
     name: &'a [u8],
     path: &'a [u8],
 ) -> Result<(), SinkFault>
-    ensures { IsPushed (O.taken out.old) (O.taken out.new) (O.faults out.old) (O.faults out.new)
-        lines.old.held.items lines.new.held.items
+    ensures { IsPushed (O.state out.old) (O.state out.new)
+        (held_in lines.old) (held_in lines.new)
         (flat_map (λ piece. piece) (hex_text address ∷ codes " " ∷ hex_text size ∷ codes " " ∷ segment.now ∷ codes "," ∷ name.now
         ∷ codes " " ∷ path.now ∷ codes "\n" ∷ [])) result }
 {

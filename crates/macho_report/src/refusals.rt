@@ -4,7 +4,7 @@ ghost use Rattle.std.specs.Prelude.{◌≡◌, true};
 ghost use Rattle.macho_answer.specs.declared.fault.LinkError.TheVariants.{BadInput};
 ghost use Rattle.macho_job.specs.Names.{names_of};
 ghost use Rattle.macho_report.specs.Lines.{line_of, error_text, site_text};
-ghost use Rattle.macho_report.specs.Printing.{IsPrinted};
+ghost use Rattle.macho_printing.specs.Printing.{IsPrinted};
 ghost use Rattle.macho_report.specs.steps.Groups.{is_of_name, is_of_section, is_of_relocation};
 
 use crate::rules::{limit_name, object_rule, stub_rule, unwind_rule};
@@ -22,7 +22,7 @@ pub(crate) fn print_error<E: Sink>(
     names: &FileNames,
     error: &LinkError,
 ) -> Result<(), SinkFault>
-    ensures { IsPrinted (E.taken err.old) (E.taken err.new) (E.faults err.old) (E.faults err.new)
+    ensures { IsPrinted (E.state err.old) (E.state err.new)
         (line_of (error_text (names_of names.now) error.now)) result }
 {
     match error {
@@ -53,7 +53,7 @@ fn print_of_name<E: Sink>(
     error: &LinkError,
 ) -> Result<(), SinkFault>
     requires { is_of_name error.now ≡ true }
-    ensures { IsPrinted (E.taken err.old) (E.taken err.new) (E.faults err.old) (E.faults err.new)
+    ensures { IsPrinted (E.state err.old) (E.state err.new)
         (line_of (error_text (names_of names.now) error.now)) result }
 {
     match error {
@@ -82,7 +82,7 @@ fn print_of_section<E: Sink>(
     error: &LinkError,
 ) -> Result<(), SinkFault>
     requires { is_of_section error.now ≡ true }
-    ensures { IsPrinted (E.taken err.old) (E.taken err.new) (E.faults err.old) (E.faults err.new)
+    ensures { IsPrinted (E.state err.old) (E.state err.new)
         (line_of (error_text (names_of names.now) error.now)) result }
 {
     match error {
@@ -114,7 +114,7 @@ fn print_of_relocation<E: Sink>(
     error: &LinkError,
 ) -> Result<(), SinkFault>
     requires { is_of_relocation error.now ≡ true }
-    ensures { IsPrinted (E.taken err.old) (E.taken err.new) (E.faults err.old) (E.faults err.new)
+    ensures { IsPrinted (E.state err.old) (E.state err.new)
         (line_of (error_text (names_of names.now) error.now)) result }
 {
     match error {
@@ -153,7 +153,7 @@ fn print_broken<E: Sink>(
     names: &FileNames,
     fault: &InputFault,
 ) -> Result<(), SinkFault>
-    ensures { IsPrinted (E.taken err.old) (E.taken err.new) (E.faults err.old) (E.faults err.new)
+    ensures { IsPrinted (E.state err.old) (E.state err.new)
         (line_of (error_text (names_of names.now) (BadInput fault.now))) result }
 {
     match fault {
@@ -171,7 +171,7 @@ fn print_site<E: Sink>(
     at: Site,
     text: &'static [u8],
 ) -> Result<(), SinkFault>
-    ensures { IsPrinted (E.taken err.old) (E.taken err.new) (E.faults err.old) (E.faults err.new)
+    ensures { IsPrinted (E.state err.old) (E.state err.new)
         (line_of (site_text (names_of names.now) at text.now)) result }
 {
     match at {

@@ -9,7 +9,7 @@ ghost use Rattle.macho_args.specs.Settings.{input_of};
 ghost use Rattle.macho_devices.specs.Faults.{CountsOn};
 ghost use Rattle.macho_job.specs.Names.{names_of};
 ghost use Rattle.macho_report.specs.Lines.{line_of, fault_text, broken_word, word_name};
-ghost use Rattle.macho_report.specs.Printing.{IsPrinted, IsLineTold};
+ghost use Rattle.macho_printing.specs.Printing.{IsPrinted, IsLineTold};
 
 use crate::refusals::print_error;
 use crate::shapes::{print_named, print_numbered, print_text};
@@ -26,10 +26,10 @@ pub fn print_fault<E: Sink>(
     names: &FileNames,
     fault: &Fault,
 )
-    ensures told { IsLineTold (E.taken err.old) (E.taken err.new) (E.faults err.old) (E.faults err.new)
+    ensures told { IsLineTold (E.state err.old) (E.state err.new)
         (line_of (fault_text (map input_of inputs.now) (map (λ list. (list.0, string_bytes list.1)) lists.now)
         (names_of names.now) fault.now)) }
-    ensures counted { CountsOn (E.faults err.old) (E.faults err.new) }
+    ensures counted { CountsOn (E.state err.old).failed (E.state err.new).failed }
 {
     let _ = print_line(err, inputs, lists, names, fault);
 }
@@ -41,7 +41,7 @@ fn print_line<E: Sink>(
     names: &FileNames,
     fault: &Fault,
 ) -> Result<(), SinkFault>
-    ensures { IsPrinted (E.taken err.old) (E.taken err.new) (E.faults err.old) (E.faults err.new)
+    ensures { IsPrinted (E.state err.old) (E.state err.new)
         (line_of (fault_text (map input_of inputs.now) (map (λ list. (list.0, string_bytes list.1)) lists.now)
         (names_of names.now) fault.now)) result }
 {
@@ -127,7 +127,7 @@ fn kind_of_word(fault: ArgsFault) -> (u32, &'static [u8])
 }
 
 fn print_bad_word<E: Sink>(err: &mut E, fault: ArgsFault) -> Result<(), SinkFault>
-    ensures { IsPrinted (E.taken err.old) (E.taken err.new) (E.faults err.old) (E.faults err.new)
+    ensures { IsPrinted (E.state err.old) (E.state err.new)
         (line_of (codes "bad word " ∷ decimal (broken_word fault).0 ∷ codes ": " ∷ (broken_word fault).1 ∷ [])) result }
 {
     let (word, kind) = kind_of_word(fault);

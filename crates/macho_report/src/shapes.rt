@@ -2,14 +2,14 @@
 
 ghost use Rattle.std.specs.Prelude.{◌≡◌, [], ◌∷◌, codes, decimal};
 ghost use Rattle.macho_report.specs.Lines.{line_of};
-ghost use Rattle.macho_report.specs.Printing.{IsPrinted};
+ghost use Rattle.macho_printing.specs.Printing.{IsPrinted};
 
-use crate::pieces::{Piece, print_pieces};
 use macho_devices::{Sink, SinkFault};
+use macho_printing::{Piece, print_pieces};
 
 /// One text.
 pub(crate) fn print_text<E: Sink>(err: &mut E, text: &'static [u8]) -> Result<(), SinkFault>
-    ensures { IsPrinted (E.taken err.old) (E.taken err.new) (E.faults err.old) (E.faults err.new) (line_of (text.now ∷ [])) result }
+    ensures { IsPrinted (E.state err.old) (E.state err.new) (line_of (text.now ∷ [])) result }
 {
     print_pieces(
         err,
@@ -28,7 +28,7 @@ pub(crate) fn print_named<E: Sink>(
     name: &[u8],
     back: &'static [u8],
 ) -> Result<(), SinkFault>
-    ensures { IsPrinted (E.taken err.old) (E.taken err.new) (E.faults err.old) (E.faults err.new)
+    ensures { IsPrinted (E.state err.old) (E.state err.new)
         (line_of (front.now ∷ name.now ∷ back.now ∷ [])) result }
 {
     let pieces = [
@@ -49,7 +49,7 @@ pub(crate) fn print_numbered<E: Sink>(
     middle: &'static [u8],
     back: &'static [u8],
 ) -> Result<(), SinkFault>
-    ensures { IsPrinted (E.taken err.old) (E.taken err.new) (E.faults err.old) (E.faults err.new)
+    ensures { IsPrinted (E.state err.old) (E.state err.new)
         (line_of (front.now ∷ decimal number ∷ middle.now ∷ back.now ∷ [])) result }
 {
     let pieces = [
@@ -70,7 +70,7 @@ pub(crate) fn print_duplicate<'a, E: Sink>(
     first: &'a [u8],
     second: &'a [u8],
 ) -> Result<(), SinkFault>
-    ensures { IsPrinted (E.taken err.old) (E.taken err.new) (E.faults err.old) (E.faults err.new)
+    ensures { IsPrinted (E.state err.old) (E.state err.new)
         (line_of (codes "duplicate symbol " ∷ name.now ∷ codes " in " ∷ first.now ∷ codes " and " ∷ second.now ∷ [])) result }
 {
     let pieces = [
@@ -92,7 +92,7 @@ pub(crate) fn print_undefined<'a, E: Sink>(
     name: &'a [u8],
     file: &'a [u8],
 ) -> Result<(), SinkFault>
-    ensures { IsPrinted (E.taken err.old) (E.taken err.new) (E.faults err.old) (E.faults err.new)
+    ensures { IsPrinted (E.state err.old) (E.state err.new)
         (line_of (codes "undefined symbol " ∷ name.now ∷ codes " in " ∷ file.now ∷ [])) result }
 {
     let pieces = [
@@ -113,7 +113,7 @@ pub(crate) fn print_initializer<E: Sink>(
     section: u32,
     offset: u64,
 ) -> Result<(), SinkFault>
-    ensures { IsPrinted (E.taken err.old) (E.taken err.new) (E.faults err.old) (E.faults err.new)
+    ensures { IsPrinted (E.state err.old) (E.state err.new)
         (line_of (file.now ∷ codes ": bad initializer at " ∷ decimal offset ∷ codes " in section " ∷ decimal section ∷ [])) result }
 {
     let pieces = [
@@ -135,7 +135,7 @@ pub(crate) fn print_unwind<E: Sink>(
     entry: u32,
     rule: &'static [u8],
 ) -> Result<(), SinkFault>
-    ensures { IsPrinted (E.taken err.old) (E.taken err.new) (E.faults err.old) (E.faults err.new)
+    ensures { IsPrinted (E.state err.old) (E.state err.new)
         (line_of (file.now ∷ codes ": unwind entry " ∷ decimal entry ∷ codes " breaks rule " ∷ rule.now ∷ [])) result }
 {
     let pieces = [
@@ -158,7 +158,7 @@ pub(crate) fn print_overlap<E: Sink>(
     first: u32,
     second: u32,
 ) -> Result<(), SinkFault>
-    ensures { IsPrinted (E.taken err.old) (E.taken err.new) (E.faults err.old) (E.faults err.new)
+    ensures { IsPrinted (E.state err.old) (E.state err.new)
         (line_of (file.now ∷ codes ": section " ∷ decimal section ∷ codes ", relocations " ∷ decimal first ∷ codes " and " ∷ decimal second
         ∷ codes " overlap" ∷ [])) result }
 {
@@ -183,7 +183,7 @@ pub(crate) fn print_many<E: Sink>(
     what: &'static [u8],
     number: u64,
 ) -> Result<(), SinkFault>
-    ensures { IsPrinted (E.taken err.old) (E.taken err.new) (E.faults err.old) (E.faults err.new)
+    ensures { IsPrinted (E.state err.old) (E.state err.new)
         (line_of (codes "too many " ∷ what.now ∷ codes ": " ∷ decimal number ∷ [])) result }
 {
     let pieces = [
@@ -205,7 +205,7 @@ pub(crate) fn print_relocation<E: Sink>(
     relocation: u32,
     text: &'static [u8],
 ) -> Result<(), SinkFault>
-    ensures { IsPrinted (E.taken err.old) (E.taken err.new) (E.faults err.old) (E.faults err.new)
+    ensures { IsPrinted (E.state err.old) (E.state err.new)
         (line_of (file.now ∷ codes ": section " ∷ decimal section ∷ codes ", relocation " ∷ decimal relocation ∷ codes ": " ∷ text.now
         ∷ [])) result }
 {
@@ -230,7 +230,7 @@ pub(crate) fn print_rule<E: Sink>(
     rule: &'static [u8],
     place: u64,
 ) -> Result<(), SinkFault>
-    ensures { IsPrinted (E.taken err.old) (E.taken err.new) (E.faults err.old) (E.faults err.new)
+    ensures { IsPrinted (E.state err.old) (E.state err.new)
         (line_of (file.now ∷ codes ": rule " ∷ rule.now ∷ codes " at " ∷ decimal place ∷ [])) result }
 {
     let pieces = [

@@ -4,11 +4,11 @@
 ghost use Rattle.std.specs.Prelude.{◌≡◌, Some, None, IsOk};
 ghost use Rattle.sha2.specs.Sha256.{sha256};
 ghost use Rattle.macho_report.specs.Lines.{totals};
-ghost use Rattle.macho_report.specs.Printing.{IsPrinted};
+ghost use Rattle.macho_printing.specs.Printing.{IsPrinted};
 
-use crate::pieces::{Piece, print_pieces};
 use macho_devices::{Sink, SinkFault};
 use macho_job::LinkedImage;
+use macho_printing::{Piece, print_pieces};
 use sha2::{Digest, Sha256};
 
 /// Prints the lines of `-generate`, where that was given with a `count`. Where the sink fails, nothing more is printed.
@@ -17,7 +17,7 @@ pub(crate) fn print_totals<O: Sink>(
     count: Option<u32>,
     image: &LinkedImage,
 ) -> Result<(), SinkFault>
-    ensures printed { IsPrinted (O.taken out.old) (O.taken out.new) (O.faults out.old) (O.faults out.new) (totals count image.now) result }
+    ensures printed { IsPrinted (O.state out.old) (O.state out.new) (totals count image.now) result }
     ensures silent { count ≡ None → IsOk result × (out.new ≡ out.old) }
 {
     match count {
@@ -27,7 +27,7 @@ pub(crate) fn print_totals<O: Sink>(
 }
 
 fn print_numbers<O: Sink>(out: &mut O, count: u32, image: &LinkedImage) -> Result<(), SinkFault>
-    ensures { IsPrinted (O.taken out.old) (O.taken out.new) (O.faults out.old) (O.faults out.new)
+    ensures { IsPrinted (O.state out.old) (O.state out.new)
         (totals (Some count) image.now) result }
 {
     let bytes = image.bytes.as_slice();

@@ -7,3 +7,4 @@ pub mod Entries
 pub mod Documents
 pub mod Alike
 pub mod Rows
+mod Words

@@ -2,10 +2,9 @@
 --
 -- An element that is put at the end of a list is a repeat exactly where one before is the same; else it is the last of what is left. What
 -- is taken out passes a test exactly where what it repeats does: so some element passes exactly where one that is left does.
-use Rattle.std.proofs.Common.{◌≡◌, ℕ, ◌+◌, Bool, true, false, cond, not, ◌&&◌, ◌||◌, List, [], ◌∷◌, ◌++◌, map, filter, find, Some, refl, sym, ap, ◌∙◌, arith}
-use Rattle.std.specs.List.{list_any, AllByRecursion, IsDistinct, range_with_len}
+use Rattle.std.proofs.Common.{◌≡◌, Bool, true, false, cond, not, ◌||◌, List, [], ◌∷◌, ◌++◌, map, filter, find, Some, refl, sym, ap, ◌∙◌}
+use Rattle.std.specs.List.{list_any, AllByRecursion, IsDistinct}
 use Rattle.std.specs.Option.{option_map}
-use Rattle.std.specs.Str.{bytes_eq}
 use Rattle.std.proofs.lemmas.List.{append-nil}
 use Rattle.std.proofs.lemmas.List.Elements.{filter-append}
 use Rattle.macho_model.specs.Needs.{distinct}

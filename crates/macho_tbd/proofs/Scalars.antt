@@ -4,7 +4,7 @@
 -- In single quotes stands no single quote. Double quotes are taken where the name holds a single quote: then it holds no double quote and
 -- no backslash, since it can be written. The list is by recursion on its names: behind a name stands the closing bracket or a comma,
 -- each with one space, and then the list of the others.
-use Rattle.std.proofs.Common.{◌≡◌, ◌≢◌, ℕ, ◌==◌, ◌||◌, Bool, true, false, cond, ◌&&◌, not, List, [], ◌∷◌, ◌++◌, refl, ap, sym, subst, append_assoc, arith}
+use Rattle.std.proofs.Common.{◌≡◌, ◌≢◌, ℕ, ◌==◌, ◌||◌, Bool, true, false, cond, ◌&&◌, not, List, [], ◌∷◌, ◌++◌, refl, ap, sym, subst, append_assoc}
 use Rattle.std.specs.Prelude.{codes}
 use Rattle.std.specs.List.{AllByRecursion, list_any, flat_map, join_by}
 use Rattle.std.specs.Str.{is_utf8}

@@ -1,4 +1,5 @@
-//! Writes a dynamic library as a text stub: a `.tbd` file, version 4, that stands for the library in a link.
+//! Writes a dynamic library as a text stub: a `.tbd` file, version 4, that stands for the library in a link. [`run`] reads the library that
+//! a word names, and writes its stub.
 //!
 //! Of a library `/usr/lib/libq.dylib` that offers `_a` and a weak `_b` the text is
 //!
@@ -25,11 +26,19 @@ ghost use Rattle.macho_tbd.specs.Answer.{IsStubOf, IsRefused, TellsUnwritable};
 
 mod fault;
 mod library;
+mod running;
+mod seeded;
 mod text;
 mod writable;
 
 pub use fault::TbdFault;
+pub use macho_devices::{
+    FileFault, Files, MemoryFiles, MemorySink, RealFiles, RealSink, Sink, SinkFault, SteadyFiles,
+    SteadySink,
+};
 use macho_object::File;
+pub use macho_object::{ObjectFault, ObjectRule};
+pub use running::{ToolFault, ToolRan, run};
 use std::alloc::Global;
 
 /// Writes the text stub of a dynamic library.
@@ -37,8 +46,8 @@ use std::alloc::Global;
 /// # Errors
 ///
 /// The bytes are no dynamic library, a name can't be written, or there is not enough memory. Of several names that can't be written the
-/// install name is told, or else that of the first symbol. Where the names of all offered symbols have more than 2^28 bytes together,
-/// each symbol's counted, no memory is taken for them, and the answer is want of memory.
+/// install name is told, or else that of the first symbol. Where the names of all offered symbols, each symbol's counted, have over 2^28
+/// bytes more together than the file has, no memory is taken for them, and the answer is want of memory.
 pub fn stub_text(alloc: Global, bytes: &[u8]) -> Result<String, TbdFault>
     // The text is the library's stub: a link takes it for a library that is like this one.
     ensures found { IfOk result (λ text. IsStubOf bytes.now (string_bytes text)) }
@@ -53,7 +62,7 @@ pub fn stub_text(alloc: Global, bytes: &[u8]) -> Result<String, TbdFault>
         Ok(file) => file,
         Err(fault) => return Err(TbdFault::BadDylib { fault }),
     };
-    let library = library::library_of(alloc, &file)?;
+    let library = library::library_of(alloc, &file, bytes)?;
     let text = text::text_of(alloc, &library)?;
     Ok(text)
 }

@@ -1,6 +1,7 @@
 //! What a stub has to say of a dynamic library.
 //!
-//! The symbol table is read once. Of each offered name the first symbol counts: names are known by a hash.
+//! The symbol table is read once. Of each offered name the first symbol counts: names are known by a hash that begins with a seed
+//! made of the whole file. So whoever makes a library can't choose names that share a bucket: another name makes another seed.
 ghost use Rattle.std.specs.Prelude.{◌≡◌, ◌+◌, ◌<◌, ◌&&◌, ◌||◌, not, true, List, ℕ, IfOk, IfErr, IfSome, OnOk, is_some};
 ghost use Rattle.std.specs.Str.{bytes_eq};
 ghost use Rattle.macho_records.specs.Symbols.{has_type};
@@ -11,6 +12,7 @@ ghost use Rattle.macho_tbd.specs.Offered.{is_weak_at};
 ghost use Rattle.macho_tbd.specs.steps.Gathered.{Gathers, reading, with_name, is_none_of, is_among, IsStopped, IsRead, IsUnread};
 
 use crate::fault::TbdFault;
+use crate::seeded::{Seeded, seed_of};
 use crate::writable::written;
 use indexmap::IndexSet;
 use macho_object::File;
@@ -18,8 +20,9 @@ use macho_records::{N_SECT, N_STAB, N_TYPE, SymtabEntry};
 use macho_symbol_names::{is_absolute, is_global};
 use std::alloc::{AllocError, Global};
 
-/// How many bytes the names of all offered symbols may have together, each symbol's counted. A larger sum is want of memory, told at
-/// once: names may share their ends in the string table, so that a small library spells a text without bound.
+/// How many bytes the names of all offered symbols may have together, each symbol's counted, beside as many as the file has. A larger sum
+/// is want of memory, told at once: names may share their ends in the string table, so that a small library spells a text without
+/// bound. Names that share no bytes have fewer than the file.
 const MOST_BYTES: usize = 1 << 28;
 
 /// What a stub has to say of a library.
@@ -45,9 +48,11 @@ struct Offered<'data> {
 struct Gathered<'data> {
     library: Library<'data>,
     /// All names in its lists.
-    seen: IndexSet<&'data [u8]>,
+    seen: IndexSet<&'data [u8], Seeded>,
     /// The bytes of all offered names.
     length: usize,
+    /// The most that they may be.
+    most: usize,
 }
 
 /// Whether a symbol is defined: in a section, or as a value of its own.
@@ -78,7 +83,10 @@ fn offered_at<'data>(file: &File<'data>, index: u32) -> Option<Offered<'data>>
 }
 
 /// Puts a name into a set, and answers whether it is new.
-fn put_name<'data>(seen: &mut IndexSet<&'data [u8]>, name: &'data [u8]) -> Result<bool, AllocError>
+fn put_name<'data>(
+    seen: &mut IndexSet<&'data [u8], Seeded>,
+    name: &'data [u8],
+) -> Result<bool, AllocError>
     ensures new { IfOk result (λ new. new ≡ not (is_among name.now seen.old.keys)) }
     ensures put { OnOk result ((other : List ℕ) → is_among other seen.new.keys
         ≡ (is_among other seen.old.keys || bytes_eq name.now other)) }
@@ -124,7 +132,7 @@ impl<'data> Gathered<'data> {
             });
         };
         self.length = self.length.saturating_add(symbol.name.len());
-        if self.length > MOST_BYTES {
+        if self.length > self.most {
             return Err(TbdFault::OutOfMemory);
         }
         if put_name(&mut self.seen, symbol.name)? {
@@ -134,7 +142,7 @@ impl<'data> Gathered<'data> {
     }
 }
 
-/// What a stub has to say of a library.
+/// What a stub has to say of a library, which is made of these bytes.
 ///
 /// # Errors
 ///
@@ -142,6 +150,7 @@ impl<'data> Gathered<'data> {
 pub(crate) fn library_of<'data>(
     alloc: Global,
     file: &File<'data>,
+    bytes: &[u8],
 ) -> Result<Library<'data>, TbdFault>
     requires dylib { file.now.is_dynamic ≡ true }
     ensures found { IfOk result (IsRead file.now.bytes) }
@@ -159,8 +168,9 @@ pub(crate) fn library_of<'data>(
             names: Vec::new(alloc),
             weak_names: Vec::new(alloc),
         },
-        seen: IndexSet::new(alloc),
+        seen: IndexSet::with_hasher(alloc, Seeded::new(seed_of(bytes))),
         length: 0,
+        most: MOST_BYTES.saturating_add(bytes.len()),
     };
     for index in 0..file.num_symbols() {
         gathered.note(file, index)?;

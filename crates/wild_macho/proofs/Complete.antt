@@ -5,27 +5,30 @@
 use Rattle.std.proofs.Common.{◌≡◌, ℕ, ◌⊎◌, inl, inr, refl, sym, ap, subst, ◌∙◌, List, Option, Some, None, Ok, Err}
 use Rattle.std.specs.Prelude.{IfSome}
 use Rattle.macho_args.specs.Settings.{Settings}
-use Rattle.macho_args.specs.Store.{Store, Directories, CanonicalPaths}
-use Rattle.macho_args.specs.SearchPaths.{IsRefused}
+use Rattle.macho_args.specs.Store.{FileSystem, Store}
+use Rattle.macho_args.specs.SearchPaths.{IsParsed, IsRefused}
 use Rattle.macho_args.specs.declared.fault.ArgsFault.{ArgsFault}
 use Rattle.macho_model.specs.Links.{Link}
 use Rattle.macho_answer.specs.declared.fault.LinkError.{LinkError}
 use Rattle.macho_answer.specs.declared.fault.LinkError.TheVariants as error
 use Rattle.macho_answer.specs.Linked.{RefusalStands}
+use Rattle.macho_devices.specs.Devices.{Printed}
+use Rattle.macho_devices.specs.Faults.{last_count}
 use Rattle.macho_report.specs.Fault.{Fault}
 use Rattle.macho_report.specs.Fault.TheVariants as fault
-use Rattle.macho_report.specs.Causes.{NoneFailed, status_of, IsClear, JobFails, WordsFail}
-use Rattle.macho_report.specs.Job.{Outside, linked}
-use Rattle.macho_report.proofs.Sure.{sure-fault}
+use Rattle.macho_report.specs.Causes.{status_of, IsClear, JobFails, WordsFail}
+use Rattle.macho_report.specs.Job.{Job, IsJob, linked}
+use Rattle.macho_report.proofs.Sure.{never-rose, sure-fault}
 use Rattle.wild_macho.specs.declared.passes.Ran.{Ran}
-use Rattle.wild_macho.specs.Runs.{Devices, ErrorSink, outside, HasCauseIn, Says, IsRun, RefusesWords, RunsBy, SayJob, IsOwed}
+use Rattle.wild_macho.specs.Runs.{Devices, DoesJobs, HasCauseIn, IsOwed, IsRun, NoneFailed, RefusesWords, RunFails, RunsBy, SayJob}
 
 -- words that say settings aren't refused
-said-not-refused : (words : List (List ℕ)) (files : Outside) (s : Settings) (f : ArgsFault) → Says words files s → IsRefused words f → ⊥
+said-not-refused : (words : List (List ℕ)) (files : FileSystem) (s : Settings) (f : ArgsFault) → IsParsed files words s
+    → IsRefused words f → ⊥
 said-not-refused words files s f says breaks =
     let h : Ok says.said ≡ Err f = sym says.read ∙ breaks.told says.canonical in cc
 
-words-fault : (words : List (List ℕ)) (files : Outside) (s : Settings) (f : Fault) → Says words files s → WordsFail words f
+words-fault : (words : List (List ℕ)) (files : FileSystem) (s : Settings) (f : Fault) → IsParsed files words s → WordsFail words f
     → f ≡ fault.OutOfMemory
 words-fault words files s (fault.Words refusal) says fails = absurd (said-not-refused words files s refusal says fails)
 words-fault words files s fault.OutOfMemory says fails = refl
@@ -42,37 +45,51 @@ status-is : (status : ℕ) (f : Option Fault) → status ≡ status_of f → IfS
 status-is status None is memory = inl is
 status-is status (Some f) is memory = inr (is ∙ ap (λ (g : Fault). status_of (Some g)) memory)
 
-by-settings : (words : List (List ℕ)) (d : Option Directories) (c : Option CanonicalPaths) (files : Store) (old new : Devices)
-    (before after : ErrorSink) (s : Settings) (f : Option Fault)
-    → old.outside ≡ outside d c (Some files) → SayJob words (outside d c (Some files)) IsClear → NoneFailed old.failures new.failures
-    → Says words (outside d c (Some files)) s
+-- a fault of settings whose job has nothing against it
+settings-fault : (s : Settings) (paths : List (List ℕ)) (job : Job) (files : Store) (old new : Devices) (f : Fault)
+    → old.outside.files ≡ Some files → IsJob old.outside.files s job → IsClear (linked s job) → NoneFailed old new
+    → RunFails s paths old new f → f ≡ fault.OutOfMemory
+settings-fault s paths job files old new f told is clear calm = by f
+  where
+    asked : (g : Fault) → JobFails old.outside.files s paths old.outside.failed_reads new.outside.failed_reads g → g ≡ fault.OutOfMemory
+    asked g fails =
+        sure-fault files s paths job old.outside.failed_reads new.outside.failed_reads g
+        (subst (λ (o : Option Store). IsJob o s job) told is) clear calm.reads.0 calm.reads.1
+        (subst (λ (o : Option Store). JobFails o s paths old.outside.failed_reads new.outside.failed_reads g) told fails)
+
+    by : (g : Fault) → RunFails s paths old new g → g ≡ fault.OutOfMemory
+    by fault.Write rose =
+        absurd (never-rose old.outside.failed_writes new.outside.failed_writes last_count calm.writes.0 calm.writes.1 rose)
+    by fault.Print rose = absurd (never-rose old.out.failed new.out.failed last_count calm.prints.0 calm.prints.1 rose)
+    by (fault.Words refusal) fails = asked (fault.Words refusal) fails
+    by (fault.MissingFile word) fails = asked (fault.MissingFile word) fails
+    by (fault.UnknownKind word kind) fails = asked (fault.UnknownKind word kind) fails
+    by (fault.Input word refusal) fails = asked (fault.Input word refusal) fails
+    by (fault.Link refusal) fails = asked (fault.Link refusal) fails
+    by (fault.Read word) fails = asked (fault.Read word) fails
+    by fault.OutOfMemory fails = refl
+
+by-settings : (words : List (List ℕ)) (old new : Devices) (before after : Printed) (s : Settings) (f : Option Fault)
+    → SayJob words old.outside IsClear → NoneFailed old new → IsParsed old.outside words s
     → IfSome f (HasCauseIn s old new before after) → IfSome f (λ g. g ≡ fault.OutOfMemory)
-by-settings words d c files old new before after s None same sure calm says why = tt
-by-settings words d c files old new before after s (Some f) same sure calm says why =
+by-settings words old new before after s None sure calm says why = tt
+by-settings words old new before after s (Some f) sure calm says why =
     let job = sure.each s says in
-    sure-fault files s why.paths job.0 old.failures new.failures f job.1 job.2 calm
-    (subst (λ (o : Outside). JobFails o.store s why.paths old.failures new.failures f) same why.why)
+    settings-fault s why.paths job.0 sure.told.0 old new f sure.told.1 job.1 job.2 calm why.why
 
 -- THE answer of a run whose job has nothing against it
-pub sure-status : (words : List (List ℕ)) (d : Option Directories) (c : Option CanonicalPaths) (told : Option Store) (files : Store)
-    (old new : Devices) (before after : ErrorSink) (ran : Ran)
-    → old.outside ≡ outside d c told → told ≡ Some files → IsRun words old new before after ran
-    → SayJob words (outside d c (Some files)) IsClear
-    → NoneFailed old.failures new.failures
-    → (ran.status ≡ 0) ⊎ (ran.status ≡ 5)
-sure-status words d c told files old new before after ran from tells is sure calm = status-is ran.status ran.fault is.status (memory is.run)
+pub sure-status : (words : List (List ℕ)) (old new : Devices) (before after : Printed) (ran : Ran) → IsRun words old new before after ran
+    → DoesJobs IsClear words old new ran
+sure-status words old new before after ran is sure calm = status-is ran.status ran.fault is.status (memory is.run)
   where
     Memory : Option Fault → Type 0
     Memory f = IfSome f (λ g. g ≡ fault.OutOfMemory)
 
-    memory : RefusesWords words old new before after ran ⊎ ((s : Settings) × Says words old.outside s × RunsBy s old new before after ran)
+    memory : RefusesWords words old new before after ran ⊎ ((s : Settings) × IsParsed old.outside words s
+        × RunsBy s old new before after ran)
         → Memory ran.fault
-    memory (inl r) =
-        subst Memory (sym r.is) (words-fault words (outside d c (Some files)) sure.said r.fault sure.says r.why)
-    memory (inr (s, says, by)) =
-        let same : old.outside ≡ outside d c (Some files) = from ∙ ap (outside d c) tells in
-        let says' = subst (λ (o : Outside). Says words o s) same says in
-        by-settings words d c files old new before after s ran.fault same sure calm says' by.fault
+    memory (inl r) = subst Memory (sym r.is) (words-fault words old.outside sure.said r.fault sure.says r.why)
+    memory (inr (s, says, by)) = by-settings words old new before after s ran.fault sure calm says by.fault
 
 -- a valid link is refused for want of memory alone
 only_memory : (l : Link) (e : LinkError) → IsOwed l → RefusalStands l e → e ≡ error.OutOfMemory
@@ -95,11 +112,18 @@ only_memory l (error.BadInput f) owed stands = absurd stands
 only_memory l error.OutOfMemory owed stands = refl
 
 -- nothing stands against a job that is answered
-pub sure_of : (words : List (List ℕ)) (files : Outside) → SayJob words files IsOwed → SayJob words files IsClear
+pub sure_of : (words : List (List ℕ)) (files : FileSystem) → SayJob words files IsOwed → SayJob words files IsClear
 sure_of words files answered = record {
+  told = answered.told;
   said = answered.said;
   says = answered.says;
   each = λ s says.
       let job = answered.each s says in
       (job.0, job.1, record { named = job.2.named; nothing_stands = λ refusal stands. only_memory (linked s job.0) refusal job.2 stands });
 }
+
+-- THE answer of a run whose link is owed an image
+pub owed-status : (words : List (List ℕ)) (old new : Devices) (before after : Printed) (ran : Ran) → IsRun words old new before after ran
+    → DoesJobs IsOwed words old new ran
+owed-status words old new before after ran is owed calm =
+    sure-status words old new before after ran is (sure_of words old.outside owed) calm

@@ -3,15 +3,15 @@
 -- What the link refuses is refused of the job. A fault that comes before the image is written is no failed write and no failed print,
 -- since neither count has risen there. An image that is written and printed is that of the job, under the paths that its files were
 -- read from. The words are read first, and change nothing; so the run of their settings is that of the words.
-use Rattle.std.proofs.Common.{◌≡◌, ℕ, ◌<◌, ◌⊎◌, inl, inr, arith, refl, sym, ◌∙◌, subst, true, List, map, Option, Some, None, String}
-use Rattle.std.specs.Prelude.{MatchOption, IfSome}
+use Rattle.std.proofs.Common.{◌≡◌, ℕ, ◌⊎◌, inl, inr, refl, sym, ◌∙◌, subst, true, List, map, Option, Some, None, String}
+use Rattle.std.specs.Prelude.{MatchOption, IfSome, false}
 use Rattle.std.specs.String.{string_bytes}
 use Rattle.macho_args.specs.Settings.{Settings, input_of}
 use Rattle.macho_args.specs.declared.fields.InputSpec.{InputSpec}
 use Rattle.macho_args.specs.declared.fault.ArgsFault.{ArgsFault}
 use Rattle.macho_args.specs.declared.fault.ArgsFault.TheVariants as arg
 use Rattle.macho_args.specs.SearchPaths.{IsRefused}
-use Rattle.macho_args.specs.Store.{Store, Directories, CanonicalPaths}
+use Rattle.macho_args.specs.Store.{FileSystem, Store}
 use Rattle.macho_model.specs.Links.{Link}
 use Rattle.macho_model.specs.Faults.{bad_name}
 use Rattle.macho_answer.specs.declared.fault.LinkError.{LinkError}
@@ -20,23 +20,23 @@ use Rattle.macho_answer.specs.declared.image.LinkedImage.{LinkedImage}
 use Rattle.macho_report.specs.Linkers.{link_of}
 use Rattle.macho_answer.specs.Linked.{RefusalStands}
 use Rattle.macho_answer.specs.Linked.{IsImageOf}
-use Rattle.macho_devices.specs.Devices.{WritesFile}
-use Rattle.macho_devices.specs.Faults.{last_count}
+use Rattle.macho_devices.specs.Devices.{OnlyReads, Printed}
+use Rattle.macho_devices.specs.Faults.{CountRose}
 use Rattle.macho_report.specs.Fault.{Fault}
 use Rattle.macho_report.specs.Fault.TheVariants as fault
-use Rattle.macho_report.specs.Causes.{Failures, failures, reading, status_of, JobFails, WordsFail}
-use Rattle.macho_report.specs.Job.{Outside, Job, IsJob, Links, linked, paths_of, uuid_of}
+use Rattle.macho_report.specs.Causes.{status_of, JobFails, WordsFail}
+use Rattle.macho_report.specs.Job.{Job, IsJob, Links, linked, paths_of, uuid_of}
 use Rattle.macho_report.specs.Refused.{Tells}
 use Rattle.macho_report.specs.Lines.{run_lines, fault_text, line_of}
 use Rattle.macho_report.specs.Printing.{IsLineTold}
 use Rattle.wild_macho.specs.declared.passes.Ran.{Ran}
 use Rattle.wild_macho.specs.declared.passes.Made.{Made}
-use Rattle.wild_macho.specs.steps.Made.{LeavesAll, LeavesOutput, LeavesLines, IsBadName, IsMade, IsLinkFault, Ends, EndsWith, EndsBare, EndFails, PrintFails, Prints, Finishes, Answers}
-use Rattle.wild_macho.specs.Runs.{Devices, devices, outside, ErrorSink, LeavesImage, LeavesNothing, HasImage, HasCauseIn, RunsBy}
+use Rattle.wild_macho.specs.steps.Made.{LeavesAll, LeavesOutput, LeavesLines, IsBadName, IsMade, IsLinkFault, EndsWith, EndsBare, EndFails, Finishes, Answers}
+use Rattle.wild_macho.specs.Runs.{Devices, devices, LeavesImage, LeavesNothing, HasImage, HasCauseIn, RunFails, RunsBy}
 
 -- a refusal of the link is one of the job that has this link
 job-refused : (l : Link) (e : LinkError) → RefusalStands l e → (told : Option Store) (s : Settings) (paths : List (List ℕ))
-    (old new : Failures) → Links told s paths l
+    (old new : ℕ) → Links told s paths l
     → (job : Job) × IsJob told s job × (paths ≡ paths_of job) × RefusalStands (linked s job) e
 job-refused l e stands told s paths old new links =
     (links.job, links.is, links.named, subst (λ (k : Link). RefusalStands k e) links.links stands)
@@ -79,7 +79,7 @@ bare-leaves old new f is same = subst (λ (g : Option Fault). LeavesNothing g ol
 
 -- what is left beside an image
 both-left : (f : Option Fault) (old new : Devices) (path bytes text : List ℕ)
-    → LeavesOutput f old.outside.store new.outside.store path bytes → LeavesLines f old.printed new.printed text
+    → LeavesOutput f old.outside.files new.outside.files path bytes → LeavesLines f old.out new.out text
     → LeavesImage f old new path bytes text
 both-left None old new path bytes text output lines = (output, lines)
 both-left (Some fault.Write) old new path bytes text output lines = (output, lines)
@@ -92,22 +92,15 @@ both-left (Some (fault.Link refusal)) old new path bytes text output lines = out
 both-left (Some (fault.Words refusal)) old new path bytes text output lines = output
 both-left (Some (fault.Read word)) old new path bytes text output lines = output
 
--- an image that is there is the one that was made, written and printed so
-abbrev LeavesMade : Settings → List (List ℕ) → Devices → Devices → Made → Option Fault → LinkedImage → Type 0
-LeavesMade s paths old new made f i =
-    (i ≡ made.image) × LeavesOutput f old.outside.store new.outside.store s.output i.bytes.items
-    × LeavesLines f old.printed new.printed (run_lines s made.linker paths i)
-
 -- the end of an image, by settings
 end-image : (s : Settings) (paths : List (List ℕ)) (old new : Devices) (made : Made) (f : Option Fault) (image : Option LinkedImage)
-    → IsMade old.outside.store s paths made
-    → MatchOption image (LeavesNothing f old new) (LeavesMade s paths old new made f)
+    → IsMade old.outside.files s paths made → MatchOption image (EndsBare old new f) (EndsWith s paths made old new f)
     → MatchOption image (LeavesNothing f old new) (HasImage s old new f)
-end-image s paths old new made f None is end = end
+end-image s paths old new made f None is end = bare-leaves old new f end.memory end.same
 end-image s paths old new made f (Some i) is end =
     let links = is.links in
-    let image = subst (IsImageOf made.linker (uuid_of s made.linker.inputs)) (sym end.0) is.is_image in
-    let left = both-left f old new s.output i.bytes.items (run_lines s made.linker paths i) end.1 end.2 in
+    let image = subst (IsImageOf made.linker (uuid_of s made.linker.inputs)) (sym end.same) is.is_image in
+    let left = both-left f old new s.output i.bytes.items (run_lines s made.linker paths i) end.left end.lines in
     let Lines : List (List ℕ) → Link → Type 0 = λ ps l. LeavesImage f old new s.output i.bytes.items (run_lines s l ps i) in
     record {
       job = links.job;
@@ -116,103 +109,152 @@ end-image s paths old new made f (Some i) is end =
       left = subst (Lines (paths_of links.job)) links.links (subst (λ (ps : List (List ℕ)). Lines ps made.linker) links.named left);
     }
 
--- the same as the passes tell it
-ended : (s : Settings) (paths : List (List ℕ)) (old new : Devices) (made : Made) (e : Ends) (f : Option Fault) (image : Option LinkedImage)
-    → e.old_store ≡ old.outside.store → e.new_store ≡ new.outside.store → e.old_printed ≡ old.printed → e.new_printed ≡ new.printed
-    → MatchOption image (EndsBare e f) (EndsWith s paths made e f)
-    → MatchOption image (LeavesNothing f old new) (LeavesMade s paths old new made f)
-ended s paths old new made e f None is1 is2 is3 is4 end =
-    bare-leaves old new f end.memory (sym is2 ∙ (end.same_store ∙ is1), sym is4 ∙ (end.same_printed ∙ is3))
-ended s paths old new made e f (Some i) is1 is2 is3 is4 end = (
-  end.same,
-  subst (λ (o : Option Store). LeavesOutput f o new.outside.store s.output i.bytes.items) is1
-      (subst (λ (n : Option Store). LeavesOutput f e.old_store n s.output i.bytes.items) is2 end.left),
-  subst (λ (o : Option (List ℕ)). LeavesLines f o new.printed (run_lines s made.linker paths i)) is3
-      (subst (λ (n : Option (List ℕ)). LeavesLines f e.old_printed n (run_lines s made.linker paths i)) is4 end.lines),
-)
-
 -- the cause of a fault at the end
-end-cause : (told : Option Store) (s : Settings) (paths : List (List ℕ)) (a b writes later prints after : ℕ) (f : Option Fault)
-    → IfSome f (EndFails writes later prints after) → IfSome f (JobFails told s paths (failures a writes prints) (failures b later after))
-end-cause told s paths a b writes later prints after None why = tt
-end-cause told s paths a b writes later prints after (Some fault.Write) why = why
-end-cause told s paths a b writes later prints after (Some fault.Print) why = why
-end-cause told s paths a b writes later prints after (Some fault.OutOfMemory) why = tt
-end-cause told s paths a b writes later prints after (Some (fault.MissingFile word)) why = absurd why
-end-cause told s paths a b writes later prints after (Some (fault.UnknownKind word kind)) why = absurd why
-end-cause told s paths a b writes later prints after (Some (fault.Input word refusal)) why = absurd why
-end-cause told s paths a b writes later prints after (Some (fault.Link refusal)) why = absurd why
-end-cause told s paths a b writes later prints after (Some (fault.Words refusal)) why = absurd why
-end-cause told s paths a b writes later prints after (Some (fault.Read word)) why = absurd why
+end-cause : (s : Settings) (paths : List (List ℕ)) (old new : Devices) (f : Option Fault) → IfSome f (EndFails old new)
+    → IfSome f (RunFails s paths old new)
+end-cause s paths old new None why = tt
+end-cause s paths old new (Some fault.Write) why = why
+end-cause s paths old new (Some fault.Print) why = why
+end-cause s paths old new (Some fault.OutOfMemory) why = tt
+end-cause s paths old new (Some (fault.MissingFile word)) why = absurd why
+end-cause s paths old new (Some (fault.UnknownKind word kind)) why = absurd why
+end-cause s paths old new (Some (fault.Input word refusal)) why = absurd why
+end-cause s paths old new (Some (fault.Link refusal)) why = absurd why
+end-cause s paths old new (Some (fault.Words refusal)) why = absurd why
+end-cause s paths old new (Some (fault.Read word)) why = absurd why
+
+-- the write and the print of an image, as they are after reads
+finishes-since : (s : Settings) (paths : List (List ℕ)) (made : Made) (told now later : FileSystem) (before after : Printed) (ran : Ran)
+    → OnlyReads told now → Finishes s paths made (devices now before) (devices later after) ran
+    → Finishes s paths made (devices told before) (devices later after) ran
+finishes-since s paths made told now later before after ran kept ends = record {
+  status = ends.status;
+  image = image ran.image ends.image;
+  why = why ran.fault ends.why;
+}
+  where
+    old : Devices
+    old = devices told before
+
+    mid : Devices
+    mid = devices now before
+
+    new : Devices
+    new = devices later after
+
+    image : (i : Option LinkedImage) → MatchOption i (EndsBare mid new ran.fault) (EndsWith s paths made mid new ran.fault)
+        → MatchOption i (EndsBare old new ran.fault) (EndsWith s paths made old new ran.fault)
+    image None end = record { memory = end.memory; same = (end.same.0 ∙ kept.same_files, end.same.1) }
+    image (Some i) end = record {
+      same = end.same;
+      left = subst (λ (o : Option Store). LeavesOutput ran.fault o later.files s.output i.bytes.items) kept.same_files end.left;
+      lines = end.lines;
+    }
+
+    why : (f : Option Fault) → IfSome f (EndFails mid new) → IfSome f (EndFails old new)
+    why None fails = tt
+    why (Some fault.Write) fails = subst (λ (n : ℕ). CountRose n later.failed_writes) kept.same_failed_writes fails
+    why (Some fault.Print) fails = fails
+    why (Some fault.OutOfMemory) fails = tt
+    why (Some (fault.MissingFile word)) fails = absurd fails
+    why (Some (fault.UnknownKind word kind)) fails = absurd fails
+    why (Some (fault.Input word refusal)) fails = absurd fails
+    why (Some (fault.Link refusal)) fails = absurd fails
+    why (Some (fault.Words refusal)) fails = absurd fails
+    why (Some (fault.Read word)) fails = absurd fails
 
 -- a run that comes to the write
-pub answers-written : (s : Settings) (paths : List (List ℕ)) (files later : Outside) (a b writes before finish prints after : ℕ)
-    (printed told : Option (List ℕ)) (mid : Option Store)
-    (made : Made) (ran : Ran) → mid ≡ files.store → before ≡ writes → IsMade files.store s paths made
-    → Finishes s paths made (record { old_store = mid; new_store = later.store; old_printed = printed; new_printed = told }) ran
-    → IfSome ran.fault (EndFails before finish prints after)
-    → Answers s paths (devices files a writes prints printed) (devices later b finish after told) ran
-answers-written s paths files later a b writes before finish prints after printed told mid made ran same counted is ends why =
-    let old : Devices = devices files a writes prints printed in
-    let new : Devices = devices later b finish after told in
+pub answers-written : (s : Settings) (paths : List (List ℕ)) (made : Made) (told now later : FileSystem) (before after : Printed)
+    (ran : Ran)
+    → OnlyReads told now → IsMade told.files s paths made → bad_name (link_of s) ≡ false
+    → Finishes s paths made (devices now before) (devices later after) ran
+    → Answers s paths (devices told before) (devices later after) ran
+answers-written s paths made told now later before after ran kept is named finished =
+    let old : Devices = devices told before in
+    let new : Devices = devices later after in
+    let ends = finishes-since s paths made told now later before after ran kept finished in
     record {
       status = ends.status;
-      image = end-image s paths old new made ran.fault ran.image is
-          (ended s paths old new made _ ran.fault ran.image same refl refl refl ends.image);
-      why = end-cause files.store s paths a b writes finish prints after ran.fault
-          (subst (λ (n : ℕ). IfSome ran.fault (EndFails n finish prints after)) counted why);
+      image = end-image s paths old new made ran.fault ran.image is ends.image;
+      why = end-cause s paths old new ran.fault ends.why;
+      named = λ bad. let no : true ≡ false = sym bad ∙ named in absurd (let wrong : ⊥ = cc in wrong);
+    }
+
+-- a fault of the job is neither that of a write nor that of a print
+job-cause : (s : Settings) (paths : List (List ℕ)) (told now : FileSystem) (out : Printed) (f : Fault)
+    → JobFails told.files s paths told.failed_reads now.failed_reads f → RunFails s paths (devices told out) (devices now out) f
+job-cause s paths told now out fault.Write why = absurd why
+job-cause s paths told now out fault.Print why = absurd why
+job-cause s paths told now out fault.OutOfMemory why = tt
+job-cause s paths told now out (fault.MissingFile word) why = why
+job-cause s paths told now out (fault.UnknownKind word kind) why = why
+job-cause s paths told now out (fault.Input word refusal) why = why
+job-cause s paths told now out (fault.Link refusal) why = why
+job-cause s paths told now out (fault.Words refusal) why = why
+job-cause s paths told now out (fault.Read word) why = why
+
+-- a job that fails leaves nothing behind
+job-leaves : (told : Option Store) (s : Settings) (paths : List (List ℕ)) (reads later : ℕ) (old new : Devices) (f : Fault)
+    → JobFails told s paths reads later f → LeavesAll old new → LeavesNothing (Some f) old new
+job-leaves told s paths reads later old new fault.Write why same = absurd why
+job-leaves told s paths reads later old new fault.Print why same = absurd why
+job-leaves told s paths reads later old new fault.OutOfMemory why same = same
+job-leaves told s paths reads later old new (fault.MissingFile word) why same = same
+job-leaves told s paths reads later old new (fault.UnknownKind word kind) why same = same
+job-leaves told s paths reads later old new (fault.Input word refusal) why same = same
+job-leaves told s paths reads later old new (fault.Link refusal) why same = same
+job-leaves told s paths reads later old new (fault.Words refusal) why same = same
+job-leaves told s paths reads later old new (fault.Read word) why same = same
+
+-- a run that is refused before it comes to the write
+pub answers-refused : (s : Settings) (paths : List (List ℕ)) (told now : FileSystem) (out : Printed) (ran : Ran) (f : Fault)
+    → OnlyReads told now → JobFails told.files s paths told.failed_reads now.failed_reads f
+    → (bad_name (link_of s) ≡ true → IsBadName (Some f))
+    → ran.status ≡ status_of ran.fault → ran.image ≡ None → ran.fault ≡ Some f
+    → Answers s paths (devices told out) (devices now out) ran
+answers-refused s paths told now out ran f kept why named status image is =
+    let old : Devices = devices told out in
+    let new : Devices = devices now out in
+    let Left : Option Fault → Option LinkedImage → Type 0 = λ g i. MatchOption i (LeavesNothing g old new) (HasImage s old new g) in
+    record {
+      status = status;
+      image = subst (λ (g : Option Fault). Left g ran.image) (sym is) (subst (Left (Some f)) (sym image)
+          (job-leaves told.files s paths told.failed_reads now.failed_reads old new f why (kept.same_files, refl)));
+      why = subst (λ (g : Option Fault). IfSome g (RunFails s paths old new)) (sym is) (job-cause s paths told now out f why);
+      named = subst (λ (g : Option Fault). bad_name (link_of s) ≡ true → IsBadName g) (sym is) named;
     }
 
 -- a run that was answered, and whose fault was told
-pub told-run : (s : Settings) (paths : List (List ℕ)) (old new : Devices) (before after : ErrorSink) (ran : Ran) (f : Fault)
+pub told-run : (s : Settings) (paths : List (List ℕ)) (old new : Devices) (before after : Printed) (ran : Ran) (f : Fault)
     → ran.fault ≡ Some f → Answers s paths old new ran
-    → (bad_name (link_of s) ≡ true → IsBadName ran.fault)
-    → IsLineTold before.taken after.taken before.faults after.faults (line_of (fault_text s.inputs s.export_list_paths paths f))
-    → RunsBy s old new before after ran
-told-run s paths old new before after ran f is answers named line = record {
+    → IsLineTold before after (line_of (fault_text s.inputs s.export_list_paths paths f)) → RunsBy s old new before after ran
+told-run s paths old new before after ran f is answers line = record {
   image = answers.image;
   fault =
       let Q : Option Fault → Type 0 = λ g. IfSome g (HasCauseIn s old new before after) in
-      let W : Option Fault → Type 0 = λ g. IfSome g (JobFails old.outside.store s paths old.failures new.failures) in
+      let W : Option Fault → Type 0 = λ g. IfSome g (RunFails s paths old new) in
       subst Q (sym is) (record { paths = paths; why = subst W is answers.why; line = line });
-  named = named;
+  named = answers.named;
 }
 
 -- a run without a fault
-pub quiet-run : (s : Settings) (paths : List (List ℕ)) (old new : Devices) (before after : ErrorSink) (ran : Ran) → ran.fault ≡ None
-    → Answers s paths old new ran
-    → (bad_name (link_of s) ≡ true → IsBadName ran.fault) → RunsBy s old new before after ran
-quiet-run s paths old new before after ran is answers named = record {
+pub quiet-run : (s : Settings) (paths : List (List ℕ)) (old new : Devices) (before after : Printed) (ran : Ran) → ran.fault ≡ None
+    → Answers s paths old new ran → RunsBy s old new before after ran
+quiet-run s paths old new before after ran is answers = record {
   image = answers.image;
   fault = let Q : Option Fault → Type 0 = λ g. IfSome g (HasCauseIn s old new before after) in subst Q (sym is) tt;
-  named = named;
+  named = answers.named;
 }
 
--- devices that tell the same
-pub same-devices : (d e : Option Directories) (c k : Option CanonicalPaths) (h m : Option Store) (r q w v p : ℕ) (t : Option (List ℕ))
-    → e ≡ d → k ≡ c → m ≡ h → q ≡ r → v ≡ w
-    → devices (outside e k m) q v p t ≡ devices (outside d c h) r w p t
-same-devices d e c k h m r q w v p t is1 is2 is3 is4 is5 = rw (is1, is2, is3, is4, is5) refl
-
--- a run from devices that tell the same
-pub runs-from : (s : Settings) (d e : Option Directories) (c k : Option CanonicalPaths) (h m : Option Store) (r q w v p : ℕ)
-    (t : Option (List ℕ)) (new : Devices)
-    (before after : ErrorSink) (ran : Ran) → e ≡ d → k ≡ c → m ≡ h → q ≡ r → v ≡ w
-    → RunsBy s (devices (outside e k m) q v p t) new before after ran
-    → RunsBy s (devices (outside d c h) r w p t) new before after ran
-runs-from s d e c k h m r q w v p t new before after ran is1 is2 is3 is4 is5 runs =
-    subst (λ (old : Devices). RunsBy s old new before after ran) (same-devices d e c k h m r q w v p t is1 is2 is3 is4 is5) runs
-
 -- the same line, told with the same inputs, lists and paths
-pub same-line : {A : Type 0} (a b : Option (List ℕ)) (old new : ℕ) (xs ys : List InputSpec) (us vs : List (ℕ × String A))
-    (ps qs : List (List ℕ)) (f : Fault)
+pub same-line : {A : Type 0} (a b : Printed) (xs ys : List InputSpec) (us vs : List (ℕ × String A)) (ps qs : List (List ℕ)) (f : Fault)
     → xs ≡ ys → us ≡ vs → ps ≡ qs
-    → IsLineTold a b old new (line_of (fault_text (map input_of xs) (map (λ list. (list.0, string_bytes list.1)) us) ps f))
-    → IsLineTold a b old new (line_of (fault_text (map input_of ys) (map (λ list. (list.0, string_bytes list.1)) vs) qs f))
-same-line {A} a b old new xs ys us vs ps qs f is1 is2 is3 line =
-    subst (λ (zs : List (List ℕ)). IsLineTold a b old new
+    → IsLineTold a b (line_of (fault_text (map input_of xs) (map (λ list. (list.0, string_bytes list.1)) us) ps f))
+    → IsLineTold a b (line_of (fault_text (map input_of ys) (map (λ list. (list.0, string_bytes list.1)) vs) qs f))
+same-line {A} a b xs ys us vs ps qs f is1 is2 is3 line =
+    subst (λ (zs : List (List ℕ)). IsLineTold a b
     (line_of (fault_text (map input_of ys) (map (λ list. (list.0, string_bytes list.1)) vs) zs f))) is3
-    (subst (λ (ws : List (ℕ × String A)). IsLineTold a b old new
+    (subst (λ (ws : List (ℕ × String A)). IsLineTold a b
     (line_of (fault_text (map input_of ys) (map (λ list. (list.0, string_bytes list.1)) ws) ps f))) is2
-    (subst (λ (zs : List InputSpec). IsLineTold a b old new
+    (subst (λ (zs : List InputSpec). IsLineTold a b
     (line_of (fault_text (map input_of zs) (map (λ list. (list.0, string_bytes list.1)) us) ps f))) is1 line))

@@ -3,11 +3,11 @@
 //! Its passes are: the words are read, the linker is made, the inputs and the export lists are read and added, the link
 //! makes an image, the image is written, lines are printed; a fault is told.
 
-ghost use Rattle.std.specs.Prelude.{◌≡◌, ℕ, ◌<◌, ◌-◌, ◌^◌, ◌⊎◌, List, [], length, map, true, false, Some, None, Option, IfOk, IfErr, IfSome, OnOk, MatchOption};
+ghost use Rattle.std.specs.Prelude.{◌≡◌, ℕ, ◌<◌, ◌-◌, ◌^◌, List, [], length, map, true, false, Some, None, Option, IfOk, IfErr, OnOk};
 ghost use Rattle.std.specs.String.{string_bytes};
-ghost use Rattle.macho_args.specs.Settings.{settings_of};
 ghost use Rattle.macho_args.specs.SearchPaths.{IsParsed};
-ghost use Rattle.macho_args.specs.Store.{Store, KeepsOutside};
+ghost use Rattle.macho_args.specs.Settings.{settings_of};
+ghost use Rattle.macho_args.specs.Store.{Store};
 ghost use Rattle.macho_model.specs.Links.{carried_of};
 ghost use Rattle.macho_model.specs.Faults.{bad_name};
 ghost use Rattle.macho_model.specs.Placement.{id_of};
@@ -16,10 +16,10 @@ ghost use Rattle.macho_answer.specs.Linked.{IsImageOf};
 ghost use Rattle.macho_report.specs.Job.{uuid_of};
 ghost use Rattle.macho_devices.specs.Devices.{OnlyReads, OnlyWrites};
 ghost use Rattle.macho_devices.specs.Faults.{CountsOn};
-ghost use Rattle.macho_report.specs.Causes.{Failures, NoneFailed, failures, status_of, reading, IsClear, JobFails, WordsFail};
+ghost use Rattle.macho_report.specs.Causes.{status_of, IsClear, JobFails, WordsFail};
 ghost use Rattle.macho_report.specs.Names.{names_of};
-ghost use Rattle.wild_macho.specs.Runs.{outside, devices, error_sink, IsRun, RunsBy, AskForNoLines, SayJob, IsOwed};
-ghost use Rattle.wild_macho.specs.steps.Made.{IsBadName, IsMade, IsLinkFault, ends, EndFails, Prints, Finishes, Answers};
+ghost use Rattle.wild_macho.specs.Runs.{devices, AskForNoLines, DoesJobs, GoesOn, IsOwed, IsRun, RunsBy};
+ghost use Rattle.wild_macho.specs.steps.Made.{IsBadName, IsMade, IsLinkFault, IsSilent, Prints, Finishes, Answers};
 
 use macho_args::MachOArgs;
 use macho_devices::{FileFault, Files, Sink};
@@ -54,39 +54,23 @@ pub fn run<F: Files, O: Sink, E: Sink>(
     requires { length words.now < 2 ^ 32 - 1 }
 
     // The words are refused, or the run is that of the settings that they say.
-    ensures promise { IsRun (map string_bytes words.now)
-        (devices (outside (F.directories files.old) (F.canonical_paths files.old) (F.holds files.old)) (F.faults files.old)
-        (F.write_faults files.old) (O.faults out.old) (O.taken out.old))
-        (devices (outside (F.directories files.new) (F.canonical_paths files.new) (F.holds files.new)) (F.faults files.new)
-        (F.write_faults files.new) (O.faults out.new) (O.taken out.new))
-        (error_sink (E.taken err.old) (E.faults err.old)) (error_sink (E.taken err.new) (E.faults err.new)) result }
+    ensures promise { IsRun (map string_bytes words.now) (devices (F.state files.old) (O.state out.old))
+        (devices (F.state files.new) (O.state out.new)) (E.state err.old) (E.state err.new) result }
 
     // Directories and canonical paths stay, no count falls. Nothing is printed without an image, where no lines are asked for, and
     // to `err` without a fault.
-    ensures directories { F.directories files.new ≡ F.directories files.old }
-    ensures canonical_paths { F.canonical_paths files.new ≡ F.canonical_paths files.old }
-    ensures reads { CountsOn (F.faults files.old) (F.faults files.new) }
-    ensures writes { CountsOn (F.write_faults files.old) (F.write_faults files.new) }
-    ensures prints { CountsOn (O.faults out.old) (O.faults out.new) }
-    ensures lines { CountsOn (E.faults err.old) (E.faults err.new) }
+    ensures kept { GoesOn (devices (F.state files.old) (O.state out.old)) (devices (F.state files.new) (O.state out.new))
+        × CountsOn (E.state err.old).failed (E.state err.new).failed }
     ensures unprinted { result.image ≡ None → out.new ≡ out.old }
-    ensures silent { AskForNoLines (map string_bytes words.now)
-        (outside (F.directories files.old) (F.canonical_paths files.old) (F.holds files.old)) → out.new ≡ out.old }
+    ensures silent { AskForNoLines (map string_bytes words.now) (F.state files.old) → out.new ≡ out.old }
     ensures quiet { result.fault ≡ None → err.new ≡ err.old }
 
-    // Where a job has nothing against it and no device fails, it is done; or memory ran out.
-    ensures complete { (m : Store) → F.holds files.old ≡ Some m
-        → SayJob (map string_bytes words.now) (outside (F.directories files.old) (F.canonical_paths files.old) (Some m)) IsClear
-        → NoneFailed (failures (F.faults files.old) (F.write_faults files.old) (O.faults out.old))
-        (failures (F.faults files.new) (F.write_faults files.new) (O.faults out.new))
-        → (result.status ≡ 0) ⊎ (result.status ≡ 5) }
-
-    // The same holds of a job whose link is owed an image.
-    ensures answered { (m : Store) → F.holds files.old ≡ Some m
-        → SayJob (map string_bytes words.now) (outside (F.directories files.old) (F.canonical_paths files.old) (Some m)) IsOwed
-        → NoneFailed (failures (F.faults files.old) (F.write_faults files.old) (O.faults out.old))
-        (failures (F.faults files.new) (F.write_faults files.new) (O.faults out.new))
-        → (result.status ≡ 0) ⊎ (result.status ≡ 5) }
+    // Where a job has nothing against it and no device fails, it is done; or memory ran out. The same holds of a job whose link is owed
+    // an image.
+    ensures complete { DoesJobs IsClear (map string_bytes words.now) (devices (F.state files.old) (O.state out.old))
+        (devices (F.state files.new) (O.state out.new)) result }
+    ensures answered { DoesJobs IsOwed (map string_bytes words.now) (devices (F.state files.old) (O.state out.old))
+        (devices (F.state files.new) (O.state out.new)) result }
 {
     match read_words(alloc, words, files) {
         Ok(args) => run_args(alloc, &args, files, out, err),
@@ -100,10 +84,9 @@ pub fn run<F: Files, O: Sink, E: Sink>(
 // The arguments that the words say.
 fn read_words<F: Files>(alloc: Global, words: &[String], files: &mut F) -> Result<MachOArgs, Fault>
     requires { length words.now < 2 ^ 32 - 1 }
-    ensures said { IfOk result (λ args. IsParsed (F.directories files.old) (F.canonical_paths files.old) (map string_bytes words.now)
-        (settings_of args)) }
+    ensures said { IfOk result (λ args. IsParsed (F.state files.old) (map string_bytes words.now) (settings_of args)) }
     ensures why { IfErr result (WordsFail (map string_bytes words.now)) }
-    ensures kept { KeepsOutside F.directories F.canonical_paths F.holds F.faults F.write_faults files.old files.new }
+    ensures kept { F.state files.new ≡ F.state files.old }
 {
     let mut args = MachOArgs::new(alloc)?;
     match args.parse(words, files) {
@@ -120,21 +103,13 @@ fn run_args<F: Files, O: Sink, E: Sink>(
     out: &mut O,
     err: &mut E,
 ) -> Ran
-    ensures done { RunsBy (settings_of args.now)
-        (devices (outside (F.directories files.old) (F.canonical_paths files.old) (F.holds files.old)) (F.faults files.old)
-        (F.write_faults files.old) (O.faults out.old) (O.taken out.old))
-        (devices (outside (F.directories files.new) (F.canonical_paths files.new) (F.holds files.new)) (F.faults files.new)
-        (F.write_faults files.new) (O.faults out.new) (O.taken out.new))
-        (error_sink (E.taken err.old) (E.faults err.old)) (error_sink (E.taken err.new) (E.faults err.new)) result }
+    ensures done { RunsBy (settings_of args.now) (devices (F.state files.old) (O.state out.old))
+        (devices (F.state files.new) (O.state out.new)) (E.state err.old) (E.state err.new) result }
     ensures status { result.status ≡ status_of result.fault }
-    ensures directories { F.directories files.new ≡ F.directories files.old }
-    ensures canonical_paths { F.canonical_paths files.new ≡ F.canonical_paths files.old }
-    ensures reads { CountsOn (F.faults files.old) (F.faults files.new) }
-    ensures writes { CountsOn (F.write_faults files.old) (F.write_faults files.new) }
-    ensures prints { CountsOn (O.faults out.old) (O.faults out.new) }
-    ensures lines { CountsOn (E.faults err.old) (E.faults err.new) }
+    ensures kept { GoesOn (devices (F.state files.old) (O.state out.old)) (devices (F.state files.new) (O.state out.new))
+        × CountsOn (E.state err.old).failed (E.state err.new).failed }
     ensures unprinted { result.image ≡ None → out.new ≡ out.old }
-    ensures silent { (settings_of args.now).map_lines ≡ false → (settings_of args.now).generate ≡ None → out.new ≡ out.old }
+    ensures silent { IsSilent (settings_of args.now) out.old out.new }
     ensures quiet { result.fault ≡ None → err.new ≡ err.old }
 {
     let mut names = FileNames::new(alloc);
@@ -154,19 +129,11 @@ fn link_args<F: Files, O: Sink>(
     names: &mut FileNames,
 ) -> Ran
     requires unnamed { names_of names.old ≡ [] }
-    ensures done { Answers (settings_of args.now) (names_of names.new)
-        (devices (outside (F.directories files.old) (F.canonical_paths files.old) (F.holds files.old)) (F.faults files.old)
-        (F.write_faults files.old) (O.faults out.old) (O.taken out.old))
-        (devices (outside (F.directories files.new) (F.canonical_paths files.new) (F.holds files.new)) (F.faults files.new)
-        (F.write_faults files.new) (O.faults out.new) (O.taken out.new)) result }
-    ensures named { bad_name (link_of (settings_of args.now)) ≡ true → IsBadName result.fault }
-    ensures directories { F.directories files.new ≡ F.directories files.old }
-    ensures canonical_paths { F.canonical_paths files.new ≡ F.canonical_paths files.old }
-    ensures reads { CountsOn (F.faults files.old) (F.faults files.new) }
-    ensures writes { CountsOn (F.write_faults files.old) (F.write_faults files.new) }
-    ensures prints { CountsOn (O.faults out.old) (O.faults out.new) }
+    ensures done { Answers (settings_of args.now) (names_of names.new) (devices (F.state files.old) (O.state out.old))
+        (devices (F.state files.new) (O.state out.new)) result }
+    ensures kept { GoesOn (devices (F.state files.old) (O.state out.old)) (devices (F.state files.new) (O.state out.new)) }
     ensures unprinted { result.image ≡ None → out.new ≡ out.old }
-    ensures silent { (settings_of args.now).map_lines ≡ false → (settings_of args.now).generate ≡ None → out.new ≡ out.old }
+    ensures silent { IsSilent (settings_of args.now) out.old out.new }
 {
     match make_image(alloc, args, files, names) {
         Ok(made) => write_image(args, files, out, names, made),
@@ -189,13 +156,12 @@ fn make_image<F: Files>(
     names: &mut FileNames,
 ) -> Result<Made, Fault>
     requires unnamed { names_of names.old ≡ [] }
-    ensures made { IfOk result (IsMade (F.holds files.old) (settings_of args.now) (names_of names.new)) }
+    ensures made { IfOk result (IsMade (F.state files.old).files (settings_of args.now) (names_of names.new)) }
     ensures fine { OnOk result (bad_name (link_of (settings_of args.now)) ≡ false) }
     ensures named { IfErr result (λ fault. bad_name (link_of (settings_of args.now)) ≡ true → IsBadName (Some fault)) }
-    ensures why { IfErr result (JobFails (F.holds files.old) (settings_of args.now) (names_of names.new)
-        (reading (F.faults files.old)) (reading (F.faults files.new))) }
-    ensures counted { CountsOn (F.faults files.old) (F.faults files.new) }
-    ensures kept { OnlyReads F.directories F.canonical_paths F.holds F.write_faults files.old files.new }
+    ensures why { IfErr result (JobFails (F.state files.old).files (settings_of args.now) (names_of names.new)
+        (F.state files.old).failed_reads (F.state files.new).failed_reads) }
+    ensures kept { OnlyReads (F.state files.old) (F.state files.new) }
 {
     let mut linker = make_linker(alloc, args)?;
     gather(alloc, args, files, &mut linker, names)?;
@@ -206,7 +172,7 @@ fn make_image<F: Files>(
 // A linker of these arguments, without inputs.
 fn make_linker(alloc: Global, args: &MachOArgs) -> Result<Linker, Fault>
     ensures made { IfOk result (λ linker. linker ≡ link_of (settings_of args.now)) }
-    ensures why { IfErr result (λ fault. (told : Option Store) (paths : List (List ℕ)) (old new : Failures)
+    ensures why { IfErr result (λ fault. (told : Option Store) (paths : List (List ℕ)) (old new : ℕ)
         → JobFails told (settings_of args.now) paths old new fault) }
     ensures fine { OnOk result (bad_name (link_of (settings_of args.now)) ≡ false) }
     ensures named { IfErr result (λ fault. IsBadName (Some fault)) }
@@ -238,15 +204,12 @@ fn write_image<F: Files, O: Sink>(
     made: Made,
 ) -> Ran
     requires { map id_of made.image.placement.sections.items ≡ carried_of made.linker }
-    ensures done { Finishes (settings_of args.now) (names_of names.now) made
-        (ends (F.holds files.old) (F.holds files.new) (O.taken out.old) (O.taken out.new)) result }
-    ensures why { IfSome result.fault (EndFails (F.write_faults files.old) (F.write_faults files.new) (O.faults out.old)
-        (O.faults out.new)) }
-    ensures counted { CountsOn (F.write_faults files.old) (F.write_faults files.new) }
-    ensures prints { CountsOn (O.faults out.old) (O.faults out.new) }
-    ensures kept { OnlyWrites F.directories F.canonical_paths F.faults files.old files.new }
+    ensures done { Finishes (settings_of args.now) (names_of names.now) made (devices (F.state files.old) (O.state out.old))
+        (devices (F.state files.new) (O.state out.new)) result }
+    ensures prints { CountsOn (O.state out.old).failed (O.state out.new).failed }
+    ensures kept { OnlyWrites (F.state files.old) (F.state files.new) }
     ensures unprinted { result.image ≡ None → out.new ≡ out.old }
-    ensures silent { (settings_of args.now).map_lines ≡ false → (settings_of args.now).generate ≡ None → out.new ≡ out.old }
+    ensures silent { IsSilent (settings_of args.now) out.old out.new }
 {
     match files.write(args.output.as_str(), made.image.bytes.as_slice()) {
         Ok(()) => print_image(args, out, names, made),
@@ -262,10 +225,8 @@ fn write_image<F: Files, O: Sink>(
 // Prints the lines of an image that is written.
 fn print_image<O: Sink>(args: &MachOArgs, out: &mut O, names: &FileNames, made: Made) -> Ran
     requires { map id_of made.image.placement.sections.items ≡ carried_of made.linker }
-    ensures done { Prints (settings_of args.now) (names_of names.now) made (O.taken out.old) (O.taken out.new) (O.faults out.old)
-        (O.faults out.new) result }
-    ensures prints { CountsOn (O.faults out.old) (O.faults out.new) }
-    ensures silent { (settings_of args.now).map_lines ≡ false → (settings_of args.now).generate ≡ None → out.new ≡ out.old }
+    ensures done { Prints (settings_of args.now) (names_of names.now) made (O.state out.old) (O.state out.new) result }
+    ensures silent { IsSilent (settings_of args.now) out.old out.new }
 {
     match print_lines(out, args, &made.linker, names, &made.image) {
         Ok(()) => Ran {

@@ -8,8 +8,8 @@ use Rattle.std.specs.FinMap as maps
 use Rattle.std.specs.Ordering.{nat_cmp}
 use Rattle.std.specs.Cmp.Lexicographic.{slice_cmp}
 use Rattle.macho_args.specs.Settings.{Settings, file, fresh}
-use Rattle.macho_args.specs.Store.{Store, Directories, CanonicalPaths, IsToldCanonical}
-use Rattle.macho_args.specs.SearchPaths.{IsMoved, standard_frameworks}
+use Rattle.macho_args.specs.Store.{FileSystem, Store, Directories, CanonicalPaths, IsToldCanonical}
+use Rattle.macho_args.specs.SearchPaths.{IsMoved, IsParsed, standard_frameworks}
 use Rattle.macho_args.specs.Options.{option_named, joined_option}
 use Rattle.macho_args.specs.Words.{args_of, read_from}
 use Rattle.macho_model.specs.Links.{Object}
@@ -19,7 +19,7 @@ use Rattle.wild_macho.specs.Heads.{head_of}
 use Rattle.wild_macho.specs.Search.{FileIs}
 use Rattle.wild_macho.specs.Job.{Job, IsJob, linked}
 use Rattle.wild_macho_checks.proofs.RowsAnswered.{calls, calls_is_object, begins_as_file, is_object_type, calling_is_owed}
-use Rattle.wild_macho.specs.Runs.{outside, Says, SayJob, IsOwed}
+use Rattle.wild_macho.specs.Runs.{SayJob, IsOwed}
 
 abbrev path : List ℕ
 path = codes "calls.o"
@@ -56,12 +56,12 @@ is_told None p = tt
 is_told (Some known) p = refl
 
 -- the word says this
-says_asked : (d : Option Directories) (c : Option CanonicalPaths) → Says (path ∷ []) (outside d c (Some held)) asked
-says_asked d c = record {
-  canonical = canonical_by c;
-  told = is_told c;
+says_asked : (files : FileSystem) → IsParsed files (path ∷ []) asked
+says_asked files = record {
+  canonical = canonical_by files.canonical_paths;
+  told = is_told files.canonical_paths;
   said = word_says;
-  read = read_so (canonical_by c);
+  read = read_so (canonical_by files.canonical_paths);
   root = codes "/";
   is_root = refl;
   frameworks = [];
@@ -75,13 +75,14 @@ no_frameworks d root [] each = refl
 no_frameworks d root (x ∷ xs) each = absurd each
 
 -- and nothing else
-says_one : (d : Option Directories) (c : Option CanonicalPaths) (s : Settings) → Says (path ∷ []) (outside d c (Some held)) s → s ≡ asked
-says_one d c s says =
+says_one : (files : FileSystem) (s : Settings) → IsParsed files (path ∷ []) s → s ≡ asked
+says_one files s says =
     let both : Ok says.said ≡ Ok word_says = sym says.read ∙ read_so says.canonical in
     let same : says.said ≡ word_says = cc in
     let at : says.root ≡ codes "/" = says.is_root ∙ ap (λ (t : Settings). unwrap_or t.sysroot (codes "/")) same in
-    let moved = subst (λ (t : Settings). AllZip (IsMoved d says.root) t.framework_search_path says.frameworks) same says.each in
-    let none = no_frameworks d says.root says.frameworks moved in
+    let moved = subst (λ (t : Settings). AllZip (IsMoved files.directories says.root) t.framework_search_path says.frameworks) same
+    says.each in
+    let none = no_frameworks files.directories says.root says.frameworks moved in
     says.is ∙ rw (same, at, none) refl
 
 abbrev job : Job
@@ -101,14 +102,15 @@ is_job = record {
 }
 
 -- THE job is answered wherever there is memory.
-pub job_is_answered : (d : Option Directories) (c : Option CanonicalPaths) → SayJob (path ∷ []) (outside d c (Some held)) IsOwed
-job_is_answered d c = record {
+pub job_is_answered : (files : FileSystem) → files.files ≡ Some held → SayJob (path ∷ []) files IsOwed
+job_is_answered files told = record {
+  told = (held, told);
   said = asked;
-  says = says_asked d c;
+  says = says_asked files;
   each = λ s says.
-      let same = sym (says_one d c s says) in (
+      let same = sym (says_one files s says) in (
         job,
-        subst (λ (t : Settings). IsJob (Some held) t job) same is_job,
+        subst (λ (t : Settings). IsJob files.files t job) same (subst (λ (o : Option Store). IsJob o asked job) (sym told) is_job),
         subst (λ (t : Settings). IsOwed (linked t job)) same calling_is_owed,
       );
 }

@@ -5,42 +5,14 @@
 //! where a word is not UTF-8, which a line on standard error tells by its number, or where there are 2^32 - 1 words or more.
 #![tactic(auto)]
 
-ghost use Rattle.std.specs.Prelude.{◌<◌, ◌-◌, ◌^◌, IfOk, vec_len};
-
-mod words;
-
-use crate::words::{BadWords, words_of};
+use macho_tools::{status_of_words, words_of};
 use std::process::ExitCode;
 use wild_macho::{RealFiles, RealSink, run};
-
-/// The status where memory ran out.
-const OUT_OF_MEMORY: u8 = 5;
-
-/// The status where a word is not UTF-8, or there are too many.
-const BAD_WORDS: u8 = 6;
-
-// The status of words that can't be had; a line says why.
-fn status_of(rt: &HostRuntime, bad: BadWords) -> u8 {
-    match bad {
-        BadWords::OutOfMemory => {
-            let _ = eprintln!(rt; "wild_macho: out of memory");
-            OUT_OF_MEMORY
-        }
-        BadWords::TooMany => {
-            let _ = eprintln!(rt; "wild_macho: too many words");
-            BAD_WORDS
-        }
-        BadWords::NotUtf8 { word } => {
-            let _ = eprintln!(rt; "wild_macho: word {word} is not UTF-8");
-            BAD_WORDS
-        }
-    }
-}
 
 fn main(rt: HostRuntime) -> ExitCode {
     let words = match words_of(&rt) {
         Ok(words) => words,
-        Err(bad) => return ExitCode::from(status_of(&rt, bad)),
+        Err(bad) => return ExitCode::from(status_of_words(&rt, "wild_macho", bad)),
     };
     let mut files = RealFiles::new(&rt, rt.alloc());
     let mut out = RealSink::new(rt.stdout());

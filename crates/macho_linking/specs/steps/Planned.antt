@@ -19,11 +19,10 @@ use Rattle.macho_symbol_tables.specs.Exports.{exports_told}
 use Rattle.macho_refusal_laws.specs.Read.{IsReadOf, AreKnown}
 use Rattle.macho_sizing.specs.Sized.{IsSizedOf}
 use Rattle.macho_linking.specs.declared.planned.Planned.{Planned}
-use Rattle.macho_linker.specs.Asked.{link_asked}
 
 -- The arguments and the inputs are those of the link.
 pub record AreInputs (l : Link) (b : Planned) : Type 0 where
-  pub arguments : l ≡ link_asked b.asked.now
+  pub arguments : l ≡ b.linker.now
   pub views : b.views.now ≡ views_of l
   pub objects : AreObjects l b.objects.now × All (λ o. o.file.is_dynamic ≡ false) b.objects.now
   pub lists : AreLists l (option_copied b.list)

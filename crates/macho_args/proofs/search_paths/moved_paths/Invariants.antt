@@ -1,15 +1,14 @@
 -- Each path so far has moved, and the file system tells what it told before.
-use Rattle.std.proofs.Common.{map, take}
+use Rattle.std.proofs.Common.{◌≡◌, map, take}
 use Rattle.std.specs.List.{AllZip}
 use Rattle.std.specs.String.{string_bytes}
 use Rattle.macho_args.specs.SearchPaths.{IsMoved}
-use Rattle.macho_args.specs.Store.{KeepsOutside}
 use Rattle.macho_args.proofs.search_paths.moved_paths.Given as goal
 
 abbrev pub invariant-loop-path : goal.invariant-loop-path
 invariant-loop-path g l =
-    let D = g.D.Paths in
+    let told = g.D.Paths.state l.fn.paths in
     record {
-      each : AllZip (IsMoved (D.directories l.fn.paths) l.root) (map string_bytes (take l.path-index l.old)) (map string_bytes l.new.items);
-      outside : KeepsOutside D.directories D.canonical_paths D.holds D.faults D.write_faults l.fn.paths l.paths;
+      each : AllZip (IsMoved told.directories l.root) (map string_bytes (take l.path-index l.old)) (map string_bytes l.new.items);
+      outside : g.D.Paths.state l.paths ≡ told;
     }

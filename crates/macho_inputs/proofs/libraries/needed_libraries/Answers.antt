@@ -1,5 +1,5 @@
 -- What is kept of the install names, each once, is what the link needs.
-use Rattle.std.proofs.Common.{◌≡◌, ℕ, List, filter, map, ap, refl, subst, ◌∙◌, Bor, IfOk, IsOk}
+use Rattle.std.proofs.Common.{◌≡◌, ℕ, List, filter, map, ap, refl, subst, ◌∙◌, Bor, IfOk}
 use Rattle.std.specs.Str.{bytes_eq}
 use Rattle.macho_model.specs.Needs.{distinct, imports_of}
 use Rattle.macho_stub_lines.specs.Lists.{texts}

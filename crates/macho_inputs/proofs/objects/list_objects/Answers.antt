@@ -23,7 +23,7 @@ loop-number-preserved c =
             ∙ ap (map seen_object) w.in_ok-push-in-Object.ensures.items
             ∙ map-append seen_object c.loop-number.objects.items _
             ∙ ap (λ (xs : List (ℕ × List ℕ)). seen ++ xs)
-            (one_object i c.index-inputs-number.result w.in-Object.bytes w.of_valid.result.bytes w.in-Object.is
+            (one_object i c.index-inputs-number.result w.in-Object.object w.of_valid.result.bytes w.in-Object.is
             (ap (λ (f : FileBytes). f.bytes) w.of_valid.ensures ∙ w.deref.ensures.value)));
         kinds = subst (λ (v : Vec LinkedObject Global). All kind v.items) (sym w.objects-is)
             (subst (All kind) (sym w.in_ok-push-in-Object.ensures.items)

@@ -2,12 +2,12 @@
 use Rattle.std.proofs.Common.{◌≡◌, ◌++◌, map, length}
 use Rattle.std.specs.Vec.Iter.{into_iter_items, into_iter_len}
 use Rattle.macho_trie.specs.Lists.{line_of}
-use Rattle.macho_inspect.specs.Reports.{export_in}
+use Rattle.macho_inspect.specs.Reports.{exported_by}
 use Rattle.macho_inspect.proofs.exports.export_lines.Given as goal
 
 abbrev pub invariant-loop-named : goal.invariant-loop-named
 invariant-loop-named l =
-    (map export_in l.lines.items ++ map line_of (into_iter_items l.rest) ≡ map line_of l.fn.names.items)
+    (map exported_by l.lines.items ++ map line_of (into_iter_items l.rest) ≡ map line_of l.fn.names.items)
     × (into_iter_len l.rest ≡ length (into_iter_items l.rest))
 
 abbrev pub decreases-loop-named : goal.decreases-loop-named

@@ -2,7 +2,7 @@
 use Rattle.std.proofs.Common.{◌≡◌, map, refl, sym, ap, subst, ◌∙◌}
 use Rattle.macho_trie.specs.Lists.{AreExports}
 use Rattle.macho_loader.specs.Lists.{range_of}
-use Rattle.macho_inspect.specs.Reports.{export_in}
+use Rattle.macho_inspect.specs.Reports.{exported_by}
 use Rattle.macho_inspect.specs.Tries.{trie_commands}
 use Rattle.macho_inspect.proofs.Tries.{no_exports, no_trie, trie_of_none, right_without, one_trie, second_trie}
 use Rattle.macho_inspect.proofs.exports.exports_of.Goals as goal
@@ -13,8 +13,8 @@ returns-in-empty c =
     let are : c.as_slice.result.now ≡ map (range_of b) (trie_commands b) =
     subst (λ x. c.as_slice.result.now ≡ map (range_of x) (trie_commands x)) c.requires (c.as_slice.ensures.value ∙ c.in_ok-tries.ensures) in
     let none = no_trie b c.as_slice.result.now are c.in-empty.len_below in (
-      subst (λ xs. AreExports xs (map export_in c.new.result.items)) (sym (trie_of_none b none))
-          (no_exports (map export_in c.new.result.items) (ap (λ xs. map export_in xs) c.new.ensures.items)),
+      subst (λ xs. AreExports xs (map exported_by c.new.result.items)) (sym (trie_of_none b none))
+          (no_exports (map exported_by c.new.result.items) (ap (λ xs. map exported_by xs) c.new.ensures.items)),
       λ place. right_without b place none,
     )
 

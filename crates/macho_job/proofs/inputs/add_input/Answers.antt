@@ -14,6 +14,7 @@ returns-in_err-path-clause-why g c =
 pub returns-clause-added : goal.returns-clause-added
 returns-clause-added g c =
     on_ok_one c.take_input.result
-    (takes-file (g.F.Paths.holds c.args.files.now) (settings_of c.args.args.now) (input_of c.args.spec.now) (names_of c.args.names.now)
+    (takes-file (g.F.Paths.state c.args.files.now).files (settings_of c.args.args.now) (input_of c.args.spec.now)
+    (names_of c.args.names.now)
     (names_of c.push.new.self) c.args.linker.now c.take_input.new.linker _ _ c.in_ok-path.ensures.found c.in_ok-push.ensures.added)
     c.take_input.ensures.added

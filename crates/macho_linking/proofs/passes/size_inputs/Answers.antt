@@ -7,14 +7,13 @@ use Rattle.macho_symbols.specs.declared.exports.ExportName.{ExportName}
 use Rattle.macho_linkedit.specs.Tries.{AreKept}
 use Rattle.macho_symbol_tables.specs.Exports.{CanBeTrie, exports_told}
 use Rattle.macho_promise_laws.proofs.Plain.{imports_plain}
-use Rattle.macho_linker.specs.Asked.{link_asked}
 use Rattle.macho_linking.proofs.Given.{stands_counted}
 use Rattle.macho_linking.proofs.Handed.{are_of, can_be_sized, has_sizes}
 use Rattle.macho_linking.proofs.passes.size_inputs.Goals as goal
 
 pub kept_exports-requires-clause-link : goal.kept_exports-requires-clause-link
 kept_exports-requires-clause-link c =
-    let l = link_asked c.args.asked.now in (
+    let l = c.args.linker.now in (
       l,
       record {
         exports_are = subst (λ (es : List ExportName). AreExports l (imports_of l) es) (sym c.deref.ensures.value)
@@ -26,7 +25,7 @@ kept_exports-requires-clause-link c =
 
 pub size_link-requires : goal.size_link-requires
 size_link-requires c =
-    let l = link_asked c.args.asked.now in
+    let l = c.args.linker.now in
     can_be_sized l _ c.args.views.now c.args.objects.now (option_copied c.args.list) c.args.read.now
     (map (λ n. n.items) c.args.libraries.now) c.requires
     (record {
@@ -52,7 +51,7 @@ size_link-requires c =
 
 pub returns-clause-done : goal.returns-clause-done
 returns-clause-done c =
-    let l = link_asked c.args.asked.now in
+    let l = c.args.linker.now in
     let of_link = are_of l _ c.args.views.now c.args.objects.now (option_copied c.args.list) c.args.read.now
     (map (λ n. n.items) c.args.libraries.now)
     c.requires (record {
@@ -87,7 +86,7 @@ returns-clause-done c =
 
 pub returns-clause-why : goal.returns-clause-why
 returns-clause-why c =
-    let l = link_asked c.args.asked.now in
+    let l = c.args.linker.now in
     let of_link = are_of l _ c.args.views.now c.args.objects.now (option_copied c.args.list) c.args.read.now
     (map (λ n. n.items) c.args.libraries.now)
     c.requires (record {

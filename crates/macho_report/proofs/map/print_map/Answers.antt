@@ -1,8 +1,8 @@
 -- The lines are pushed behind nothing, and what is held in the end is printed.
-use Rattle.macho_report.proofs.Pushes.{pushed-printed}
+use Rattle.macho_printing.proofs.Pushes.{pushed-printed}
 use Rattle.macho_report.proofs.map.print_map.Goals as goal
 
 pub returns : goal.returns
 returns g c =
-    pushed-printed _ _ _ _ _ _ _ _ c.flush.result (rw c.new-lines.ensures at c.in_ok-push_sections.ensures.done)
+    pushed-printed _ _ _ _ _ c.flush.result (rw c.new-lines.ensures at c.in_ok-push_sections.ensures.done)
     c.in_ok-push_sections.ensures.counted c.flush.ensures.printed

@@ -3,8 +3,8 @@
 use Rattle.std.proofs.lemmas.Result.{err_from_is_err_and}
 use Rattle.macho_job.specs.Names.{names_of}
 use Rattle.macho_report.specs.Lines.{map_line}
-use Rattle.macho_report.proofs.Prints.{counts-since}
-use Rattle.macho_report.proofs.Pushes.{piece-pushed, piece-refused}
+use Rattle.macho_devices.proofs.Counts.{counts-since}
+use Rattle.macho_printing.proofs.Pushes.{piece-pushed, piece-refused}
 use Rattle.macho_report.proofs.Listed.{placed-there, viewed-there, viewed-header}
 use Rattle.macho_report.proofs.map.push_sections.Goals as goal
 
@@ -21,7 +21,7 @@ returns-in_err-push_section g c =
     let p = err_from_is_err_and c.from_residual.result c.from_residual.ensures.1 in
     let pushed = c.in_err-push_section.ensures c.args.linker.now (viewed-header _ _ _ _ _ c.view_of-viewed.ensures.file
     c.view_of-viewed.ensures.viewed c.header_of-header.ensures) in
-    piece-refused (map_line c.args.linker.now (names_of c.args.names.now)) c.args.sections.now c.loop-index.index _ _ _ _ _ _ _ _ _ _
+    piece-refused (map_line c.args.linker.now (names_of c.args.names.now)) c.args.sections.now c.loop-index.index _ _ _ _ _ _ _
     c.from_residual.result p.0 p.1 c.loop-index-test.true
     c.loop-index.invariant.0 pushed.left c.loop-index.invariant.1 pushed.counted pushed.why
 

@@ -19,7 +19,7 @@ loop-index-init c =
     let name : c.in-Some.install_name.now ≡ install_name_of b
     = install_name_from b c.args.file.now.is_dynamic c.in-Some.install_name.now c.requires.dylib c.in-Some.ensures in
     record {
-      gathers = gathers_none b _ c.new.ensures.items c.new-2.ensures.items c.new-3.ensures.empty;
+      gathers = gathers_none b _ c.new.ensures.items c.new-2.ensures.items c.with_hasher.ensures.empty;
       install_name = (writes c.in-Some.install_name.now c.in-Some-written.install_name.now c.in-Some-written.ensures).1 ∙ name;
     }
 

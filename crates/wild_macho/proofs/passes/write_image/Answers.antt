@@ -13,4 +13,5 @@ returns-in-Err-Failed-clause-done g c =
             left;
         lines = refl;
       };
+      why = rw c.in-Err-Failed.field-0-is at c.in-Err-Failed.ensures.why;
     }

@@ -2,12 +2,12 @@
 --
 -- The words are read by the fold, and then the rule on inputs holds or gives the fault. So the fields have what all words say
 -- with the root kept. Then the root takes its canonical path, and the framework paths follow it: directories are as they were.
-use Rattle.std.proofs.Common.{subst, map, Option}
+use Rattle.std.proofs.Common.{subst, map}
 use Rattle.std.specs.String.{string_bytes}
 use Rattle.std.proofs.lemmas.Result.{err_from_is_err_and}
 use Rattle.macho_args.specs.steps.KeptRoot.{FollowsRoot}
 use Rattle.macho_args.specs.Settings.{settings_of}
-use Rattle.macho_args.specs.Store.{Directories}
+use Rattle.macho_args.specs.Store.{FileSystem}
 use Rattle.macho_args.proofs.Reading.{all-refused, all-beside, all-said}
 use Rattle.macho_args.proofs.Roots.{words-refused, words-parsed}
 use Rattle.macho_args.proofs.fields.MachOArgs.read_command_line.Goals as goal
@@ -29,14 +29,13 @@ returns-in_err-refuse_inputs-clause-why g c =
 
 pub returns-clause-done : goal.returns-clause-done
 returns-clause-done g c =
-    let D = g.D.Paths in
+    let told = g.D.Paths.state c.args.paths.now in
     let words = map string_bytes c.args.words.now in
     let kept = settings_of c.read_words.new.self in
     let said = settings_of c.settle_root.new.self in
     let args = settings_of c.move_frameworks.new.self in
     let read = all-said words (settings_of c.args.self.now) c.requires.fresh
     kept c.in_ok-read_words.ensures.done c.in_ok-refuse_inputs.ensures in
-    let below = λ (known : Option Directories). FollowsRoot known said.sysroot said args in
-    let follows = subst below c.settle_root.ensures.outside.same_directories c.in_ok-move_frameworks.ensures.done in
-    words-parsed (D.canonical_paths c.args.paths.now) words kept said read
-    (D.directories c.args.paths.now) args c.in_ok-settle_root.ensures.done follows
+    let below = λ (files : FileSystem). FollowsRoot files.directories said.sysroot said args in
+    let follows = subst below c.settle_root.ensures.outside c.in_ok-move_frameworks.ensures.done in
+    words-parsed told words kept said read args c.in_ok-settle_root.ensures.done follows

@@ -1,0 +1,12 @@
+pub mod Inputs
+pub mod Views
+pub mod Parts
+pub mod Tables
+pub mod Places
+pub mod Standing
+pub mod Exports
+pub mod Faults
+pub mod Written
+pub mod Answers
+pub mod Alike
+pub mod Rows

@@ -1,0 +1,3 @@
+-- The code's own steps: what private functions say, and what loops keep. No clause of a public function cites them.
+pub mod Names
+pub mod Reads

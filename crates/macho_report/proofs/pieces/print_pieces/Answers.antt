@@ -1,8 +1,0 @@
--- The pieces are pushed behind nothing, and what is held in the end is printed.
-use Rattle.macho_report.proofs.Pushes.{pushed-printed}
-use Rattle.macho_report.proofs.pieces.print_pieces.Goals as goal
-
-pub returns : goal.returns
-returns g c =
-    pushed-printed _ _ _ _ _ _ _ _ c.flush.result (rw c.new-lines.ensures at c.in_ok-push_pieces.ensures.done)
-    c.in_ok-push_pieces.ensures.counted c.flush.ensures.printed

@@ -1,0 +1,21 @@
+-- The run ends as its words tell, and is told. Where nothing stands against it, that leaves two statuses.
+use Rattle.std.proofs.Common.{map}
+use Rattle.std.specs.String.{string_bytes}
+use Rattle.macho_tools.specs.Runs.{devices}
+use Rattle.macho_tools.proofs.Ends.{tool-run}
+use Rattle.macho_tools.proofs.Sure.{clear-status}
+use Rattle.macho_retool.specs.Runs.{retooler}
+use Rattle.macho_retool.proofs.running.run.Goals as goal
+
+pub returns : goal.returns
+returns g c =
+    let out = g.O.Sink.state c.args.out.now in
+    let old = devices (g.F.Paths.state c.args.files.now) out in
+    let new = devices (g.F.Paths.state c.retool_words-answer.new.files) out in
+    let words = map string_bytes c.args.words.now in
+    let run = tool-run retooler words old new (g.E.Sink.state c.args.err.now) (g.E.Sink.state c.ended.new.err) c.ended.result _
+    c.ended.ensures.fault c.ended.ensures.status (c.retool_words-answer.ensures out) c.ended.ensures.told c.ended.ensures.counted in
+    record {
+      promise = run;
+      complete = λ m tells clear calm. clear-status retooler words m old new _ _ c.ended.result run tells clear calm;
+    }

@@ -1,6 +1,0 @@
-use Rattle.std.proofs.Common.{◌≡◌, vec_len}
-use Rattle.wild_macho_main.proofs.words.words_of.Given as goal
-
--- so many words are had
-abbrev pub invariant-loop-word : goal.invariant-loop-word
-invariant-loop-word l = vec_len l.words ≡ l.word
