@@ -12,5 +12,5 @@ command -v python3 >/dev/null || {
     exit 0
 }
 inputs=("$top/examples/leaves/leaves.o" "$top/examples/leaves/libSystem.tbd")
-"$top/link" -o "$folder/out" "${inputs[@]}" || fail "the link ended with status $?"
+"$top/link" "${macos[@]}" -o "$folder/out" "${inputs[@]}" || fail "the link ended with status $?"
 python3 "$top/checks/annotated.py" "$top/docs/FORMATS.md" "$folder/out" "${inputs[@]}"

@@ -1,17 +1,18 @@
 """The definitions that the clauses of public functions rest on, read from the sources.
 
-believed.py                 the definitions under the clauses of `run`, in reading order, with lines; then the rules below
+believed.py                 the definitions under the clauses of `run`, in reading order, with lines; those of each tool; then the rules below
 believed.py --crate NAME    the files of a crate's specs/, and which definitions of each a public clause rests on
 believed.py --shares        the definitions under `run` that take the most lines with them: what would go if nothing needed them
-believed.py --lines         writes the reading list and its parts into docs/THEOREMS.md, the lines of the files that its tables name, and the
-                            number of all lines into README.md
+believed.py --lines         writes the reading list, its parts and the tools' lists into docs/THEOREMS.md, the lines of the files that its
+                            tables name, and the number of all lines into README.md
 
 The size of what must be believed is the lines of the definitions under `run`: types, equations, fields and cases. Comments are told apart:
-no theorem rests on them.
+no theorem rests on them. Each tool has a `run` of its own, and so a list of its own.
 
 Refused are: more lines than MOST_LINES under the clauses of `run`, a file of specs/steps/ under a clause of a public function of any crate
 (or under what a public type or trait stands for), a file of specs/ that imports one of specs/steps/, a row of a table of sentences
-(docs/PROVED.md has these) that names a function or clause that isn't there, and a clause of `run` or of `link` that no such row names.
+(docs/PROVED.md has these) that names a function or clause that isn't there, and a clause of `run`, of `link` or of a tool's `run` that no
+such row names.
 A table of sentences on another page is refused: its rows would be told twice. Refused is also a file of the reading list
 that isn't in just one row of the table of public sources (docs/THEOREMS.md), and a row of that table that names a file that isn't
 there, or no source.
@@ -26,13 +27,18 @@ NAME = r"[^\s(){}\[\],;.]+"
 BEGIN, END = "<!-- reading list -->\n", "<!-- end of the reading list -->\n"
 PARTS, PARTS_END = "<!-- parts -->\n", "<!-- end of the parts -->\n"
 SOURCES, SOURCES_END = "<!-- sources -->\n", "<!-- end of the sources -->\n"
+TOOLS_BEGIN, TOOLS_END = "<!-- tools -->\n", "<!-- end of the tools -->\n"
 
 # The most lines of definitions under `run`, without comments.
 MOST_LINES = 3500
 
 # The page whose tables say which clause carries a sentence, and the functions each clause of which has to be in them.
 TABLES = os.path.join("docs", "PROVED.md")
-TOLD_WHOLE = [("wild_macho", "run"), ("macho_linking", "link")]
+TOLD_WHOLE = [("wild_macho", "run"), ("macho_linking", "link"), ("macho_inspect", "run"), ("macho_tbd", "run"),
+              ("macho_retool", "run")]
+
+# The tools: the script, its crate, and its call on bytes, which stands for `run` where the tool has no program.
+TOOLS = [("inspect", "macho_inspect", "inspect"), ("tbd", "macho_tbd", "stub_text"), ("retool", "macho_retool", "retool")]
 
 # What is promised, from the headline outwards: each part's last definition, and what it says.
 PROMISED = [
@@ -394,10 +400,21 @@ def print_crate(world, crates, crate):
             print("    not:  ", " ".join(rest))
 
 
+def call_of(crate, name):
+    """A public function of a crate, if there is just one of the name."""
+    functions = [f for f in functions_of(crate) if f.name == name and f.is_public and f.owner is None]
+    return functions if len(functions) == 1 else []
+
+
 def run_of(world):
     """The function `run`, if there is one."""
-    functions = [f for f in functions_of("wild_macho") if f.name == "run" and f.is_public and f.owner is None]
-    return functions if len(functions) == 1 else []
+    return call_of("wild_macho", "run")
+
+
+def tools():
+    """The tools that are there, as (script, crate, call)."""
+    found = ((script, crate, call_of(crate, "run") or call_of(crate, name)) for script, crate, name in TOOLS)
+    return [(script, crate, functions[0]) for script, crate, functions in found if functions]
 
 
 def reading_list(world, functions):
@@ -422,21 +439,48 @@ def reading_list(world, functions):
     return files
 
 
+def print_list(world, files):
+    """Prints a reading list; answers the lines of its definitions, those of its files, and the number of its definitions."""
+    total = whole = count = 0
+    for module, found in files.items():
+        lines = sum(lines_of(world, one) for one in found)
+        total, whole, count = total + lines, whole + world.files[module].lines, count + len(found)
+        print(f"{lines:5}  {short(module)}: {', '.join(one[1] for one in found)}")
+    return total, whole, count
+
+
 def print_run(world):
     functions = run_of(world)
     if not functions:
         return ["there is no public function `run` in wild_macho"]
     files = reading_list(world, functions)
-    total = whole = count = 0
     print("lines  definitions under the clauses of `run`, in reading order")
-    for module, found in files.items():
-        lines = sum(lines_of(world, one) for one in found)
-        total, whole, count = total + lines, whole + world.files[module].lines, count + len(found)
-        print(f"{lines:5}  {short(module)}: {', '.join(one[1] for one in found)}")
+    total, whole, count = print_list(world, files)
     comments, types, others = kinds_of(world, files)
     print(f"{total:5}  lines, of at most {MOST_LINES}: {others} of equations, fields and cases, {types} of types")
     print(f"{total + comments:5}  with the {comments} lines of their comments; {count} definitions in {len(files)} files, which have {whole} lines in all")
     return ([f"{total} lines of definitions under `run`, more than {MOST_LINES}"] if total > MOST_LINES else [])
+
+
+def others_of(world, files):
+    """Of a reading list what isn't on that of the linker's `run`, file by file."""
+    known = {one for found in reading_list(world, run_of(world)).values() for one in found}
+    others = {module: [one for one in found if one not in known] for module, found in files.items()}
+    return {module: found for module, found in others.items() if found}
+
+
+def count_of(world, files):
+    """The lines of the definitions of a reading list."""
+    return sum(lines_of(world, one) for found in files.values() for one in found)
+
+
+def print_tools(world):
+    for _, crate, function in tools():
+        files = reading_list(world, [function])
+        print(f"\nlines  definitions under the clauses of `{function.name}` of {crate}, in reading order")
+        total, _, count = print_list(world, files)
+        others = count_of(world, others_of(world, files))
+        print(f"{total:5}  lines, {count} definitions in {len(files)} files; {total - others} of the lines are under the linker's `run`, too")
 
 
 def shares_of(world):
@@ -619,6 +663,23 @@ def rows_of_parts(world):
     return ["| definition | it says | lines | with those above |", "|---|---|--:|--:|"] + rows
 
 
+def rows_of_tools(world):
+    """For each tool how many lines are under its `run`; and the files whose definitions aren't all under the linker's, with these lines."""
+    lists = [(script, crate, function, reading_list(world, [function])) for script, crate, function in tools()]
+    others = [others_of(world, files) for _, _, _, files in lists]
+    rows = ["| tool | function | definitions | files | lines | of these not under the linker's `run` |", "|---|---|--:|--:|--:|--:|"]
+    for (script, crate, function, files), rest in zip(lists, others):
+        count = sum(len(found) for found in files.values())
+        rows.append(f"| {script} | `{function.name}` of `{crate}` | {count} | {len(files)} | {count_of(world, files)} | {count_of(world, rest)} |")
+    names = [script for script, _, _, _ in lists]
+    rows += ["", f"| crate and file | {' | '.join(names)} | it says |", "|---" + "|--:" * len(names) + "|---|"]
+    for module in dict.fromkeys(module for rest in others for module in rest):
+        crate, _, file = short(module).partition("/specs/")
+        counts = [str(sum(lines_of(world, one) for one in rest.get(module, ())) or "") for rest in others]
+        rows.append(f"| `{crate}` `{file}` | {' | '.join(counts)} | {subject(world.files[module].text)} |")
+    return rows
+
+
 def with_rows(text, begin, end, rows):
     """A text with other rows between two marks."""
     front, rest = text.split(begin)
@@ -639,9 +700,10 @@ def lines_of_row(names, missing):
 
 
 def write_lines(world):
-    """Writes the reading list of `run` into docs/THEOREMS.md, and the lines of the files that its other tables name."""
+    """Writes the reading lists of `run` and of the tools into docs/THEOREMS.md, and the lines of the files that its other tables name."""
     path = os.path.join(TOP, "docs", "THEOREMS.md")
     text = with_rows(with_rows(read(path), BEGIN, END, rows_of_run(world)), PARTS, PARTS_END, rows_of_parts(world))
+    text = with_rows(text, TOOLS_BEGIN, TOOLS_END, rows_of_tools(world))
     missing, lines = [], text.split("\n")
     for number, line in enumerate(lines):
         row = re.match(r"\| ((?:`[\w/]+`(?:, )?)+) \| \d+ \|", line)
@@ -671,7 +733,9 @@ def main():
         missing = write_lines(world)
         print("\n".join(missing) or "docs/THEOREMS.md: the lines are written")
         return 1 if missing else 0
-    wrong = print_run(world) + wrong_imports(world) + wrong_steps(world, crates) + wrong_rows(crates) + wrong_sources(world)
+    wrong = print_run(world)
+    print_tools(world)
+    wrong += wrong_imports(world) + wrong_steps(world, crates) + wrong_rows(crates) + wrong_sources(world)
     for line in dict.fromkeys(wrong):
         print(f"believed: {line}", file=sys.stderr)
     return 1 if wrong else 0

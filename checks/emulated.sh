@@ -25,7 +25,7 @@ stubs=("$programs/libSystem.tbd" "$programs/libc++.tbd")
 
 # Links an image of a name by words.
 linked() {
-    "$link" -o "$folder/$1" "${@:2}" >"$folder/said" || fail "$1: the link ended with status $?"
+    "$link" "${macos[@]}" -o "$folder/$1" "${@:2}" >"$folder/said" || fail "$1: the link ended with status $?"
 }
 
 # A linked program prints what a file holds; its libraries are PATH=IMAGE.
@@ -67,7 +67,7 @@ apart() {
     linked "$1_apart" "$programs/$1/main.o" "$folder/lib$1.dylib" "${stubs[@]}"
 }
 
-linked hello examples/hello/hello.o
+linked hello examples/hello/hello.o examples/libSystem.tbd
 prints hello 'status 0\n'
 linked leaves examples/leaves/leaves.o examples/leaves/libSystem.tbd
 prints leaves 'status 1\n' # what it was started with: one word
@@ -78,7 +78,7 @@ prints greetings 'hello\nworld\nstatus 6\n' # what `fputs` answers
 linked thrown examples/thrown/thrown.o examples/libc++.tbd examples/libSystem.tbd
 prints thrown 'status 0\n'
 linked libshapes.dylib -dylib -install_name @rpath/libshapes.dylib -exported_symbols_list examples/shapes/shapes.exports \
-    examples/shapes/shapes.o
+    examples/shapes/shapes.o examples/libSystem.tbd
 linked shapes -rpath @executable_path/lib "$programs/shapes/main.o" "$folder/libshapes.dylib" "${stubs[@]}"
 prints shapes '25 27\nstatus 0\n' /programs/lib/libshapes.dylib=libshapes.dylib
 

@@ -10,14 +10,14 @@ source "$top/checks/installed.bash" || exit 1
 
 # Links an image of a name by words.
 linked() {
-    ./link -o "$folder/$1" "${@:2}" || fail "$1: the link ended with status $?"
+    ./link "${macos[@]}" -o "$folder/$1" "${@:2}" || fail "$1: the link ended with status $?"
     [ -s "$folder/$1" ] || fail "$1: no image was written"
 }
 
 linked greeting examples/greeting/main.o examples/greeting/greet.o examples/libSystem.tbd
 linked thrown examples/thrown/thrown.o examples/libc++.tbd examples/libSystem.tbd
 linked libshapes.dylib -dylib -install_name @rpath/libshapes.dylib -exported_symbols_list examples/shapes/shapes.exports \
-    examples/shapes/shapes.o
+    examples/shapes/shapes.o examples/libSystem.tbd
 
 nm=$(tool llvm-nm) && objdump=$(tool llvm-objdump) || {
     echo "examples: linked; the reading is SKIPPED, since llvm-nm or llvm-objdump isn't installed"

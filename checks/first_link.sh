@@ -8,7 +8,7 @@ image=$folder/hello
 
 source "$top/checks/installed.bash" || exit 1
 
-"$top/link" -o "$image" "$top/examples/hello/hello.o" || fail "the link ended with status $?"
+"$top/link" "${macos[@]}" -o "$image" "$top/examples/hello/hello.o" "$top/examples/libSystem.tbd" || fail "the link ended with status $?"
 [ -x "$image" ] || fail "no executable was written"
 
 readobj=$(tool llvm-readobj) && objdump=$(tool llvm-objdump) || {
@@ -27,12 +27,14 @@ wanted() {
 }
 
 wanted read 'FileType: Executable (0x2)'
-wanted read 'NumOfLoadCommands: 10'
-wanted read 'SizeOfLoadCommands: 448'
+wanted read 'NumOfLoadCommands: 12'
+wanted read 'SizeOfLoadCommands: 536'
 wanted read 'Flags [ (0x200085)'
-wanted read 'Address: 0x1000001E0'
-wanted dump 'entryoff 480'
+wanted read 'Address: 0x100000238'
+wanted dump 'entryoff 568'
+wanted dump 'minos 14.0'
 wanted dump 'name /usr/lib/dyld (offset 12)'
+wanted dump 'name /usr/lib/libSystem.B.dylib (offset 24)'
 wanted dump 'cmd LC_DYLD_CHAINED_FIXUPS'
 wanted dump 'cmd LC_CODE_SIGNATURE'
 wanted dump 'ret'

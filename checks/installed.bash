@@ -1,5 +1,8 @@
 # What checks share: read by `source`. A check stands in a file of its own name, which its faults begin with.
 
+# A Mac takes an image without these words for one of iOS.
+macos=(-platform_version macos 14.0 14.0)
+
 fail() {
     echo "$(basename "$0" .sh): $1" >&2
     exit 1

@@ -1,6 +1,6 @@
 """Makes the mistakes of docs/USAGE.md, and compares what is printed.
 
-mistakes.py LINK PAGE  gives LINK the words of each row of 'Common mistakes', in the folder where it is called
+mistakes.py LINK PAGE WORD..  gives LINK the words, and those of each row of 'Common mistakes', in the folder where it is called
 
 A row has the words, the status and the line that are wanted. Nothing may be written, and the line is all that is printed.
 """
@@ -25,10 +25,10 @@ def rows(page):
             yield cells[0], cells[1].strip("`").split(), int(cells[2]), cells[3].strip("`")
 
 
-def main(link, page):
+def main(call, page):
     count = 0
     for what, words, status, line in rows(page):
-        ran = subprocess.run([link, *words], capture_output=True, check=False)
+        ran = subprocess.run([*call, *words], capture_output=True, check=False)
         wanted = f"wild_macho: {line}\n".encode()
         if ran.stderr != wanted or ran.stdout or ran.returncode != status:
             fail(f"{what}: status {ran.returncode}, {ran.stderr!r}; wanted {status}, {wanted!r}")
@@ -42,4 +42,4 @@ def main(link, page):
 
 if __name__ == "__main__":
     with open(sys.argv[2], encoding="utf-8") as file:
-        main(sys.argv[1], file.read())
+        main([sys.argv[1], *sys.argv[3:]], file.read())

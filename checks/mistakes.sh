@@ -42,10 +42,9 @@ head -c -5 libSystem.tbd >cut.tbd
 printf '{ "main_library": {}, "tapi_tbd_version": 5 }\n' >v5.tbd
 
 # What is right, as in the first section of the page.
-macos='-platform_version macos 14.0 14.0'
-"$top/link" $macos -o right main.o twice.o libSystem.tbd || fail "what is right is refused"
-"$top/link" $macos -dylib -install_name @rpath/libtwice.dylib -o libtwice.dylib twice.o || fail "the library is refused"
-"$top/link" $macos -rpath @loader_path -o right main.o libtwice.dylib libSystem.tbd || fail "a program over the library is refused"
+"$top/link" "${macos[@]}" -o right main.o twice.o libSystem.tbd || fail "what is right is refused"
+"$top/link" "${macos[@]}" -dylib -install_name @rpath/libtwice.dylib -o libtwice.dylib twice.o libSystem.tbd || fail "the library is refused"
+"$top/link" "${macos[@]}" -rpath @loader_path -o right main.o libtwice.dylib libSystem.tbd || fail "a program over the library is refused"
 sed "s,'/usr.*','@rpath/libtwice.dylib',; s/_printf/_twice/" libSystem.tbd >libtwice.tbd
-"$top/link" $macos -rpath @loader_path -o over main.o libtwice.tbd libSystem.tbd || fail "a program over a stub is refused"
-python3 "$top/checks/mistakes.py" "$top/link" "$top/docs/USAGE.md"
+"$top/link" "${macos[@]}" -rpath @loader_path -o over main.o libtwice.tbd libSystem.tbd || fail "a program over a stub is refused"
+python3 "$top/checks/mistakes.py" "$top/link" "$top/docs/USAGE.md" "${macos[@]}"

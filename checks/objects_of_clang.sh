@@ -16,7 +16,7 @@ objdump=$(tool llvm-objdump)
 
 # What is said of an object that is linked.
 said() {
-    "$top/link" -o "$folder/image" "$1" "$top/checks/objects/libSystem.tbd" "$top/examples/libc++.tbd" 2>&1
+    "$top/link" "${macos[@]}" -o "$folder/image" "$1" "$top/checks/objects/libSystem.tbd" "$top/examples/libc++.tbd" 2>&1
 }
 
 # Places and encodings, one a line: the encodings by rising places, without the bits that number a personality function.

@@ -4,7 +4,9 @@ docs/USAGE.md has each option, each rule on inputs, and the words of each line t
 and no other; each page that README.md names is there, and each file of docs/ is named there; crates.txt names for a crate the libraries
 that its files name, and no other, and those that its edits name; each edit of must-fail/ and planted/ fits its files; little is read along
 the paths down from its crates. No line of a crate is wider than MOST_WIDE, but for imports and attributes, and no line of a page, but for
-tables and what is indented as code. README.md has at most MOST_FRONT lines. `pages.py --paths` prints the libraries that cost most.
+tables and what is indented as code. README.md has at most MOST_FRONT lines. A sentence of README.md, or of a table of docs/PROVED.md, has
+at most MOST_WORDS words. A command that links has a version of macOS and the stub of libSystem, which a Mac wants of a program. Each tool
+whose program is a crate is called by a symbolic link to ./link. `pages.py --paths` prints the libraries that cost most.
 """
 import os
 import re
@@ -203,10 +205,68 @@ def wrong_pages():
     return wrong
 
 
+# A sentence of the pages for users has at most so many words.
+MOST_WORDS = 25
+
+
+def parts_of(page):
+    """The cells of tables, and the other paragraphs and points of a page, without what is indented as code."""
+    lines = []
+    for line in [*page.split("\n"), ""]:
+        is_code, is_row = line.startswith("    "), line.startswith("|")
+        if is_code or is_row or not line.strip() or re.match(r"#|- |\d+\. ", line):
+            yield " ".join(lines)
+            lines = []
+        if is_row:
+            yield from (cell.strip() for cell in line.strip("|").split(" | "))
+        elif not is_code:
+            lines.append(line.strip())
+
+
+def long_sentences(path, parts):
+    """Sentences of more words; what stands in backticks counts as one."""
+    for part in parts:
+        for sentence in re.split(r"(?<=[.!?])(?<!\.\.)[\"'*)]*\s+", re.sub(r"`[^`]*`", "`..`", part)):
+            if len(sentence.split()) > MOST_WORDS:
+                yield f"{path}: {len(sentence.split())} words in '{sentence[:80]}'"
+
+
+def wrong_sentences():
+    rows = [line for line in read("docs", "PROVED.md").split("\n") if line.startswith("|")]
+    return [
+        *long_sentences("README.md", parts_of(read("README.md"))),
+        *long_sentences("docs/PROVED.md", parts_of("\n".join(rows))),
+    ]
+
+
+def wrong_commands():
+    """Commands of ./link on a page that make an image which a Mac takes for one of iOS, or doesn't start."""
+    wrong = []
+    for at, _, names in [*os.walk(os.path.join(TOP, "docs")), *os.walk(os.path.join(TOP, "examples")), (TOP, [], ["README.md"])]:
+        for path in (os.path.join(at, name) for name in sorted(names) if name.endswith(".md")):
+            text = read(path)
+            for command in re.findall(r"^    (\./link .*)$", text, re.M) + re.findall(r"`(\./link [^`]*)`", text):
+                if re.search(r"\.(?:o|dylib)\b", command) and not re.search(r"-platform_version macos 14.0 14.0 .*\blibSystem\.tbd", command):
+                    wrong.append(f"{os.path.relpath(path, TOP)}: '{command}' has no version, or no libSystem")
+    return wrong
+
+
+def wrong_tools():
+    """Tools whose program is a crate, and that aren't called by a link to the script; and links without a program."""
+    wrong = []
+    for tool in ("inspect", "retool", "tbd", "verify"):
+        path = os.path.join(TOP, tool)
+        is_called = os.path.islink(path) and os.readlink(path) == "link"
+        if is_called != (f"macho_{tool}_main" in crates()):
+            wrong.append(f"./{tool} is no link to ./link (ln -s link {tool})" if not is_called else f"./{tool} has no crate macho_{tool}_main")
+    return wrong
+
+
 if __name__ == "__main__":
     if sys.argv[1:] == ["--paths"]:
         sys.exit(print_paths())
     wrong = wrong_usage() + wrong_crates() + wrong_libraries() + wrong_edits() + wrong_paths() + wrong_widths() + wrong_pages()
+    wrong += wrong_sentences() + wrong_commands() + wrong_tools()
     for line in wrong:
         print(f"pages: {line}", file=sys.stderr)
     if not wrong:

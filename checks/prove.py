@@ -3,7 +3,8 @@
 
 prove.py [--lanes N] [CRATE..]    the crates and those below them, or all; N at a time, else as many as processors and memory allow
 prove.py --over FOLDER [CRATE..]  first takes the libraries that an `rt ci` built in another checkout, where the files are the same
-prove.py --program CRATE          builds a program whose crates are proved, as out/CRATE; --tests CRATE builds and runs its tests
+prove.py --program CRATE          builds a program whose crates are proved, as out/CRATE, which takes the place of an old one when it is
+                                  whole; --tests CRATE builds and runs its tests
 
 `rt check` of an upper crate sums up the files of all crates below once for each path to them, which takes minutes; here each sum is
 made once. What a crate's check said stands in its out/prove.log. The libraries in out/ are those that `rt check` takes.
@@ -126,9 +127,12 @@ def build(crate, tests):
     """Builds a program, or tests, and runs these."""
     made = f"out/{crate.name}{'_tests' if tests else ''}"
     status = crate.compile(["--jobs", "1"], f"{made}.o", tests)
-    words = ["--target", "x86_64-unknown-linux-gnu", "--toolchain", f"{rtlib.KIT}/toolchain", "-o", made, f"{made}.o"]
+    words = ["--target", "x86_64-unknown-linux-gnu", "--toolchain", f"{rtlib.KIT}/toolchain", "-o", f"{made}.new", f"{made}.o"]
     words += [f"{rtlib.KIT}/c/libos_c.a", f"{rtlib.KIT}/c/liblibc_c.a"]
     status = status or crate.call(f"{rtlib.KIT}/bin/rattle-link", *words)
+    if not status:
+        # the program that is there may be running meanwhile
+        os.replace(os.path.join(crate.folder, f"{made}.new"), os.path.join(crate.folder, made))
     if tests and not status:
         status = crate.call(rtlib.RUNNER, "--seconds", "60", made)
     return status

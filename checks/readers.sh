@@ -22,7 +22,7 @@ read_by() {
 
 # Links an image of a name by words, and reads it.
 linked() {
-    ./link -o "$folder/$1" "${@:2}" || fail "$1: the link ended with status $?"
+    ./link "${macos[@]}" -o "$folder/$1" "${@:2}" || fail "$1: the link ended with status $?"
     read_by headers "$1" "$objdump" --macho --private-headers
     read_by fixups "$1" "$objdump" --macho --chained-fixups
     read_by exports "$1" "$objdump" --macho --exports-trie
@@ -41,7 +41,7 @@ linked greeting examples/greeting/main.o examples/greeting/greet.o examples/libS
 linked thrown examples/thrown/thrown.o examples/libc++.tbd examples/libSystem.tbd
 linked greetings examples/rust/greetings.o examples/libSystem.tbd
 linked libshapes.dylib -dylib -install_name @rpath/libshapes.dylib -exported_symbols_list examples/shapes/shapes.exports \
-    examples/shapes/shapes.o
+    examples/shapes/shapes.o examples/libSystem.tbd
 
 # What the sources say: which names come from which library, which are shown to others, which functions have a personality function.
 wanted greeting fixups 'lib_ordinal = 1 (libSystem)'

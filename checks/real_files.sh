@@ -17,7 +17,7 @@ echo other >other
 
 # The words are linked; what is said goes to `said`.
 linked() {
-    "$top/link" "$@" >said 2>&1
+    "$top/link" "${macos[@]}" "$@" >said 2>&1
 }
 
 # The words end with this status, and say this line or nothing.
@@ -75,6 +75,17 @@ for mode in 644 600 444; do
     answers 0 '' -o out in.o
     [ -x out ] || fail "over a file of mode $mode: the image can't be run"
 done
+
+# So is a symbolic link to a file or to nothing, in another folder too; what it leads to stays. One to a device doesn't become a file.
+echo old >same/led && ln -s same/led led && ln -s gone nowhere && ln -s /dev/null null
+for path in led nowhere; do
+    answers 0 '' -o "$path" in.o
+    [ -f "$path" ] && ! [ -L "$path" ] && [ -x "$path" ] || fail "a symbolic link isn't replaced by a program that can be run"
+done
+[ "$(cat same/led)" = old ] || fail "what a symbolic link leads to is changed"
+[ -e gone ] && fail "what a symbolic link leads to is made"
+answers 0 '' -o null in.o
+[ -L null ] && [ -c /dev/null ] || fail "a symbolic link to a device is replaced"
 nothing_beside .
 [ "$(cat other)" = other ] || fail "another file is changed"
 cmp -s in.o "$top/examples/hello/hello.o" || fail "an input is changed"
@@ -88,7 +99,7 @@ cmp -s both same/both || fail "over its own input: another image"
 # Words that are no text are told by their number, before any file is looked at.
 echo old >out
 linked -o out $'in\xff.o'
-[ $? = 6 ] && [ "$(cat said)" = 'wild_macho: word 2 is not UTF-8' ] || fail "of a word that is no text: '$(cat said)'"
+[ $? = 6 ] && [ "$(cat said)" = 'wild_macho: word 6 is not UTF-8' ] || fail "of a word that is no text: '$(cat said)'"
 [ "$(cat out)" = old ] || fail "a word that is no text changes the output"
 
 # A limit on a file's size ends the write behind its first bytes.
