@@ -15,7 +15,7 @@ use Rattle.macho_arm64.specs.Relaxations.{IsMadeAdd}
 use Rattle.macho_model.specs.Segments.{SEGMENT_PAGE}
 
 -- a number of 64 bits is itself
-signed_64 : (x : ℕ) → signed 64 x ≡ x
+pub signed_64 : (x : ℕ) → signed 64 x ≡ x
 signed_64 x = elim (nat_lt x (2 ^ 63)) as (λ b. (if b then x else x + (2 ^ 64 - 2 ^ 64)) ≡ x) [ true ↦ refl | false ↦ omega arith ]
 
 -- a pointer
@@ -60,13 +60,13 @@ same_registers : (a b : ℕ) → without_imm12 a ≡ without_imm12 b → bits 0 
 same_registers a b same = omega arith
 
 -- a test for a number tells it
-operation : (w n : ℕ) → (bits 22 10 w == n) ≡ true → bits 22 10 w ≡ n
+pub operation : (w n : ℕ) → (bits 22 10 w == n) ≡ true → bits 22 10 w ≡ n
 operation w n is = grind (arith, nat_tests)
 
-scale_of-add : (w : ℕ) → is_add w ≡ true → scale_of w ≡ 1
+pub scale_of-add : (w : ℕ) → is_add w ≡ true → scale_of w ≡ 1
 scale_of-add w is = rw is refl
 
-scale_of-ldr : (w : ℕ) → is_ldr w ≡ true → scale_of w ≡ 8
+pub scale_of-ldr : (w : ℕ) → is_ldr w ≡ true → scale_of w ≡ 8
 scale_of-ldr w is =
     let op : bits 22 10 w ≡ 0b1111100101 = operation w 0b1111100101 is in
     let size : bits 30 2 w ≡ 3 = omega arith in

@@ -44,7 +44,7 @@ unfolding fields_of fields_to fixups_in
 is_asked l p q asked text run filled = filled.asks
 
 -- a field of a number is that of its relocation
-field_number : (l : Link) (s : SectionId) (r : ℕ) (f : Field) → FieldOf l s r f → (r < (header_at l s).nreloc) × (is_field l s r ≡ true)
+pub field_number : (l : Link) (s : SectionId) (r : ℕ) (f : Field) → FieldOf l s r f → (r < (header_at l s).nreloc) × (is_field l s r ≡ true)
     × (f ≡ field_of l s r)
 unfolding fields_of
 field_number l s r f of =

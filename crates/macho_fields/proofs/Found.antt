@@ -3,9 +3,9 @@
 -- A relocation of a carried section is a use of the link. So the target that it needs a slot or a stub for is one of the link's,
 -- and stands in the placement's list; a carried section and a chosen common are in the placement's lists, which are the link's in
 -- another order. A section of the template is one of those that the placement tells a range of.
-use Rattle.std.proofs.Common.{◌≡◌, ℕ, zero, suc, ◌+◌, ◌%◌, ◌<◌, ◌≤◌, not, true, false, Bool, cond, List, [], ◌∷◌, length, map, filter, Contains, Option, Some, None, refl, sym, ap, subst, ◌∙◌, arith, inl, inr, ◌⊎◌}
+use Rattle.std.proofs.Common.{◌≡◌, ℕ, ◌%◌, ◌<◌, not, true, List, [], ◌∷◌, length, map, filter, Contains, Option, Some, None, refl, sym, ap, subst, inl, inr}
 use Rattle.std.specs.Prelude.{IfSome, is_some}
-use Rattle.std.specs.List.{flat_map, filter_map, range_with_len, cons_option}
+use Rattle.std.specs.List.{filter_map, range_with_len}
 use Rattle.std.proofs.lemmas.Bool.{cases_Bool}
 use Rattle.std.proofs.lemmas.List.Sorted.{Contains-permutation, IsPermutation-sym}
 use Rattle.std.proofs.lemmas.List.Elements.{All-contains}
@@ -20,7 +20,7 @@ use Rattle.macho_model.specs.declared.targets.Target.TheVariants as target
 use Rattle.macho_model.specs.Links.{Link, SectionId, section_id, header_at, carried_of, is_template}
 use Rattle.macho_model.specs.Resolution.{chosen_commons}
 use Rattle.macho_model.specs.Needs.{distinct, relocation_in}
-use Rattle.macho_model.specs.Uses.{ByRelocation, uses_of, carried_uses, slot_of_use, stub_of_use, slot_of_relocation, stub_of_relocation}
+use Rattle.macho_model.specs.Uses.{ByRelocation, uses_of, slot_of_use, stub_of_use, slot_of_relocation, stub_of_relocation}
 use Rattle.macho_model.specs.Targets.{same_target, slots_of, stubs_of, target_of_relocation}
 use Rattle.macho_model.specs.Placement.{Placed, IsPlaced, template_sections, id_of}
 use Rattle.macho_model.specs.steps.Parts.{TemplateHolds}

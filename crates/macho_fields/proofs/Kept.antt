@@ -3,13 +3,12 @@
 -- A relocation that names a section names one that exists, and leads to it where it is carried. One that names a symbol leads
 -- where the symbol's own place is, or that of the symbol which defines its name. This one is a symbol of an object, whose section
 -- exists; and a common that defines its name is chosen.
-use Rattle.std.proofs.Common.{◌≡◌, ℕ, zero, suc, ◌+◌, ◌-◌, ◌<◌, ◌&&◌, ◌||◌, not, if◌then◌else◌, true, false, Bool, List, [], ◌∷◌, length, map, filter, Contains, Option, Some, None, refl, sym, ap, subst, ◌∙◌, arith, inl, inr, ◌⊎◌}
+use Rattle.std.proofs.Common.{◌≡◌, ℕ, zero, suc, ◌+◌, ◌-◌, ◌<◌, ◌&&◌, not, if◌then◌else◌, true, false, Bool, List, [], ◌∷◌, Contains, Option, Some, None, refl, sym, ap, subst, ◌∙◌, arith, inl, inr}
 use Rattle.std.specs.Prelude.{nat_le}
-use Rattle.std.specs.Str.{bytes_eq}
-use Rattle.std.specs.List.{flat_map, enumerate_from, range_with_len, position_or_len, list_all}
+use Rattle.std.specs.List.{flat_map, enumerate_from, range_with_len, position_or_len}
 use Rattle.std.proofs.lemmas.Bool.{leb-true}
 use Rattle.std.proofs.lemmas.List.Elements.{Contains-append_cases}
-use Rattle.macho_records.specs.Symbols.{is_common_of, is_stab_of, is_weak_of, has_type, is_global}
+use Rattle.macho_records.specs.Symbols.{is_common_of, is_stab_of, has_type, is_global}
 use Rattle.macho_model.specs.steps.RecordTests.{symbol_section_exists, relocation_number_exists}
 use Rattle.macho_records.specs.declared.symbols.SymtabEntry.{SymtabEntry}
 use Rattle.macho_records.specs.declared.constants.TheConstants.{N_ABS, N_SECT, N_EXT}
@@ -19,9 +18,8 @@ use Rattle.macho_model.specs.Lists.{IsNumber}
 use Rattle.macho_model.specs.Objects.{num_sections, num_symbols}
 use Rattle.macho_model.specs.Grammar.{IsObject}
 use Rattle.macho_model.proofs.ObjectLaws.{object_keeps, symbol_exists}
-use Rattle.macho_model.specs.Links.{Input, Object, Dylib, Stub, Link, no_input, object_bytes, object_of, SectionId, header_at, is_carried, sections_of_file, sections_of, carried_of}
-use Rattle.macho_model.specs.Resolution.{SymbolId, Definition, Symbol, Library, ImageBase, entry_at, name_at, symbols_of_file, symbols_of, section_of_symbol, stands_in_carried, is_definition, has_name, strong_of, commons_of, greatest_of, libraries_with, definition_of, is_symbol, same_symbol, chosen_commons}
-use Rattle.macho_model.specs.steps.Resolved.{is_strong, is_weak, weak_of, DSO_HANDLE, first_or, first_definition}
+use Rattle.macho_model.specs.Links.{Input, Object, Dylib, Stub, Link, object_of, SectionId, header_at, is_carried, sections_of_file, sections_of, carried_of}
+use Rattle.macho_model.specs.Resolution.{SymbolId, Definition, Symbol, Library, ImageBase, entry_at, name_at, symbols_of_file, symbols_of, section_of_symbol, stands_in_carried, definition_of, is_symbol, same_symbol, chosen_commons}
 use Rattle.macho_model.specs.LinkLaws.{is_chosen}
 use Rattle.macho_model.specs.Needs.{relocation_in, section_named, symbol_of_relocation, imports_of}
 use Rattle.macho_model.specs.Targets.{own_target, definition_target, target_of, target_of_relocation}

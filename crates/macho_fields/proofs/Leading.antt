@@ -20,7 +20,7 @@ use Rattle.macho_model.specs.Targets.{slots_of}
 use Rattle.macho_model.specs.Meaning.{address}
 use Rattle.macho_model.specs.Placement.{Placed}
 use Rattle.macho_model.specs.Addresses.{address_of, slot_address}
-use Rattle.macho_model.specs.Values.{BadRange, BadRebase, less, fits_signed, page_reaches, IsNotEncodable}
+use Rattle.macho_model.specs.Values.{BadRange, BadRebase, less, page_reaches, IsNotEncodable}
 use Rattle.macho_fixups.specs.declared.run.Fixup.{Fixup}
 use Rattle.macho_fixups.specs.declared.words.FixupKind.{FixupKind}
 use Rattle.macho_promise.specs.Filled.{StubIsSet}

@@ -2,6 +2,7 @@ pub mod Puts
 pub mod Placing
 pub mod Saying
 pub mod Reaching
+pub mod Telling
 pub mod RowTests
 pub mod Supporting
 pub mod Numbered
@@ -12,6 +13,9 @@ pub mod Steps
 pub mod Ends
 pub mod Still
 pub mod Nexts
+pub mod Sourced
+pub mod Pointed
+pub mod Judging
 pub mod Through
 pub mod Leading
 pub mod Once

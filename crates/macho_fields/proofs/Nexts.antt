@@ -3,17 +3,16 @@
 -- Its relocation is supported, so the table tells its width, its word and its target. The rules of objects tell that its symbol
 -- or section exists, and that its bytes stand inside the section.
 use Rattle.std.proofs.Common.{◌≡◌, ℕ, zero, suc, ◌+◌, ◌-◌, ◌^◌, ◌<◌, ◌≤◌, ◌==◌, ◌&&◌, ◌||◌, not, true, false, Bool, List, refl, sym, ap, subst, ◌∙◌, arith, inl, inr, ◌⊎◌, length}
-use Rattle.std.specs.Prelude.{nat_lt, nat_le, slice_range}
+use Rattle.std.specs.Prelude.{nat_le}
 use Rattle.std.proofs.lemmas.Bool.{leb-true}
 use Rattle.macho_model.specs.steps.RecordTests.{relocation_number_exists}
-use Rattle.macho_records.specs.Sections.{type_of, is_zerofill}
+use Rattle.macho_records.specs.Sections.{type_of}
 use Rattle.macho_records.specs.declared.constants.TheConstants.{S_THREAD_LOCAL_VARIABLES}
 use Rattle.macho_wire.specs.declared.relocations.RelocationInfo.{RelocationInfo}
 use Rattle.macho_model.specs.declared.placed.PlacedSection.{PlacedSection}
 use Rattle.macho_model.specs.declared.targets.Target.{Target}
 use Rattle.macho_model.specs.declared.targets.Target.TheVariants as target
-use Rattle.macho_model.specs.Objects.{num_sections, num_symbols, section_at, section_bytes, relocation_at}
-use Rattle.macho_model.specs.Grammar.{IsFile}
+use Rattle.macho_model.specs.Objects.{num_sections, section_at, section_bytes, relocation_at}
 use Rattle.macho_model.specs.ObjectLaws.{KeepsObjectRules}
 use Rattle.macho_model.proofs.ObjectLaws.{symbol_exists}
 use Rattle.macho_model.specs.Links.{Link, SectionId, object_of, header_at}
@@ -28,7 +27,7 @@ use Rattle.macho_fixups.specs.declared.run.Fixup.{Fixup}
 use Rattle.macho_fields.specs.declared.field.Field as read
 use Rattle.macho_fields.specs.declared.field.Near.{Near}
 use Rattle.macho_fields.specs.declared.fault.FillFault.{FillFault}
-use Rattle.macho_fields.specs.declared.section.Source.{Source}
+use Rattle.macho_fields.specs.declared.source.Source.{Source}
 use Rattle.macho_object.specs.Views.{RelocationBytes}
 use Rattle.macho_fields.specs.Looks.{Look}
 use Rattle.macho_fields.specs.Faults.{FillStands}
@@ -36,7 +35,7 @@ use Rattle.macho_fields.specs.Filling.{IsToFill}
 use Rattle.macho_fields.specs.steps.Filled.{IsSource, IsDone, IsStopped}
 use Rattle.macho_fields.specs.steps.Fields.{seen, kind_in, target_in, IsNear, IsRead}
 use Rattle.macho_fields.specs.steps.Kinds.{KindFits, IsCallable, IsLoadable, direct, by_stub, by_slot}
-use Rattle.macho_fields.specs.steps.Sections.{IsFillable, IsFilledTo, IsNext}
+use Rattle.macho_fields.specs.steps.Sections.{is_field, IsFillable, IsFilledTo, IsNext}
 use Rattle.macho_fields.proofs.Placing.{defined_is}
 use Rattle.macho_fields.proofs.RowTests.{row_test}
 use Rattle.macho_fields.proofs.Supporting.{no_addend, supported_fits}
@@ -239,7 +238,7 @@ fillable l p q look b fill = record { found = fill.found; tells = fill.tells; ca
 -- The next field by where the section comes from.
 pub next_of : (l : Link) (p : Placed) (look : Look) (s : Source) (r : ℕ) (old : List ℕ) (n : Near) (f : read.Field)
     → IsSource s → IsToFill l p s.place look s.file.now.bytes → r < (section_at s.file.now.bytes s.place.section).nreloc
-    → IsNear s.list.now.bytes s.list.now.section r n → IsRead look s.place.file s.file.now.bytes s.bytes.now n f
+    → IsNear s.list.bytes s.list.section r n → IsRead look s.place.file s.file.now.bytes s.bytes.now n f
     → is_prefix_type n.relocation.r_type ≡ false
     → IsStill l s.place r old → IsNext l p s.place look s.descriptors r old × (seen f ≡ field_of l (id_of s.place) r)
 next_of l p look s r old n f source fill among near is own still =
@@ -252,7 +251,7 @@ next_of l p look s r old n f source fill among near is own still =
 pub one_more : (l : Link) (p : Placed) (look : Look) (s : Source) (r : ℕ) (old new : List ℕ) (n : Near) (f : read.Field)
     (asked run more : List Fixup)
     → IsSource s → IsToFill l p s.place look s.file.now.bytes → r < (section_at s.file.now.bytes s.place.section).nreloc
-    → IsNear s.list.now.bytes s.list.now.section r n → IsRead look s.place.file s.file.now.bytes s.bytes.now n f
+    → IsNear s.list.bytes s.list.section r n → IsRead look s.place.file s.file.now.bytes s.bytes.now n f
     → is_prefix_type n.relocation.r_type ≡ false
     → IsFilledTo l p s.place r asked old run → IsDone look s.descriptors s.place (seen f) old new run more
     → IsFilledTo l p s.place (r + 1) asked new more
@@ -267,7 +266,7 @@ one_more l p look s r old new n f asked run more source fill among near is own f
 pub one_stopped : (l : Link) (p : Placed) (look : Look) (s : Source) (r : ℕ) (old : List ℕ) (n : Near) (f : read.Field)
     (asked run : List Fixup) (fault : FillFault)
     → IsSource s → IsToFill l p s.place look s.file.now.bytes → r < (section_at s.file.now.bytes s.place.section).nreloc
-    → IsNear s.list.now.bytes s.list.now.section r n → IsRead look s.place.file s.file.now.bytes s.bytes.now n f
+    → IsNear s.list.bytes s.list.section r n → IsRead look s.place.file s.file.now.bytes s.bytes.now n f
     → is_prefix_type n.relocation.r_type ≡ false
     → IsFilledTo l p s.place r asked old run → IsStopped look s.descriptors s.place (seen f) old fault → FillStands l p fault
 one_stopped l p look s r old n f asked run fault source fill among near is own filled stopped =
@@ -279,7 +278,7 @@ one_stopped l p look s r old n f asked run fault source fill among near is own f
 -- also where the field is looked at alone, in the bytes of the object
 pub one_alone : (l : Link) (p : Placed) (look : Look) (s : Source) (r : ℕ) (n : Near) (f : read.Field) (fault : FillFault)
     → IsSource s → IsToFill l p s.place look s.file.now.bytes → r < (section_at s.file.now.bytes s.place.section).nreloc
-    → IsNear s.list.now.bytes s.list.now.section r n → IsRead look s.place.file s.file.now.bytes s.bytes.now n f
+    → IsNear s.list.bytes s.list.section r n → IsRead look s.place.file s.file.now.bytes s.bytes.now n f
     → is_prefix_type n.relocation.r_type ≡ false
     → IsStopped look s.descriptors s.place (seen f) s.bytes.now fault → FillStands l p fault
 one_alone l p look s r n f fault source fill among near is own stopped =
@@ -288,16 +287,21 @@ one_alone l p look s r n f fault source fill among near is own stopped =
     (subst (λ (g : Field). IsStopped look s.descriptors s.place g s.bytes.now fault) next.1 stopped)
 
 -- a relocation that is a part of the next one's field
-pub one_prefix : (l : Link) (p : Placed) (look : Look) (s : Source) (r : ℕ) (old : List ℕ) (n : Near) (asked run : List Fixup) → IsSource s
-    → IsToFill l p s.place look s.file.now.bytes → IsNear s.list.now.bytes s.list.now.section r n
-    → is_prefix_type n.relocation.r_type ≡ true
-    → IsFilledTo l p s.place r asked old run → IsFilledTo l p s.place (r + 1) asked old run
-one_prefix l p look s r old n asked run source fill near prefix filled =
+pub prefix_is : (l : Link) (p : Placed) (look : Look) (s : Source) (r : ℕ) (n : Near) → IsSource s
+    → IsToFill l p s.place look s.file.now.bytes → IsNear s.list.bytes s.list.section r n
+    → is_prefix_type n.relocation.r_type ≡ true → is_field l (id_of s.place) r ≡ false
+prefix_is l p look s r n source fill near prefix =
     let here = subst (λ (v : RelocationBytes). IsNear v.bytes v.section r n) source.list near in
     let in_link : n.relocation ≡ relocation_in l (id_of s.place) r =
     subst (λ (m : List ℕ). n.relocation ≡ relocation_at m s.place.section r) (sym fill.object) here.relocation in
-    filled_prefix l p s.place r asked old run filled (ap (λ (m : RelocationInfo). not (is_prefix_type m.r_type)) (sym in_link)
-    ∙ ap not prefix)
+    ap (λ (m : RelocationInfo). not (is_prefix_type m.r_type)) (sym in_link) ∙ ap not prefix
+
+pub one_prefix : (l : Link) (p : Placed) (look : Look) (s : Source) (r : ℕ) (old : List ℕ) (n : Near) (asked run : List Fixup) → IsSource s
+    → IsToFill l p s.place look s.file.now.bytes → IsNear s.list.bytes s.list.section r n
+    → is_prefix_type n.relocation.r_type ≡ true
+    → IsFilledTo l p s.place r asked old run → IsFilledTo l p s.place (r + 1) asked old run
+one_prefix l p look s r old n asked run source fill near prefix filled =
+    filled_prefix l p s.place r asked old run filled (prefix_is l p look s r n source fill near prefix)
 
 -- the section as it was copied
 pub copied : (l : Link) (p : Placed) (look : Look) (s : Source) (text : List ℕ) (run : List Fixup) → IsSource s
@@ -309,7 +313,7 @@ copied l p look s text run source fill is =
     (subst (λ (m : List ℕ). length text ≡ (section_at m s.place.section).size) (sym fill.object) (ap length is ∙ source.long))
 
 -- how many relocations there are
-pub count_is : (s : Source) (n i : ℕ) → IsSource s → n ≡ (section_at s.list.now.bytes s.list.now.section).nreloc → n ≤ i → i ≤ n
+pub count_is : (s : Source) (n i : ℕ) → IsSource s → n ≡ (section_at s.list.bytes s.list.section).nreloc → n ≤ i → i ≤ n
     → i ≡ (section_at s.file.now.bytes s.place.section).nreloc
 count_is s n i source is low high =
     let same : i ≡ n = omega arith in

@@ -7,15 +7,14 @@ use Rattle.std.proofs.Common.{◌≡◌, ℕ, ◌+◌, ◌%◌, ◌^◌, ◌<◌
 use Rattle.std.proofs.lemmas.Bool.{cases_Bool}
 use Rattle.macho_model.specs.declared.placed.PlacedSection.{PlacedSection}
 use Rattle.macho_model.specs.Links.{Link, header_at}
+use Rattle.macho_model.specs.Targets.{is_import}
 use Rattle.macho_model.specs.Fields.{Field, field_of, fields_of, content_of}
 use Rattle.macho_model.specs.Placement.{Placed, id_of}
 use Rattle.macho_model.specs.Addresses.{address_of, section_address}
-use Rattle.macho_model.specs.Stands.{Kind, Pointer, Difference, Branch, Page, Offset, SlotPage, SlotOffset, SlotDistance, NoKind, SectionAt}
+use Rattle.macho_model.specs.Stands.{Pointer, SectionAt, is_template_offset}
 use Rattle.macho_model.specs.Values.{needs_fixup, IsNotEncodable, FieldOf, DoesNotFit, BadRange, BadRebase}
 use Rattle.macho_fixups.specs.declared.run.Fixup.{Fixup}
 use Rattle.macho_fixups.specs.declared.words.FixupKind.{FixupKind}
-use Rattle.macho_arm64.specs.Fields.{width_of}
-use Rattle.macho_arm64.specs.Laws.{size_for}
 use Rattle.macho_promise.specs.Filled.{FieldIsSet}
 use Rattle.macho_promise.specs.Asked.{field_fixup}
 use Rattle.macho_fields.specs.declared.fault.FillFault.{FillFault}
@@ -30,13 +29,13 @@ use Rattle.macho_fields.specs.steps.Sections.{is_field, FieldIsFine, IsNext}
 use Rattle.macho_fields.proofs.Puts.{changes_nothing}
 use Rattle.macho_fields.proofs.Numbered.{one_if, chosen_member}
 use Rattle.macho_fields.proofs.Placing.{stands_at, stands_only}
-use Rattle.macho_fields.proofs.Saying.{says_by_kind}
+use Rattle.macho_fields.proofs.Saying.{IsStart, wide, says_by_kind}
 use Rattle.macho_fields.proofs.Reaching.{fits_by_kind, unfit_by_kind, has_field_by_kind}
 use Rattle.macho_fields.proofs.Asked.{asks_same, asked_kind, unasked_target, start_is, kind_same, encodable_is, not_encodable, stands_well, stands_badly}
 use Rattle.macho_bytes.proofs.Bools.{true_or_false}
 
 -- a field needs a fixup where it is asked for
-needs_by : (l : Link) (p : Placed) (q : PlacedSection) (look : Look) (descriptors : Bool) (r : ℕ) (old : List ℕ) (b : Bool)
+pub needs_by : (l : Link) (p : Placed) (q : PlacedSection) (look : Look) (descriptors : Bool) (r : ℕ) (old : List ℕ) (b : Bool)
     → IsNext l p q look descriptors r old
     → asks descriptors look (field_of l (id_of q) r) ≡ b → needs_fixup l (id_of q) (field_of l (id_of q) r) ≡ b
 needs_by l p q look descriptors r old b next h =
@@ -45,6 +44,19 @@ needs_by l p q look descriptors r old b next h =
     let fits : KindFits p f (content_of l (id_of q) r) Pointer = subst (KindFits p f (content_of l (id_of q) r)) pointer next.fits in
     fits.2 in
     asks_same l p look descriptors (id_of q) f next.fill.tells there next.descriptors_are ∙ h
+
+-- a pointer that isn't asked for has a value that doesn't move, or counts from the start of the template
+pub begins_here : (l : Link) (p : Placed) (q : PlacedSection) (look : Look) (descriptors : Bool) (r : ℕ) (old : List ℕ)
+    → IsNext l p q look descriptors r old
+    → asks descriptors look (field_of l (id_of q) r) ≡ false → kind_in (field_of l (id_of q) r) ≡ Pointer
+    → (is_import (field_of l (id_of q) r).target ≡ false)
+    × IsStart (is_template_offset l (id_of q) (field_of l (id_of q) r)) p.template (start_in look descriptors (field_of l (id_of q) r))
+begins_here l p q look descriptors r old next unasked pointer =
+    let f = field_of l (id_of q) r in
+    let fits : KindFits p f (content_of l (id_of q) r) Pointer = subst (KindFits p f (content_of l (id_of q) r)) pointer next.fits in (
+      unasked_target look descriptors f fits.0 pointer unasked,
+      start_is l p look descriptors (id_of q) f next.fill.tells next.fill.found fits.2 next.descriptors_are,
+    )
 
 -- its bytes say what they are asked to
 set_here : (l : Link) (p : Placed) (q : PlacedSection) (look : Look) (descriptors : Bool) (r : ℕ) (old new : List ℕ)
@@ -55,12 +67,7 @@ set_here l p q look descriptors r old new next unasked put plain =
     let f = field_of l (id_of q) r in
     says_by_kind l p look q f (start_in look descriptors f) (content_of l (id_of q) r) old new
     (kind_in f) next.fill.tells.addresses next.fill.found.once next.low next.fits
-    (λ pointer.
-    let fits : KindFits p f (content_of l (id_of q) r) Pointer = subst (KindFits p f (content_of l (id_of q) r)) pointer next.fits in (
-      unasked_target look descriptors f fits.0 pointer unasked,
-      start_is l p look descriptors (id_of q) f next.fill.tells next.fill.found fits.2 next.descriptors_are,
-    ))
-    next.still put
+    (begins_here l p q look descriptors r old next unasked) next.still put
 
 pub one_set : (l : Link) (p : Placed) (q : PlacedSection) (look : Look) (descriptors : Bool) (r : ℕ) (old new : List ℕ)
     (run more : List Fixup)
@@ -115,18 +122,6 @@ one_fine l p q look descriptors r old new run more next done = elim (cases_Bool 
 
     once : IsPlacedOnce p
     once = next.fill.found.once
-
--- the bytes of a field
-wide : (p : Placed) (f : Field) (w : ℕ) (kind : Kind) → KindFits p f w kind → width_of (size_for kind f.width) ≡ f.width
-wide p f w Pointer fits = refl
-wide p f w Difference fits = refl
-wide p f w Branch fits = sym fits.0
-wide p f w Page fits = sym fits.0
-wide p f w Offset fits = sym fits.0
-wide p f w SlotPage fits = sym fits.0
-wide p f w SlotOffset fits = sym fits.0
-wide p f w SlotDistance fits = refl
-wide p f w NoKind fits = absurd fits
 
 -- only these changed
 pub one_changes : (l : Link) (p : Placed) (q : PlacedSection) (look : Look) (descriptors : Bool) (r : ℕ) (old new : List ℕ)

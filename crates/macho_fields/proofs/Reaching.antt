@@ -33,7 +33,7 @@ use Rattle.macho_fields.proofs.Placing.{defined_is, image_looked, image_only, sl
 use Rattle.macho_fields.proofs.Saying.{subtracted_at, import_stays, other_goes}
 use Rattle.macho_bytes.proofs.Bools.{true_or_false}
 
-subtracted_only : (l : Link) (p : Placed) (look : Look) (t : Option Target) (y : ℕ) → TellsAddresses p look → IsPlacedOnce p
+pub subtracted_only : (l : Link) (p : Placed) (look : Look) (t : Option Target) (y : ℕ) → TellsAddresses p look → IsPlacedOnce p
     → IsSubtracted p t
     → SubtrahendIsAt l p 0 empty t y → y ≡ minus_in look t
 subtracted_only l p look None y tells once h at = absurd h

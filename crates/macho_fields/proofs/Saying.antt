@@ -21,14 +21,17 @@ use Rattle.macho_model.specs.steps.Stands.{SaysOf}
 use Rattle.macho_model.specs.Values.{less}
 use Rattle.macho_arm64.specs.declared.kinds.FieldSize.{FieldSize}
 use Rattle.macho_arm64.specs.declared.kinds.FieldSize.TheVariants.{Bytes, Adr, JumpCall, Low12}
-use Rattle.macho_arm64.specs.Fields.{Holds}
+use Rattle.macho_arm64.specs.Fields.{width_of, Holds}
+use Rattle.macho_arm64.specs.Laws.{size_for}
 use Rattle.macho_arm64.specs.Relaxations.{IsMadeAdd}
 use Rattle.macho_arm64.proofs.FieldLaws.{points_to, offsets_from, branches_to, pages_to, offsets_to, is_distance, loads_from, adds_to}
 use Rattle.macho_arm64.proofs.ReachLaws.{less_leads}
 use Rattle.macho_fields.specs.Looks.{Look, TellsAddresses, IsPlacedOnce, address_in}
-use Rattle.macho_fields.specs.steps.Fields.{call_in, load_in, minus_in, goes_straight, write_in}
+use Rattle.macho_fields.specs.declared.write.FieldWrite.{FieldWrite}
+use Rattle.macho_fields.specs.steps.Fields.{call_in, load_in, minus_in, goes_straight, relaxes, write_in}
 use Rattle.macho_fields.specs.steps.Filled.{place_in}
 use Rattle.macho_fields.specs.steps.Writes.{IsPut}
+use Rattle.macho_fields.specs.steps.Reads.{IsHeld}
 use Rattle.macho_fields.specs.steps.Kinds.{KindFits, IsSubtracted, IsLoadable, direct, by_slot}
 use Rattle.macho_fields.proofs.Placing.{address_told, stands_at, image_looked, slot_looked, call_looked, load_looked}
 use Rattle.macho_bytes.proofs.Bools.{true_or_false}
@@ -48,12 +51,9 @@ pointer_says true (Some r) start input word value x begins h row =
     let e : Same (word + (r.start + 0)) (x + 0 + 0) = offsets_from input word value r.start x 0 0 h (omega (arith, begins, row)) in omega
     (arith, e)
 
--- the word of four bytes that a value was written to, where nothing else was changed before
-held : (size : FieldSize) (w o v : ℕ) (mid old new : List ℕ) (input : ℕ) → w ≡ 4 → mid ≡ old → le_at w old o ≡ input
-    → Holds size (le_at 4 mid o) (le_at 4 new o) v → Holds size input (le_at w new o) v
-held size w o v mid old new input four same still h =
-    let from : le_at 4 mid o ≡ input = ap (λ (t : List ℕ). le_at 4 t o) same ∙ ap (λ (n : ℕ). le_at n old o) (sym four) ∙ still in
-    subst (λ (k : ℕ). Holds size k (le_at w new o) v) from (subst (λ (n : ℕ). Holds size (le_at 4 mid o) (le_at n new o) v) (sym four) h)
+-- what holds a value where the input's word does
+as_input : (size : FieldSize) (ready input word v : ℕ) → ready ≡ input → Holds size ready word v → Holds size input word v
+as_input size ready input word v same h = subst (λ (k : ℕ). Holds size k word v) same h
 
 pub subtracted_at : (l : Link) (p : Placed) (look : Look) (t : Option Target) → TellsAddresses p look → IsPlacedOnce p → IsSubtracted p t
     → SubtrahendIsAt l p 0 empty t (minus_in look t)
@@ -129,81 +129,123 @@ other_goes target.Base own = refl
 other_goes (target.Absolute value) own = refl
 other_goes target.None own = refl
 
--- THE field says what it is asked to.
+-- THE field whose word holds its value says what it is asked to.
+pub held_says : (l : Link) (p : Placed) (look : Look) (q : PlacedSection) (f : Field) (start input word : ℕ) (kind : Kind)
+    → TellsAddresses p look → IsPlacedOnce p → place_in q f < 2 ^ 64 → KindFits p f input kind
+    → (kind ≡ Pointer → (is_import f.target ≡ false) × IsStart (is_template_offset l (id_of q) f) p.template start)
+    → IsHeld (write_in look (place_in q f) start f kind) input word
+    → SaysOf l p 0 empty (id_of q) f (q.address + f.offset + 0) word input kind
+held_says l p look q f start input word Pointer tells once below fits begins held =
+    let own = begins refl in
+    let at = subst (IsAt l p 0 empty f.target) (sym (address_told p look f.target tells))
+    (stands_at l p f.target once fits.2 own.0 fits.1) in
+    let value = less (address_in look f.target + f.addend) start in
+    let h = subst (λ (n : ℕ). Holds (Bytes n) held.ready word value) fits.0 held.holds in (
+      address_in look f.target,
+      at,
+      pointer_says (is_template_offset l (id_of q) f) p.template start held.ready word value
+          (address_in look f.target + f.addend) own.1 h
+          (less_leads (address_in look f.target + f.addend) start),
+      fits.0,
+    )
+held_says l p look q f start input word Difference tells once below fits begins held = (
+  address_in look f.target,
+  minus_in look f.subtrahend,
+  image_looked l p look f.target tells once fits.1,
+  subtracted_at l p look f.subtrahend tells once fits.2,
+  omega (arith, held.holds.says, less_leads (address_in look f.target + f.addend) (minus_in look f.subtrahend)),
+)
+held_says l p look q f start input word Branch tells once below fits begins held =
+    let to = call_in look f.target + f.addend in
+    let value = less to (place_in q f) in (
+      call_in look f.target,
+      call_looked l p look f.target tells once fits.2,
+      branches_to input word value (place_in q f) to 0 to
+          (as_input JumpCall held.ready input word value (held.kept refl) held.holds)
+          (less_leads to (place_in q f)) (omega arith),
+    )
+held_says l p look q f start input word Page tells once below fits begins held =
+    let to = address_in look f.target + f.addend in
+    let value = less (page (address to)) (page (place_in q f)) in (
+      address_in look f.target,
+      image_looked l p look f.target tells once fits.2,
+      pages_to input word value (place_in q f) to 0 to
+          (as_input Adr held.ready input word value (held.kept refl) held.holds)
+          (page_leads to (place_in q f) below) refl (omega arith),
+    )
+held_says l p look q f start input word Offset tells once below fits begins held =
+    let to = address_in look f.target + f.addend in (
+      address_in look f.target,
+      image_looked l p look f.target tells once fits.2,
+      offsets_to input word (low (address to)) to 0 to
+          (as_input Low12 held.ready input word (low (address to)) (held.kept refl) held.holds) refl refl (omega arith),
+    )
+held_says l p look q f start input word SlotPage tells once below fits begins held =
+    let to = load_in look f.target in
+    let value = less (page (address to)) (page (place_in q f)) in (
+      to,
+      load_looked l p look f.target tells once fits.2,
+      pages_to input word value (place_in q f) to 0 to
+          (as_input Adr held.ready input word value (held.kept refl) held.holds)
+          (page_leads to (place_in q f) below) refl (omega arith),
+    )
+held_says l p look q f start input word SlotOffset tells once below fits begins held =
+    load_says l p look f.target input held.ready word tells once fits.1
+    (λ moves. held.kept (import_stays f.target moves)) (λ own. held.made (other_goes f.target own)) held.holds fits.3
+held_says l p look q f start input word SlotDistance tells once below fits begins held =
+    let slot = look.slot f.target in
+    let value = less slot (place_in q f) in
+    let h = subst (λ (n : ℕ). Holds (Bytes n) held.ready word value) fits.0 held.holds in
+    let says : IsDistance (place_in q f + 0) word (slot + 0) =
+    is_distance held.ready word value (place_in q f) slot 0 h (less_leads slot (place_in q f)) in
+    (slot, slot_looked p look f.target tells once fits.2, omega (arith, says))
+held_says l p look q f start input word NoKind tells once below fits begins held = absurd fits
+
+-- the bytes of a field
+pub wide : (p : Placed) (f : Field) (w : ℕ) (kind : Kind) → KindFits p f w kind → width_of (size_for kind f.width) ≡ f.width
+wide p f w Pointer fits = refl
+wide p f w Difference fits = refl
+wide p f w Branch fits = sym fits.0
+wide p f w Page fits = sym fits.0
+wide p f w Offset fits = sym fits.0
+wide p f w SlotPage fits = sym fits.0
+wide p f w SlotOffset fits = sym fits.0
+wide p f w SlotDistance fits = refl
+wide p f w NoKind fits = absurd fits
+
+-- a load that becomes an ADD has four
+relaxed_four : (p : Placed) (f : Field) (w : ℕ) (kind : Kind) → KindFits p f w kind → relaxes kind f.target ≡ true → f.width ≡ 4
+relaxed_four p f w SlotOffset fits relaxed = fits.0
+relaxed_four p f w Pointer fits relaxed = absurd (true_or_false false relaxed refl)
+relaxed_four p f w Difference fits relaxed = absurd (true_or_false false relaxed refl)
+relaxed_four p f w Branch fits relaxed = fits.0
+relaxed_four p f w Page fits relaxed = fits.0
+relaxed_four p f w Offset fits relaxed = fits.0
+relaxed_four p f w SlotPage fits relaxed = fits.0
+relaxed_four p f w SlotDistance fits relaxed = fits.0
+relaxed_four p f w NoKind fits relaxed = absurd fits
+
+-- a word that a value was written to holds it
+put_holds : (w : FieldWrite) (width input : ℕ) (old new : List ℕ) → width_of w.size ≡ width → (w.relax ≡ true → width ≡ 4)
+    → le_at width old w.at ≡ input → IsPut w old new → IsHeld w input (le_at width new w.at)
+put_holds w width input old new is four still put = record {
+  ready = le_at (width_of w.size) put.mid w.at;
+  kept = λ plain. ap (λ (t : List ℕ). le_at (width_of w.size) t w.at) (put.ready.kept plain) ∙ ap (λ (n : ℕ). le_at n old w.at) is ∙ still;
+  made = λ relaxed.
+      let has_four = four relaxed in
+      subst (λ (n : ℕ). IsMadeAdd input (le_at n put.mid w.at)) (sym (is ∙ has_four))
+      (subst (λ (k : ℕ). IsMadeAdd k (le_at 4 put.mid w.at)) (ap (λ (n : ℕ). le_at n old w.at) (sym has_four) ∙ still)
+      (put.ready.made relaxed));
+  holds = subst (λ (n : ℕ). Holds w.size (le_at (width_of w.size) put.mid w.at) (le_at n new w.at) w.value) is put.holds;
+}
+
+-- THE field that was written says what it is asked to.
 pub says_by_kind : (l : Link) (p : Placed) (look : Look) (q : PlacedSection) (f : Field) (start input : ℕ) (old new : List ℕ) (kind : Kind)
     → TellsAddresses p look → IsPlacedOnce p → place_in q f < 2 ^ 64 → KindFits p f input kind
     → (kind ≡ Pointer → (is_import f.target ≡ false) × IsStart (is_template_offset l (id_of q) f) p.template start)
     → le_at f.width old f.offset ≡ input → IsPut (write_in look (place_in q f) start f kind) old new
     → SaysOf l p 0 empty (id_of q) f (q.address + f.offset + 0) (le_at f.width new f.offset) input kind
-says_by_kind l p look q f start input old new Pointer tells once below fits begins still put =
-    let own = begins refl in
-    let at = subst (IsAt l p 0 empty f.target) (sym (address_told p look f.target tells))
-    (stands_at l p f.target once fits.2 own.0 fits.1) in
-    let word = le_at f.width new f.offset in
-    let value = less (address_in look f.target + f.addend) start in
-    let h = subst (λ (n : ℕ). Holds (Bytes n) (le_at f.width put.mid f.offset) word value) fits.0 put.holds in (
-      address_in look f.target,
-      at,
-      pointer_says (is_template_offset l (id_of q) f) p.template start (le_at f.width put.mid f.offset) word value
-          (address_in look f.target + f.addend) own.1 h
-          (less_leads (address_in look f.target + f.addend) start),
-      fits.0,
-    )
-says_by_kind l p look q f start input old new Difference tells once below fits begins still put = (
-  address_in look f.target,
-  minus_in look f.subtrahend,
-  image_looked l p look f.target tells once fits.1,
-  subtracted_at l p look f.subtrahend tells once fits.2,
-  omega (arith, put.holds.says, less_leads (address_in look f.target + f.addend) (minus_in look f.subtrahend)),
-)
-says_by_kind l p look q f start input old new Branch tells once below fits begins still put =
-    let to = call_in look f.target + f.addend in (
-      call_in look f.target,
-      call_looked l p look f.target tells once fits.2,
-      branches_to input (le_at f.width new f.offset) (less to (place_in q f)) (place_in q f) to 0 to
-          (held JumpCall f.width f.offset (less to (place_in q f)) put.mid old new input fits.0 (put.ready.kept refl) still put.holds)
-          (less_leads to (place_in q f)) (omega arith),
-    )
-says_by_kind l p look q f start input old new Page tells once below fits begins still put =
-    let to = address_in look f.target + f.addend in
-    let value = less (page (address to)) (page (place_in q f)) in (
-      address_in look f.target,
-      image_looked l p look f.target tells once fits.2,
-      pages_to input (le_at f.width new f.offset) value (place_in q f) to 0 to
-          (held Adr f.width f.offset value put.mid old new input fits.0 (put.ready.kept refl) still put.holds)
-          (page_leads to (place_in q f) below) refl (omega arith),
-    )
-says_by_kind l p look q f start input old new Offset tells once below fits begins still put =
-    let to = address_in look f.target + f.addend in (
-      address_in look f.target,
-      image_looked l p look f.target tells once fits.2,
-      offsets_to input (le_at f.width new f.offset) (low (address to)) to 0 to
-          (held Low12 f.width f.offset (low (address to)) put.mid old new input fits.0 (put.ready.kept refl) still put.holds) refl refl
-          (omega arith),
-    )
-says_by_kind l p look q f start input old new SlotPage tells once below fits begins still put =
-    let to = load_in look f.target in
-    let value = less (page (address to)) (page (place_in q f)) in (
-      to,
-      load_looked l p look f.target tells once fits.2,
-      pages_to input (le_at f.width new f.offset) value (place_in q f) to 0 to
-          (held Adr f.width f.offset value put.mid old new input fits.0 (put.ready.kept refl) still put.holds)
-          (page_leads to (place_in q f) below) refl (omega arith),
-    )
-says_by_kind l p look q f start input old new SlotOffset tells once below fits begins still put =
-    let four = fits.0 in
-    let from : le_at 4 old f.offset ≡ input = ap (λ (n : ℕ). le_at n old f.offset) (sym four) ∙ still in
-    load_says l p look f.target input (le_at 4 put.mid f.offset) (le_at f.width new f.offset) tells once fits.1
-    (λ moves. ap (λ (t : List ℕ). le_at 4 t f.offset) (put.ready.kept (import_stays f.target moves)) ∙ from)
-    (λ own. subst (λ (k : ℕ). IsMadeAdd k (le_at 4 put.mid f.offset)) from (put.ready.made (other_goes f.target own)))
-    (subst (λ (n : ℕ). Holds Low12 (le_at 4 put.mid f.offset) (le_at n new f.offset) (low (address (load_in look f.target))))
-    (sym four) put.holds) fits.3
-says_by_kind l p look q f start input old new SlotDistance tells once below fits begins still put =
-    let slot = look.slot f.target in
-    let value = less slot (place_in q f) in
-    let h = subst (λ (n : ℕ). Holds (Bytes n) (le_at f.width put.mid f.offset) (le_at f.width new f.offset) value) fits.0 put.holds in
-    let says : IsDistance (place_in q f + 0) (le_at f.width new f.offset) (slot + 0) =
-    is_distance (le_at f.width put.mid f.offset) (le_at f.width new f.offset) value (place_in q f) slot 0 h
-    (less_leads slot (place_in q f)) in
-    (slot, slot_looked p look f.target tells once fits.2, omega (arith, says))
-says_by_kind l p look q f start input old new NoKind tells once below fits begins still put = absurd fits
+says_by_kind l p look q f start input old new kind tells once below fits begins still put =
+    held_says l p look q f start input (le_at f.width new f.offset) kind tells once below fits begins
+    (put_holds (write_in look (place_in q f) start f kind) f.width input old new (wide p f input kind fits)
+    (relaxed_four p f input kind fits) still put)

@@ -110,43 +110,38 @@ set_stays l p q f g old new changes apart inside set plain =
     (kind_of f.type (is_some f.subtrahend)))
     (sym (number_stands f.offset f.width g.offset g.width old new changes apart inside)) (set plain)
 
--- what the fields so far ask for
-filtered_single : (l : Link) (p : Placed) (q : PlacedSection) (f : Field)
-    → map (field_fixup l p q) (filter (needs_fixup l (id_of q)) (f ∷ [])) ≡ one_if (needs_fixup l (id_of q) f) (field_fixup l p q f)
-filtered_single l p q f =
-    elim (needs_fixup l (id_of q) f) as (λ (b : Bool). map (field_fixup l p q) (cond b (f ∷ []) []) ≡ one_if b
-    (field_fixup l p q f)) [ true ↦ refl | false ↦ refl ]
+-- what is made of the fields so far that need a fixup
+filtered_single : {X : Type 0} (g : Field → X) (l : Link) (s : SectionId) (f : Field)
+    → map g (filter (needs_fixup l s) (f ∷ [])) ≡ one_if (needs_fixup l s f) (g f)
+filtered_single g l s f =
+    elim (needs_fixup l s f) as (λ (b : Bool). map g (cond b (f ∷ []) []) ≡ one_if b (g f)) [ true ↦ refl | false ↦ refl ]
 
-asks_added : (l : Link) (p : Placed) (q : PlacedSection) (n : ℕ)
-    → map (field_fixup l p q) (filter (needs_fixup l (id_of q)) (fields_to l (id_of q) (n + 1)))
-    ≡ map (field_fixup l p q) (filter (needs_fixup l (id_of q)) (fields_to l (id_of q) n))
-    ++ map (field_fixup l p q) (filter (needs_fixup l (id_of q)) (one_if (is_field l (id_of q) n) (field_of l (id_of q) n)))
+asks_added : {X : Type 0} (g : Field → X) (l : Link) (s : SectionId) (n : ℕ)
+    → map g (filter (needs_fixup l s) (fields_to l s (n + 1)))
+    ≡ map g (filter (needs_fixup l s) (fields_to l s n)) ++ map g (filter (needs_fixup l s) (one_if (is_field l s n) (field_of l s n)))
 unfolding fields_to
-asks_added l p q n =
-    let nf = needs_fixup l (id_of q) in
-    let xs = chosen (field_of l (id_of q)) (is_field l (id_of q)) n in
-    let ys = one_if (is_field l (id_of q) n) (field_of l (id_of q) n) in
-    ap (λ (t : List Field). map (field_fixup l p q) (filter nf t)) (chosen_more (field_of l (id_of q)) (is_field l (id_of q)) n)
-    ∙ ap (map (field_fixup l p q)) (filter-append nf xs ys) ∙ map-append (field_fixup l p q) (filter nf xs) (filter nf ys)
+asks_added g l s n =
+    let nf = needs_fixup l s in
+    let xs = chosen (field_of l s) (is_field l s) n in
+    let ys = one_if (is_field l s n) (field_of l s n) in
+    ap (λ (t : List Field). map g (filter nf t)) (chosen_more (field_of l s) (is_field l s) n)
+    ∙ ap (map g) (filter-append nf xs ys) ∙ map-append g (filter nf xs) (filter nf ys)
 
 -- of one field more, and of a relocation that is none
-asks_field : (l : Link) (p : Placed) (q : PlacedSection) (n : ℕ) → is_field l (id_of q) n ≡ true
-    → map (field_fixup l p q) (filter (needs_fixup l (id_of q)) (fields_to l (id_of q) (n + 1)))
-    ≡ map (field_fixup l p q) (filter (needs_fixup l (id_of q)) (fields_to l (id_of q) n))
-    ++ one_if (needs_fixup l (id_of q) (field_of l (id_of q) n)) (field_fixup l p q (field_of l (id_of q) n))
-asks_field l p q n field =
-    let f = field_of l (id_of q) n in
-    let front = map (field_fixup l p q) (filter (needs_fixup l (id_of q)) (fields_to l (id_of q) n)) in
-    asks_added l p q n ∙ ap (λ (b : Bool). front ++ map (field_fixup l p q) (filter (needs_fixup l (id_of q)) (one_if b f))) field
-    ∙ ap (λ (t : List Fixup). front ++ t) (filtered_single l p q f)
+pub asks_field : {X : Type 0} (g : Field → X) (l : Link) (s : SectionId) (n : ℕ) → is_field l s n ≡ true
+    → map g (filter (needs_fixup l s) (fields_to l s (n + 1)))
+    ≡ map g (filter (needs_fixup l s) (fields_to l s n)) ++ one_if (needs_fixup l s (field_of l s n)) (g (field_of l s n))
+asks_field {X} g l s n field =
+    let f = field_of l s n in
+    let front = map g (filter (needs_fixup l s) (fields_to l s n)) in
+    asks_added g l s n ∙ ap (λ (b : Bool). front ++ map g (filter (needs_fixup l s) (one_if b f))) field
+    ∙ ap (λ (t : List X). front ++ t) (filtered_single g l s f)
 
-asks_none : (l : Link) (p : Placed) (q : PlacedSection) (n : ℕ) → is_field l (id_of q) n ≡ false
-    → map (field_fixup l p q) (filter (needs_fixup l (id_of q)) (fields_to l (id_of q) (n + 1)))
-    ≡ map (field_fixup l p q) (filter (needs_fixup l (id_of q)) (fields_to l (id_of q) n))
-asks_none l p q n none =
-    let f = field_of l (id_of q) n in
-    let front = map (field_fixup l p q) (filter (needs_fixup l (id_of q)) (fields_to l (id_of q) n)) in
-    asks_added l p q n ∙ ap (λ (b : Bool). front ++ map (field_fixup l p q) (filter (needs_fixup l (id_of q)) (one_if b f))) none
+pub asks_none : {X : Type 0} (g : Field → X) (l : Link) (s : SectionId) (n : ℕ) → is_field l s n ≡ false
+    → map g (filter (needs_fixup l s) (fields_to l s (n + 1))) ≡ map g (filter (needs_fixup l s) (fields_to l s n))
+asks_none g l s n none =
+    let front = map g (filter (needs_fixup l s) (fields_to l s n)) in
+    asks_added g l s n ∙ ap (λ (b : Bool). front ++ map g (filter (needs_fixup l s) (one_if b (field_of l s n)))) none
     ∙ append-nil front
 
 -- nothing is filled yet
@@ -170,7 +165,7 @@ filled_prefix l p q n asked text run filled none = record {
   rest = λ i lt outside. filled.rest i lt (λ r less field. outside r (omega arith) field);
   set = λ r lt field. elim (below_more r n lt) [ inl less ↦ filled.set r less field | inr last ↦ absurd (other r last field) ];
   fine = λ r lt field. elim (below_more r n lt) [ inl less ↦ filled.fine r less field | inr last ↦ absurd (other r last field) ];
-  asks = filled.asks ∙ ap (λ (t : List Fixup). asked ++ t) (sym (asks_none l p q n none));
+  asks = filled.asks ∙ ap (λ (t : List Fixup). asked ++ t) (sym (asks_none (field_fixup l p q) l (id_of q) n none));
 }
   where
     other : (r : ℕ) → r ≡ n → is_field l (id_of q) r ≡ true → ⊥
@@ -204,7 +199,7 @@ filled_field l p q look descriptors n asked old new run more sound inside filled
       one_asks l p q look descriptors n old new run more next done
       ∙ ap (λ (t : List Fixup). t ++ one_if (needs_fixup l s f) (field_fixup l p q f)) filled.asks
       ∙ append_assoc asked front (one_if (needs_fixup l s f) (field_fixup l p q f))
-      ∙ ap (λ (t : List Fixup). asked ++ t) (sym (asks_field l p q n next.field));
+      ∙ ap (λ (t : List Fixup). asked ++ t) (sym (asks_field (field_fixup l p q) l s n next.field));
 }
   where
     s : SectionId

@@ -10,7 +10,7 @@ use Rattle.macho_model.specs.Links.{Link, header_at}
 use Rattle.macho_model.specs.Fields.{field_of, content_of}
 use Rattle.macho_model.specs.Placement.{Placed, id_of}
 use Rattle.macho_fixups.specs.declared.run.Fixup.{Fixup}
-use Rattle.macho_fields.specs.declared.section.Source.{Source}
+use Rattle.macho_fields.specs.declared.source.Source.{Source}
 use Rattle.macho_fields.specs.Looks.{Look}
 use Rattle.macho_fields.specs.Filling.{IsToFill}
 use Rattle.macho_fields.specs.steps.Filled.{IsSource}

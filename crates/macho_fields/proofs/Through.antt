@@ -3,7 +3,7 @@
 -- A stub more is put behind those so far, which it leaves. A slot more appends its fixup. By the placement's addresses the
 -- slot of a stub is one of its slots, behind it; so it is in reach exactly where it is within 4 GiB of the stub's page. And a
 -- slot has no word exactly where its target's address is none that a word has room for.
-use Rattle.std.proofs.Common.{◌≡◌, ℕ, zero, suc, ◌+◌, ◌*◌, ◌<◌, ◌≤◌, true, List, [], ◌∷◌, ◌++◌, map, take, get_or, refl, sym, ap, subst, ◌∙◌, arith, inl, inr, ◌⊎◌, length, append_assoc}
+use Rattle.std.proofs.Common.{◌≡◌, ℕ, ◌+◌, ◌*◌, ◌<◌, ◌≤◌, true, List, [], ◌∷◌, ◌++◌, map, take, get_or, sym, ap, subst, ◌∙◌, arith, inl, inr, length, append_assoc}
 use Rattle.std.specs.Prelude.{Some}
 use Rattle.std.proofs.lemmas.List.{map-append, take_more}
 use Rattle.macho_bytes.specs.Texts.{put, Stands}

@@ -5,3 +5,5 @@ pub mod Filled
 pub mod Sections
 pub mod Kinds
 pub mod Stubs
+pub mod Pointers
+pub mod Reads

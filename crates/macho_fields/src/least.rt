@@ -14,11 +14,11 @@ use crate::fault::FillFault;
 use crate::field::{Field, Near, near_at, read_field};
 use crate::making::{fault_of, word_of, written_of};
 use crate::places::Places;
-use crate::section::Source;
+use crate::source::{Source, source_of};
 use crate::write::write_fault;
 use macho_model::{PlacedSection, Site};
 use macho_object::File;
-use macho_records::{ARM64_RELOC_UNSIGNED, S_THREAD_LOCAL_VARIABLES, SectionFlags};
+use macho_records::ARM64_RELOC_UNSIGNED;
 
 /// Where a fault stands in the order of refusals: a bad place, then a value that has no word, then one that doesn't fit; a
 /// field's before a slot's, and that before a stub's.
@@ -74,7 +74,7 @@ fn relocation_fault<P: Places>(
     near: &Near,
 ) -> Option<FillFault>
     requires source { IsSource source.now }
-    requires near { IsNear source.now.list.now.bytes source.now.list.now.section near.now.index near.now }
+    requires near { IsNear source.now.list.bytes source.now.list.section near.now.index near.now }
     requires index { near.now.index < (section_at source.now.file.now.bytes source.now.place.section).nreloc }
     requires symbols { (s : ℕ) → s < num_symbols source.now.file.now.bytes → P.has_symbol places.now source.now.place.file s }
     ensures { (l : Link) (p : Placed) → IsToFill l p source.now.place (P.look places.now) source.now.file.now.bytes
@@ -97,7 +97,7 @@ fn relocations_fault<P: Places>(places: &P, source: &Source<'_, '_>, told: FillF
     let mut least = told;
     let mut previous = None;
     for index in 0..source.list.num_relocations() {
-        let near = near_at(source.list, index, previous);
+        let near = near_at(&source.list, index, previous);
         if let Some(fault) = relocation_fault(places, source, &near) {
             least = lesser(least, fault);
         }
@@ -125,20 +125,6 @@ pub fn section_fault<P: Places>(
     ensures why { (l : Link) (p : Placed) → IsToFill l p place (P.look places.now) file.now.bytes → FillStands l p told
         → FillStands l p result }
 {
-    let _object = file.is_dynamic();
-    let (Some(header), Some(bytes), Some(list)) = (
-        file.section(place.section),
-        file.section_bytes(place.section),
-        file.relocations(place.section),
-    ) else {
-        unreachable!()
-    };
-    let source = Source {
-        file,
-        list: &list,
-        bytes,
-        place,
-        descriptors: SectionFlags(header.flags).typ() == S_THREAD_LOCAL_VARIABLES,
-    };
+    let source = source_of(file, place);
     relocations_fault(places, &source, told)
 }

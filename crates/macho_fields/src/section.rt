@@ -20,26 +20,11 @@ use crate::field::{Field, Near, near_at, read_field};
 use crate::kinds::is_prefix;
 use crate::making::{fault_of, word_of, written_of};
 use crate::places::Places;
+use crate::source::{Source, source_of};
 use crate::write::put_field;
 use macho_fixups::Fixup;
 use macho_model::PlacedSection;
-use macho_object::{File, RelocationList};
-use macho_records::{S_THREAD_LOCAL_VARIABLES, SectionFlags};
-
-/// Where a section comes from.
-#[derive(Clone, Copy)]
-pub(crate) struct Source<'a, 'data> {
-    /// Its object.
-    pub file: &'a File<'data>,
-    /// Its relocations there.
-    pub list: &'a RelocationList<'data>,
-    /// Its bytes there.
-    pub bytes: &'a [u8],
-    /// Where it is placed: its segment, and the address of its first byte.
-    pub place: PlacedSection,
-    /// Whether it describes thread-local variables.
-    pub descriptors: bool,
-}
+use macho_object::File;
 
 /// Asks the loader to write a pointer.
 fn ask<P: Places>(
@@ -104,7 +89,7 @@ fn fill_one<P: Places>(
     out: &mut [u8],
 ) -> Result<(), FillFault>
     requires source { IsSource source.now }
-    requires near { IsNear source.now.list.now.bytes source.now.list.now.section near.now.index near.now }
+    requires near { IsNear source.now.list.bytes source.now.list.section near.now.index near.now }
     requires index { near.now.index < (section_at source.now.file.now.bytes source.now.place.section).nreloc }
     requires symbols { (s : ℕ) → s < num_symbols source.now.file.now.bytes → P.has_symbol places.now source.now.place.file s }
     ensures done { (l : Link) (p : Placed) (asked : List Fixup)
@@ -141,7 +126,7 @@ fn fill_fields<P: Places>(
 {
     let mut previous = None;
     for index in 0..source.list.num_relocations() {
-        let near = near_at(source.list, index, previous);
+        let near = near_at(&source.list, index, previous);
         fill_one(places, source, &near, run, out)?;
         previous = Some(near.relocation);
     }
@@ -182,21 +167,7 @@ pub fn fill_section<P: Places>(
     ensures only { (l : Link) (p : Placed) → IsToFill l p place (P.look places.now) file.now.bytes → OnOk result (NoneStandsIn l p place) }
     ensures why { (l : Link) (p : Placed) → IsToFill l p place (P.look places.now) file.now.bytes → IfErr result (FillStands l p) }
 {
-    let _object = file.is_dynamic();
-    let (Some(header), Some(bytes), Some(list)) = (
-        file.section(place.section),
-        file.section_bytes(place.section),
-        file.relocations(place.section),
-    ) else {
-        unreachable!()
-    };
-    out.copy_from_slice(bytes);
-    let source = Source {
-        file,
-        list: &list,
-        bytes,
-        place,
-        descriptors: SectionFlags(header.flags).typ() == S_THREAD_LOCAL_VARIABLES,
-    };
+    let source = source_of(file, place);
+    out.copy_from_slice(source.bytes);
     fill_fields(places, &source, run, out)
 }

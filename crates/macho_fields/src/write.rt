@@ -41,7 +41,7 @@ fn width_of(size: FieldSize) -> Option<usize>
 }
 
 /// Whether a field has its bytes among so many.
-fn has_room(write: &FieldWrite, long: usize) -> bool
+pub(crate) fn has_room(write: &FieldWrite, long: usize) -> bool
     ensures yes { result ≡ true → (is_field write.now.size ≡ true) × (write.now.at + width_of write.now.size ≤ long) }
     ensures no { result ≡ false → is_field write.now.size ≡ true → write.now.at + width_of write.now.size ≤ long → ⊥ }
 {

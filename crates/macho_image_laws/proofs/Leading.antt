@@ -42,8 +42,8 @@ carried_section l s inputs one = section_of_file l s inputs (filter_contains (λ
     (sections_of l) s one).0
 
 -- fields lie inside, and zeros have none
-field_inside_section : (l : Link) (s : SectionId) (f : Field) → ObjectsAreRead l → Contains (carried_of l) s → Contains (fields_of l s) f
-    → f.offset + f.width ≤ (header_at l s).size
+pub field_inside_section : (l : Link) (s : SectionId) (f : Field) → ObjectsAreRead l → Contains (carried_of l) s
+    → Contains (fields_of l s) f → f.offset + f.width ≤ (header_at l s).size
 field_inside_section l s f inputs one field =
     let h = carried_section l s inputs one in
     let n = field_number l s f field in

@@ -42,7 +42,8 @@ use Rattle.macho_linking.specs.declared.planned.Planned.{Planned}
 use Rattle.macho_linking.specs.declared.write.Written.{Written}
 use Rattle.macho_linking.specs.steps.Planned.{IsPlanned, AreInputs}
 use Rattle.macho_linking.specs.steps.Unwritten.{UnwrittenStands, refusal_of}
-use Rattle.macho_linking.specs.steps.Imaged.{StandsAlways, IsToSize, HasSizes, IsToAnswer}
+use Rattle.macho_linking.specs.Planning.{StandsAlways, IsToSize}
+use Rattle.macho_linking.specs.steps.Imaged.{HasSizes, IsToAnswer}
 use Rattle.macho_linker.specs.Held.{IsHeld}
 
 -- What holds of every link that a linker holds: its objects are objects, made of bytes, and its names can be written.

@@ -22,7 +22,7 @@ use Rattle.macho_linker.specs.declared.owned.OwnedInput.{OwnedInput}
 use Rattle.macho_linker.specs.declared.owned.OwnedInput.TheVariants as owned
 use Rattle.macho_linker.specs.Held.{IsHeld}
 use Rattle.macho_linking.specs.steps.Lists.{AreListsOf}
-use Rattle.macho_linking.specs.steps.Imaged.{StandsAlways}
+use Rattle.macho_linking.specs.Planning.{StandsAlways}
 
 pub same_inputs : (l : Link) (views : List (Option FileBytes)) (r : ResolvedRows) → views ≡ views_of l → IsResolved l [] r
     → AreOfInputs views r.files

@@ -14,10 +14,12 @@ use Rattle.macho_symbol_tables.specs.Exports.{exports_told, CanBeTrie}
 use Rattle.macho_refusal_laws.specs.ReadLink.{ReadLink}
 use Rattle.macho_sizing.specs.declared.asked.SizesOf.{SizesOf}
 use Rattle.macho_sizing.specs.declared.asked.SizedLink.{SizedLink}
-use Rattle.macho_sizing.specs.Sized.{IsSizedOf}
+use Rattle.macho_sizing.specs.declared.asked.PlannedLink.{PlannedLink}
+use Rattle.macho_sizing.specs.Sized.{IsPlannedOf, IsSizedOf}
 use Rattle.macho_promise_laws.specs.Symbols.{HasPersonality}
 use Rattle.macho_sizing.specs.Asked.{AreOf, CanBeSized}
-use Rattle.macho_linking.specs.steps.Imaged.{IsToSize, HasSizes}
+use Rattle.macho_linking.specs.Planning.{IsToSize, HasPlan}
+use Rattle.macho_linking.specs.steps.Imaged.{HasSizes}
 
 -- The parts that are handed on are those that were read.
 pub record Handed (l : Link) (a : SizesOf) (views : List (Option FileBytes)) (objects : List LinkedObject) (read : ReadLink)
@@ -61,6 +63,12 @@ can_be_sized l a views objects lists read libraries h handed = record {
   link = l;
   of_link = are_of l a views objects lists read libraries h handed;
 }
+
+pub has_plan : {E : Type 0} (l : Link) (read : ReadLink) (kept : List NamedExport) (r : Result PlannedLink E)
+    → AreKept l (exports_told read.exports.items) kept
+    → IfOk r (IsPlannedOf l kept) → IfOk r (HasPlan l read)
+has_plan l read kept (Ok planned) exports plan = record { kept = kept; exports = exports; plan = plan }
+has_plan l read kept (Err e) exports plan = tt
 
 pub has_sizes : {E : Type 0} (l : Link) (read : ReadLink) (kept : List NamedExport) (r : Result SizedLink E)
     → AreKept l (exports_told read.exports.items) kept

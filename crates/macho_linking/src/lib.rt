@@ -6,9 +6,11 @@ mod fault;
 mod lists;
 mod passes;
 mod planned;
+mod planning;
 mod refused;
 mod sealing;
 mod tables;
 mod write;
 
 pub use passes::link;
+pub use planning::{plan_inputs, read_inputs};

@@ -2,11 +2,11 @@
 //!
 //!      1  view_inputs, list_objects    the objects, as they lie in the bytes of the inputs
 //!      2  read_lists                   the export lists, as one
-//!      3  resolve_inputs               which definition each name has
+//!      3  resolve_inputs               which definition each name has           (`planning` reads and plans)
 //!      4  read_link                    what the objects need: imports, slots, import jumps, initializers, unwind entries, exports
 //!      5  needed_libraries             the libraries of the image
 //!      6  kept_exports                 the exported names of the trie
-//!      7  size_link                    all sizes, the limits, and a place for each part
+//!      7  plan_link, place_link        all sizes, the limits, and a place for each part
 //!      8  told_imports                 the imports, as they are told
 //!      9  write_image                  the bytes: contents, tables, head, signature
 //!     10  answer                       the image, with what is told beside it
@@ -16,44 +16,32 @@ ghost use Rattle.macho_model.specs.Links.{Link};
 ghost use Rattle.macho_model.specs.Told.{imports_told};
 ghost use Rattle.macho_promise.specs.Views.{views_of, ViewsObject};
 ghost use Rattle.macho_symbols.specs.Exported.{AreLists};
-ghost use Rattle.macho_linkedit.specs.Counting.{AreArguments};
 ghost use Rattle.macho_linkedit.specs.Listing.{AreObjects};
 ghost use Rattle.macho_answer.specs.declared.fault.LinkError.TheVariants.{OutOfMemory};
 ghost use Rattle.macho_refusal_laws.specs.Inputs.{HasBytes};
-ghost use Rattle.macho_refusal_laws.specs.Read.{IsReadOf, AreKnown, entry_of};
 ghost use Rattle.macho_answer.specs.Linked.{import_of, IsImageOf, IsRefused, RefusalStands};
 ghost use Rattle.macho_model.specs.declared.placed.Counts.{Counts};
 ghost use Rattle.macho_model.specs.Valid.{IsValid};
 ghost use Rattle.macho_promise.specs.Sizes.{AreCounts};
 ghost use Rattle.macho_linker.specs.Held.{IsHeld};
-ghost use Rattle.macho_linking.specs.steps.Imaged.{IsSingle, StandsAlways, IsToSize, HasSizes, IsMade, IsToAnswer};
+ghost use Rattle.macho_linking.specs.Planning.{IsSingle, StandsAlways, IsToSize};
+ghost use Rattle.macho_linking.specs.steps.Imaged.{HasSizes, IsMade, IsToAnswer};
 
 use crate::fault::refusal;
 use crate::lists::read_lists;
 use crate::planned::Planned;
+use crate::planning::{plan_inputs, read_inputs};
 use crate::write::{Written, write_image};
 use macho_answer::{ImportName, LinkError, LinkedImage};
 use macho_export_lists::ExportList;
-use macho_inputs::{list_objects, needed_libraries, resolve_inputs, view_inputs};
-use macho_linkedit::{LinkedObject, SizeArguments};
-use macho_linker::{Linker, last_part};
-use macho_model::Limit;
+use macho_inputs::{list_objects, needed_libraries, view_inputs};
+use macho_linkedit::LinkedObject;
+use macho_linker::Linker;
 use macho_object::File;
-use macho_refusal_laws::{ReadLink, read_link};
-use macho_sizing::{SizedLink, SizesOf, size_link};
-use macho_symbol_tables::{kept_exports, told_imports};
+use macho_refusal_laws::ReadLink;
+use macho_sizing::{SizedLink, place_link};
+use macho_symbol_tables::told_imports;
 use std::alloc::Global;
-
-/// The name at which an executable begins, None for a dynamic library.
-fn entry_name(linker: &Linker) -> Option<&[u8]>
-    ensures { option_copied result ≡ entry_of linker.now }
-{
-    if linker.is_executable() {
-        Some(linker.entry())
-    } else {
-        None
-    }
-}
 
 /// What the hashes of names begin with: the first bytes of the UUID. It is a digest of the inputs, unless the user gives one, so no
 /// object can be made against it.
@@ -61,40 +49,6 @@ fn seed_of(uuid: [u8; 16]) -> u64 {
     u64::from_le_bytes([
         uuid[0], uuid[1], uuid[2], uuid[3], uuid[4], uuid[5], uuid[6], uuid[7],
     ])
-}
-
-/// Resolves the symbols of the inputs, and reads what the objects ask for.
-fn read_inputs<'a>(
-    alloc: Global,
-    linker: &'a Linker,
-    views: &[Option<File<'_>>],
-    list: Option<&ExportList>,
-    seed: u64,
-) -> Result<ReadLink<'a>, LinkError>
-    requires held { IsHeld linker.now }
-    requires views { views.now ≡ views_of linker.now }
-    requires lists { AreLists linker.now (option_copied list) }
-    ensures done { IfOk result (IsReadOf linker.now) }
-    ensures known { IfOk result (AreKnown views.now) }
-    ensures single { OnOk result (IsSingle linker.now) }
-    ensures why { IfErr result (StandsAlways linker.now) }
-{
-    let resolved = resolve_inputs(alloc, linker.inputs(), seed)?;
-    read_link(alloc, resolved, views, entry_name(linker), list)
-}
-
-/// The arguments that sizes depend on.
-fn size_arguments(linker: &Linker) -> SizeArguments<'_>
-    ensures { AreArguments linker.now result }
-{
-    SizeArguments {
-        executable: linker.is_executable(),
-        install_name: linker.install_name(),
-        has_versions: linker.versions().is_some(),
-        rpaths: linker.rpaths(),
-        headerpad: linker.headerpad(),
-        name: last_part(linker.output()),
-    }
 }
 
 /// Sizes and places what was read.
@@ -111,30 +65,8 @@ fn size_inputs<'a>(
     ensures done { IfOk result (λ sized. HasSizes linker.now read.now sized) }
     ensures why { IfErr result (StandsAlways linker.now) }
 {
-    if libraries.len() >= u32::MAX as usize {
-        return Err(LinkError::TooMany {
-            what: Limit::Libraries,
-            number: libraries.len() as u64,
-            placement: None,
-        });
-    }
-    let exports = kept_exports(
-        alloc,
-        &read.exports,
-        read.needs.resolved.imports(),
-        libraries,
-    )?;
-    let sizes = SizesOf {
-        arguments: size_arguments(linker),
-        libraries,
-        views,
-        objects,
-        needs: &read.needs,
-        initializers: &read.initializers,
-        entries: &read.entries,
-        exports: &exports,
-    };
-    size_link(alloc, &sizes, list)
+    let planned = plan_inputs(alloc, linker, views, objects, list, read, libraries)?;
+    place_link(alloc, planned)
 }
 
 /// What was viewed of a link.

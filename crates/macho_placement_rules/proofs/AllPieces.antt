@@ -32,7 +32,7 @@ one_more_part F old now next n x before pushed is =
     ∙ ap (λ (ps : List Part). old ++ ps) (ap (λ (y : Part). map F (range_with_len 0 n) ++ y ∷ []) is
     ∙ sym (map-range_with_len_more F 0 n n (omega arith)))
 
-module _ (l : Link) (p : Planning) (plan : IsPlanOf l p) (counts : Counts) (q : Placed) (whole : IsWholeList l q) where
+module _ (l : Link) (p : Planning) (plan : IsPlanOf l p) (q : Placed) (whole : IsWholeList l q) where
   -- a section beside what the plan says of it
   section_same : (k : ℕ) → k < length q.sections
       → piece_of (section_part (template_exponent_of p.sections) (get_or q.sections k no_section) (get_or p.sections k no_spec))
@@ -75,7 +75,7 @@ module _ (l : Link) (p : Planning) (plan : IsPlanOf l p) (counts : Counts) (q : 
       ∙ sym (get_or-map (section_piece l) q.sections k no_section none within))
 
   -- a common at its number in the plan
-  common_same : (k : ℕ) (d : PlacedCommon) → k < length q.commons
+  pub common_same : (k : ℕ) (d : PlacedCommon) → k < length q.commons
       → piece_of (common_part p.commons (get_or q.commons k d)) ≡ common_piece l (get_or q.commons k d)
   common_same k d low =
       let c : PlacedCommon = get_or q.commons k d in
@@ -96,9 +96,9 @@ module _ (l : Link) (p : Planning) (plan : IsPlanOf l p) (counts : Counts) (q : 
       ap (λ (s : CommonSpec). record { start = c.address; size = s.size; exponent = s.align }) told
 
   -- all parts
-  pub made_is : map piece_of (made_parts counts q p.sections p.commons) ≡ pieces_with l counts q q.sections
+  pub made_is : (counts : Counts) → map piece_of (made_parts counts q p.sections p.commons) ≡ pieces_with l counts q q.sections
   unfolding made_parts pieces_with
-  made_is =
+  made_is counts =
       let S : List Part = section_parts (template_exponent_of p.sections) p.sections q.sections in
       let C : List Part = map (common_part p.commons) q.commons in
       let G : List Part = map slot_part q.slots in
@@ -124,4 +124,4 @@ pub made_from : (l : Link) (p : Planning) (counts : Counts) (q : Placed) (sectio
     → parts ≡ made_parts counts q sections commons → map piece_of parts ≡ pieces_with l counts q q.sections
 made_from l p counts q sections commons parts plan those these whole made =
     ap (map piece_of) (made ∙ ap (λ (ss : List SectionSpec). made_parts counts q ss commons) (sym those)
-    ∙ ap (λ (cs : List CommonSpec). made_parts counts q p.sections cs) (sym these)) ∙ made_is l p plan counts q whole
+    ∙ ap (λ (cs : List CommonSpec). made_parts counts q p.sections cs) (sym these)) ∙ made_is l p plan q whole counts

@@ -1,6 +1,12 @@
 pub mod AllPieces
 pub mod Each
+pub mod First
+pub mod MadeLong
 pub mod Neighbours
+pub mod Rooms
 pub mod Same
 pub mod SameStubs
 pub mod Swept
+pub mod TemplateLaw
+pub mod Told
+pub mod WholeLaw

@@ -3,4 +3,6 @@ pub mod Lists
 pub mod Lying
 pub mod Parts
 pub mod Pieces
+pub mod Rules
 pub mod Segments
+pub mod Template

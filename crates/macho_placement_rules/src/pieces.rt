@@ -23,7 +23,7 @@ use macho_records::{
 use std::alloc::{AllocError, Global};
 
 /// Whether a section has initial values of thread-local variables.
-fn is_template(spec: &SectionSpec) -> bool
+pub(crate) fn is_template(spec: &SectionSpec) -> bool
     ensures { result ≡ is_template_type (type_of_spec spec.now) }
 {
     let kind = SectionFlags(spec.flags).typ();
@@ -44,7 +44,7 @@ fn template_of(specs: &[SectionSpec]) -> u8
 }
 
 /// A section as a part, where the template has an alignment.
-fn section_part(section: &PlacedSection, spec: &SectionSpec, template: u8) -> Part
+pub(crate) fn section_part(section: &PlacedSection, spec: &SectionSpec, template: u8) -> Part
     ensures { result ≡ section_part template section.now spec.now }
 {
     let exponent = if is_template(spec) {
@@ -126,7 +126,7 @@ fn push_stubs(parts: &mut Vec<Part>, stubs: &[Stub]) -> Result<(), AllocError>
 }
 
 /// A range as a part.
-fn range_part(range: Range64) -> Part
+pub(crate) fn range_part(range: Range64) -> Part
     ensures { result ≡ as_part (range_piece 0 range) }
 {
     Part {
@@ -234,9 +234,10 @@ pub fn all_parts(
 ) -> Result<Vec<Part>, AllocError>
     requires sections { length placement.now.sections.items ≤ length sections.now }
     requires commons { All (λ c. c.id < length commons.now) placement.now.commons.items }
-    ensures { (l : Link) (p : Planning) → IsPlanOf l p → p.sections ≡ sections.now → p.commons ≡ commons.now
+    ensures found { (l : Link) (p : Planning) → IsPlanOf l p → p.sections ≡ sections.now → p.commons ≡ commons.now
         → IsWholeList l (placed_of placement.now)
         → IfOk result (λ v. map piece_of v.items ≡ pieces_with l counts.now (placed_of placement.now) placement.now.sections.items) }
+    ensures long { IfOk result (λ v. length placement.now.sections.items < length v.items) }
 {
     let parts = made_parts(alloc, placement, sections, commons, counts)?;
     Ok(parts)

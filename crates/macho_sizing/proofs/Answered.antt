@@ -18,16 +18,32 @@ use Rattle.macho_linkedit.proofs.TrieSaid.{trie_size_is_kept}
 use Rattle.macho_sizing.specs.declared.numbers.Numbers.{Numbers}
 use Rattle.macho_size_laws.specs.Limits.{LimitsHold}
 use Rattle.macho_sizing.specs.steps.Passing.{AreNumbers, AreSymbols, AreWithin}
+use Rattle.macho_sizing.specs.declared.asked.LinkSizes.{LinkSizes}
+use Rattle.macho_sizing.specs.Sized.{IsOfNumbers, AreSizesOf}
 use Rattle.macho_sizing.specs.steps.Rooms.{IsAnswered, TellsRoom}
 use Rattle.macho_sizing.proofs.Larger.{sections_within, unwind_within}
 use Rattle.macho_sizing.proofs.Spans.{span_within}
 use Rattle.macho_promise.proofs.Counted.{imports_counted, names_counted, unwind_counted}
 
+-- no number passes its limit
+pub numbers_hold : (l : Link) (counts : Counts) (n : Numbers) → AreNumbers l n → AreSymbols l n → AreWithin n → AreCounts l counts
+    → (what : Limit) (number : ℕ) → IsOfNumbers what → PassesLimit l counts what number None → ⊥
+numbers_hold l counts n are symbols within counted limit.Segments number of x = of
+numbers_hold l counts n are symbols within counted limit.Sections number of x = of
+numbers_hold l counts n are symbols within counted limit.Libraries number of x = omega (arith, x.0, x.1, are.libraries, within.libraries)
+numbers_hold l counts n are symbols within counted limit.Personalities number of x =
+    omega (arith, x.0, x.1, are.personalities, within.personalities)
+numbers_hold l counts n are symbols within counted limit.Imports number of x =
+    omega (arith, x.0, x.1, are.imports, within.imports, imports_counted l counts counted)
+numbers_hold l counts n are symbols within counted limit.NameBytes number of x =
+    omega (arith, x.0, x.1, are.names, within.names, names_counted l counts counted)
+numbers_hold l counts n are symbols within counted limit.Symbols number of x = omega (arith, x.0, x.1, symbols.are, within.symbols)
+numbers_hold l counts n are symbols within counted limit.Pages number of x = omega (arith, x.0, x.1)
+
 -- THE limits hold
-pub limits_hold : (l : Link) (counts : Counts) (n : Numbers) (q : Placed) → AreNumbers l n → AreSymbols l n → AreWithin n
-    → AreCounts l counts
-    → IsAnswered l counts q → LimitsHold l counts q
-limits_hold l counts n q are symbols within counted answered = record {
+pub limits_hold : (l : Link) (exports : List NamedExport) (s : LinkSizes) (q : Placed) → AreSizesOf l exports s
+    → IsAnswered l s.counts q → LimitsHold l s.counts q
+limits_hold l exports s q sizes answered = record {
   numbers = none;
   pages = pages;
   sum = answered.laid.passes.sum;
@@ -35,17 +51,17 @@ limits_hold l counts n q are symbols within counted answered = record {
   ranges = answered.laid.passes.ranges;
 }
   where
-    none : (what : Limit) (number : ℕ) → PassesLimit l counts what number None → ⊥
+    none : (what : Limit) (number : ℕ) → PassesLimit l s.counts what number None → ⊥
     none limit.Segments number x = answered.laid.passes.segments number x
     none limit.Sections number x = answered.laid.passes.sections number x
-    none limit.Libraries number x = omega (arith, x.0, x.1, are.libraries, within.libraries)
-    none limit.Personalities number x = omega (arith, x.0, x.1, are.personalities, within.personalities)
-    none limit.Imports number x = omega (arith, x.0, x.1, are.imports, within.imports, imports_counted l counts counted)
-    none limit.NameBytes number x = omega (arith, x.0, x.1, are.names, within.names, names_counted l counts counted)
-    none limit.Symbols number x = omega (arith, x.0, x.1, symbols.are, within.symbols)
-    none limit.Pages number x = omega (arith, x.0, x.1)
+    none limit.Libraries number x = sizes.numbers limit.Libraries number tt x
+    none limit.Personalities number x = sizes.numbers limit.Personalities number tt x
+    none limit.Imports number x = sizes.numbers limit.Imports number tt x
+    none limit.NameBytes number x = sizes.numbers limit.NameBytes number tt x
+    none limit.Symbols number x = sizes.numbers limit.Symbols number tt x
+    none limit.Pages number x = sizes.numbers limit.Pages number tt x
 
-    pages : (what : Limit) (number : ℕ) → PassesLimit l counts what number (Some q) → ⊥
+    pages : (what : Limit) (number : ℕ) → PassesLimit l s.counts what number (Some q) → ⊥
     pages limit.Pages number x = answered.pages number x
     pages limit.Segments number x = x
     pages limit.Sections number x = x

@@ -3,7 +3,7 @@
 -- One section more of an object adds its specification where it is carried. One file more adds those of the file. A plan is
 -- told by its parts, so
 -- what was added to the sections of what was added to is added once.
-use Rattle.std.proofs.Common.{◌≡◌, ℕ, ◌+◌, Bool, true, false, List, [], ◌∷◌, ◌++◌, map, get_or, refl, sym, ap, ◌∙◌, arith, append_assoc}
+use Rattle.std.proofs.Common.{◌≡◌, ℕ, ◌+◌, Bool, true, false, List, [], ◌∷◌, ◌++◌, map, get_or, refl, ap, ◌∙◌, append_assoc}
 use Rattle.std.specs.Prelude.{filter, Option, None}
 use Rattle.std.specs.List.{flat_map, range_with_len}
 use Rattle.std.proofs.lemmas.List.{map-append, append-nil}

@@ -3,20 +3,19 @@
 -- One row more adds its personality function, unless it is there. By the rules the relocation of a personality is one pointer
 -- to a symbol, so it leads where the row's symbol does. The ids of entries are the numbers of the slots of what rows name; in
 -- order they are no more than those of the functions, each taken once.
-use Rattle.std.proofs.Common.{◌≡◌, ℕ, zero, suc, ◌+◌, ◌*◌, ◌/◌, ◌<◌, ◌≤◌, eqb, eq-eqb, ◌&&◌, ◌||◌, ◌==◌, Bool, true, false, Contains, subst, leb-true, nat_le, inl, inr, List, [], ◌∷◌, ◌++◌, map, length, get_or, take, refl, sym, ap, ◌∙◌, arith, Some, None, append-nil}
-use Rattle.std.specs.Prelude.{Option, nat_lt, filter}
-use Rattle.std.specs.List.{filter_map, cons_option, flat_map, range_with_len}
+use Rattle.std.proofs.Common.{◌≡◌, ℕ, suc, ◌+◌, ◌<◌, ◌≤◌, ◌||◌, ◌==◌, Bool, true, false, Contains, subst, List, [], ◌∷◌, ◌++◌, map, length, get_or, take, refl, sym, ap, ◌∙◌, arith, Some, None, append-nil}
+use Rattle.std.specs.Prelude.{Option, nat_lt}
+use Rattle.std.specs.List.{filter_map, cons_option, flat_map}
 use Rattle.std.proofs.lemmas.List.{take_more, length-map}
 use Rattle.std.proofs.lemmas.List.Elements.{filter_map-append}
 use Rattle.std.proofs.lemmas.Bool.{eqb-true}
 use Rattle.std.proofs.lemmas.List.Concat.{flat_map-cons}
 use Rattle.macho_model.specs.declared.targets.Target.{Target}
-use Rattle.macho_model.specs.declared.rules.UnwindRule.TheVariants.{U2, U3, U7}
-use Rattle.macho_model.specs.Links.{Link, header_at}
-use Rattle.macho_model.specs.Needs.{distinct, relocation_in, PERSONALITY_PLACE}
-use Rattle.macho_model.specs.Targets.{same_target, target_of, target_of_relocation, slot_number, is_defined, is_import}
+use Rattle.macho_model.specs.Links.{Link}
+use Rattle.macho_model.specs.Needs.{distinct, PERSONALITY_PLACE}
+use Rattle.macho_model.specs.Targets.{same_target, target_of, target_of_relocation, slot_number}
 use Rattle.macho_layout.proofs.Distinct.{distinct_push}
-use Rattle.macho_model.specs.Consumed.{EntryId, entries_of_link, relocations_in_entry, personality_targets, START_PLACE}
+use Rattle.macho_model.specs.Consumed.{EntryId, entries_of_link, relocations_in_entry, personality_targets}
 use Rattle.macho_symbols.specs.Kept.{symbol_id}
 use Rattle.macho_unwind_pages.specs.Entries.{ids_of}
 use Rattle.macho_unwind_pages.specs.steps.Entries.{named_by, named_ids}
@@ -29,7 +28,6 @@ use Rattle.macho_consumed.specs.Rows.{entry_row, entry_rows}
 use Rattle.macho_consumed.specs.Told.{EntriesKeepRules}
 use Rattle.macho_consumed.specs.steps.Inputs.{number_of_target, input_by}
 use Rattle.macho_consumed.proofs.BoundInputs.{IsInSection, in_section, inputs_told, person_leads, one_personality}
-use Rattle.macho_consumed.specs.steps.Entries.{unwind_relocation_fits}
 use Rattle.macho_linkedit.proofs.Members.{in_distinct}
 use Rattle.macho_needs.specs.Tables.{with_some}
 use Rattle.macho_needs.proofs.Deciding.{targets_decide}

@@ -28,7 +28,7 @@ use Rattle.macho_layout_laws.proofs.Placing.{laid_out_is_placed, kept_is_placed,
 use Rattle.macho_layout.specs.declared.placement.Placement.{Placement}
 use Rattle.macho_answer.specs.declared.fault.LinkError.TheVariants as error
 use Rattle.macho_answer.specs.Standing.{Stands}
-use Rattle.macho_sizing.specs.steps.Rooms.{kept_counts, IsLaid, passed_pages, HasMany, HasFew}
+use Rattle.macho_sizing.specs.steps.Rooms.{kept_counts, IsLaid, passed_pages, HasFew}
 use Rattle.macho_sizing.proofs.Larger.{outputs_kept, written_grows, some_kept}
 use Rattle.macho_model.proofs.Parts.{in_segment_of}
 

@@ -3,19 +3,15 @@
 -- The numbers that are counted are those that the limits speak of. A plan has as many segments and output sections as its link; of sizes it
 -- takes only whether there are initializers and unwind entries, which the rows tell, since unwind information of some entries is not empty.
 use Rattle.std.proofs.Common.{◌≡◌, ℕ, ◌^◌, ◌≤◌, ◌==◌, nat_lt, if◌then◌else◌, Bool, false, List, [], ◌∷◌, length, map, sym, ap, ◌∙◌, arith, None}
-use Rattle.std.specs.Prelude.{sum_by}
 use Rattle.std.proofs.lemmas.Bool.{lt-ltb, ne_eqb}
 use Rattle.std.proofs.lemmas.List.{length-map}
 use Rattle.macho_model.specs.declared.placed.Counts.{Counts}
 use Rattle.macho_model.specs.declared.targets.Limit.{Limit}
 use Rattle.macho_model.specs.declared.targets.Limit.TheVariants as limit
 use Rattle.macho_model.specs.Links.{Link}
-use Rattle.macho_model.specs.Needs.{imports_of}
-use Rattle.macho_model.specs.Made.{initializers_of}
-use Rattle.macho_model.specs.Fixups.{import_entries_of}
 use Rattle.macho_model.specs.Consumed.{EntryId, entries_of_link}
 use Rattle.macho_model.specs.WrittenSum.{content_sum}
-use Rattle.macho_promise.specs.Sizes.{AreCounts, counts_with, text_size, unwind_size, unwind_input, text_span}
+use Rattle.macho_promise.specs.Sizes.{AreCounts, unwind_size, unwind_input, text_span}
 use Rattle.macho_unwind_pages.specs.Bounds.{unwind_bound_of}
 use Rattle.macho_layout.specs.declared.fault.LayoutFault.TheVariants as layout
 use Rattle.macho_layout.specs.Plans.{Planning, IsPlanOf}

@@ -2,7 +2,7 @@
 --
 -- Symbols are those of the listed objects, entries without a star those of the lists. Entries of the import table are imports and own
 -- entries, and the bytes of names are summed up over imports.
-use Rattle.std.proofs.Common.{◌≡◌, ℕ, ◌+◌, ◌==◌, not, false, List, [], ◌∷◌, map, length, refl, sym, ap, ◌∙◌, arith, Some, None}
+use Rattle.std.proofs.Common.{◌≡◌, ℕ, ◌==◌, not, false, List, [], ◌∷◌, map, length, refl, sym, ap, ◌∙◌, arith, Some, None}
 use Rattle.std.specs.Prelude.{Option, sum_by}
 use Rattle.std.proofs.lemmas.Bool.{true≢false, ne_eqb}
 use Rattle.std.proofs.lemmas.List.Concat.{length-flat_map}

@@ -1,7 +1,7 @@
 //! What the sizes and the placement of a link are made from, and what they are.
 
 use macho_consumed::{Initializer, UnwindEntry};
-use macho_layout::{Counts, Placement};
+use macho_layout::{Counts, Placement, Plan};
 use macho_linkedit::{LinkedObject, NamedExport, ReservedTrie, SizeArguments, TableSymbols};
 use macho_needs::Needs;
 use macho_object::File;
@@ -25,6 +25,26 @@ pub struct SizesOf<'a> {
     pub entries: &'a [UnwindEntry],
     /// The exported names, each once.
     pub exports: &'a [NamedExport<'a>],
+}
+
+/// The sizes of a link, with what was listed and reserved for them.
+#[derive(Drop)]
+pub struct LinkSizes {
+    /// How many of each thing there are, and how many bytes they take.
+    pub counts: Counts,
+    /// The symbols of the symbol table.
+    pub symbols: TableSymbols,
+    /// The trie of the exported names, and the bytes that are kept for it.
+    pub trie: ReservedTrie,
+}
+
+/// A link with its plan and its sizes, before its parts are placed.
+#[derive(Drop)]
+pub struct PlannedLink {
+    /// The parts that are placed, in order.
+    pub plan: Plan,
+    /// The sizes, with what was listed and reserved for them.
+    pub sizes: LinkSizes,
 }
 
 /// A link with its sizes and its placement.

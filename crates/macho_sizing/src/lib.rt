@@ -20,7 +20,7 @@ mod size;
 mod span;
 mod unwind;
 
-pub use asked::{SizedLink, SizesOf};
+pub use asked::{LinkSizes, PlannedLink, SizedLink, SizesOf};
 pub use laws::sections_are_planned;
 pub use sections::plan_sections;
-pub use size::size_link;
+pub use size::{place_link, plan_link, size_link};

@@ -1,4 +1,5 @@
 pub mod Runs
+pub mod Prepared
 pub mod steps
 -- the job of a run, of the crates below, which clauses of `run` cite
 pub use Rattle.macho_report.specs.Job

@@ -21,11 +21,10 @@ ghost use Rattle.macho_report.specs.Names.{names_of};
 ghost use Rattle.wild_macho.specs.Runs.{devices, AskForNoLines, DoesJobs, GoesOn, IsOwed, IsRun, RunsBy};
 ghost use Rattle.wild_macho.specs.steps.Made.{IsBadName, IsMade, IsLinkFault, IsSilent, Prints, Finishes, Answers};
 
+use crate::preparing::{gather_linker, read_words};
 use macho_args::MachOArgs;
 use macho_devices::{FileFault, Files, Sink};
-use macho_report::{
-    Fault, FileNames, LinkedImage, Linker, gather, print_fault, print_lines, uuid_of,
-};
+use macho_report::{Fault, FileNames, LinkedImage, Linker, print_fault, print_lines, uuid_of};
 use std::alloc::Global;
 
 /// What a run answers.
@@ -78,20 +77,6 @@ pub fn run<F: Files, O: Sink, E: Sink>(
             print_fault(err, &[], &[], &FileNames::new(alloc), &fault);
             refused(fault)
         }
-    }
-}
-
-// The arguments that the words say.
-fn read_words<F: Files>(alloc: Global, words: &[String], files: &mut F) -> Result<MachOArgs, Fault>
-    requires { length words.now < 2 ^ 32 - 1 }
-    ensures said { IfOk result (λ args. IsParsed (F.state files.old) (map string_bytes words.now) (settings_of args)) }
-    ensures why { IfErr result (WordsFail (map string_bytes words.now)) }
-    ensures kept { F.state files.new ≡ F.state files.old }
-{
-    let mut args = MachOArgs::new(alloc)?;
-    match args.parse(words, files) {
-        Ok(()) => Ok(args),
-        Err(fault) => Err(Fault::of_words(fault)),
     }
 }
 
@@ -163,24 +148,9 @@ fn make_image<F: Files>(
         (F.state files.old).failed_reads (F.state files.new).failed_reads) }
     ensures kept { OnlyReads (F.state files.old) (F.state files.new) }
 {
-    let mut linker = make_linker(alloc, args)?;
-    gather(alloc, args, files, &mut linker, names)?;
+    let linker = gather_linker(alloc, args, files, names)?;
     let image = link(alloc, args, &linker)?;
     Ok(Made { linker, image })
-}
-
-// A linker of these arguments, without inputs.
-fn make_linker(alloc: Global, args: &MachOArgs) -> Result<Linker, Fault>
-    ensures made { IfOk result (λ linker. linker ≡ link_of (settings_of args.now)) }
-    ensures why { IfErr result (λ fault. (told : Option Store) (paths : List (List ℕ)) (old new : ℕ)
-        → JobFails told (settings_of args.now) paths old new fault) }
-    ensures fine { OnOk result (bad_name (link_of (settings_of args.now)) ≡ false) }
-    ensures named { IfErr result (λ fault. IsBadName (Some fault)) }
-{
-    match Linker::new(alloc, args) {
-        Ok(linker) => Ok(linker),
-        Err(error) => Err(Fault::of_link(error)),
-    }
 }
 
 // The image of what the linker holds.

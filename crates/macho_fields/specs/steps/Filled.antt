@@ -12,7 +12,7 @@ use Rattle.macho_model.specs.Fields.{Field}
 use Rattle.macho_fixups.specs.declared.run.Fixup.{Fixup}
 use Rattle.macho_fields.specs.declared.fault.FillFault.{FillFault}
 use Rattle.macho_fields.specs.declared.fault.FillFault.TheVariants.{Range, Rebase, Place, Unsupported, OutOfMemory}
-use Rattle.macho_fields.specs.declared.section.Source.{Source}
+use Rattle.macho_fields.specs.declared.source.Source.{Source}
 use Rattle.macho_fields.specs.declared.write.FieldWrite.{FieldWrite}
 use Rattle.macho_fields.specs.declared.write.WriteFault.{WriteFault}
 use Rattle.macho_fields.specs.declared.write.WriteFault.TheVariants as write_fault
@@ -25,7 +25,7 @@ pub record IsSource (s : Source) : Type 0 where
   pub object : KeepsObjectRules s.file.now.bytes
   pub static : s.file.now.is_dynamic ≡ false
   pub among : s.place.section < num_sections s.file.now.bytes
-  pub list : s.list.now ≡ record { bytes = s.file.now.bytes; section = s.place.section }
+  pub list : s.list ≡ record { bytes = s.file.now.bytes; section = s.place.section }
   pub bytes : s.bytes.now ≡ section_bytes s.file.now.bytes s.place.section
   pub long : length s.bytes.now ≡ (section_at s.file.now.bytes s.place.section).size
   pub low : s.place.address + length s.bytes.now ≤ 2 ^ 64

@@ -11,5 +11,5 @@ invariant-loop-index g l =
     record {
       stands : (k : Link) (p : Placed) → IsToFill k p l.source.place (g.P.Places.look l.places) l.source.file.now.bytes
           → FillStands k p l.fn.told → FillStands k p l.least;
-      front : IsInFront l.source.list.now.bytes l.source.list.now.section l.index l.previous;
+      front : IsInFront l.source.list.bytes l.source.list.section l.index l.previous;
     }

@@ -1,26 +1,20 @@
 -- The section comes from its object.
-use Rattle.std.proofs.Common.{ℕ, ◌==◌, length, ap, ◌∙◌, arith}
-use Rattle.macho_records.specs.Sections.{type_of}
-use Rattle.macho_object.proofs.Options.{some_if}
+use Rattle.std.proofs.Common.{ℕ, ◌<◌}
+use Rattle.macho_model.specs.Objects.{num_symbols}
+use Rattle.macho_fields.specs.Faults.{FillStands}
+use Rattle.macho_fields.specs.Filling.{IsToFill}
+use Rattle.macho_fields.proofs.Sourced.{of_source, to_source}
 use Rattle.macho_fields.proofs.least.section_fault.Goals as goal
-use Rattle.macho_model.proofs.ObjectLaws.{section_long, keeps_of}
 
-pub relocations_fault-requires-clause-source : goal.relocations_fault-requires-clause-source
-relocations_fault-requires-clause-source g c =
-    let b = c.args.file.now.bytes in
-    let k = c.args.place.section in
-    let object = keeps_of c.args.file.now.is_dynamic b c.requires.object c.is_dynamic-object.ensures.kept in
-    let header = (some_if _ _ _ c.in-Some-Some-Some.ensures).1 in
-    let bytes = (some_if _ _ _ c.in-Some-Some-Some.ensures').1 in
-    let list = (some_if _ _ _ c.in-Some-Some-Some.ensures'').1 in
-    let long = ap length bytes ∙ section_long b k object c.requires.among c.requires.filled in
-    record {
-      object = object;
-      static = c.requires.object;
-      among = c.requires.among;
-      list = list;
-      bytes = bytes;
-      long = long;
-      low = omega (arith, c.requires.low, long);
-      descriptors = ap (λ (n : ℕ). n == 19) (c.typ.ensures ∙ ap type_of header);
-    }
+pub relocations_fault-requires-clause-symbols : goal.relocations_fault-requires-clause-symbols
+relocations_fault-requires-clause-symbols g c =
+    to_source (λ q b. (n : ℕ) → n < num_symbols b → g.P.Places.has_symbol c.args.places.now q.file n) c.source_of-source.result
+    c.args.place c.args.file.now.bytes c.source_of-source.ensures.place c.source_of-source.ensures.bytes c.requires.symbols
+
+pub returns : goal.returns
+returns g c = record {
+  why = λ l p. of_source
+      (λ q b. IsToFill l p q (g.P.Places.look c.args.places.now) b → FillStands l p c.args.told → FillStands l p c.relocations_fault.result)
+      c.source_of-source.result c.args.place c.args.file.now.bytes c.source_of-source.ensures.place c.source_of-source.ensures.bytes
+      (c.relocations_fault.ensures l p);
+}

@@ -11,5 +11,5 @@ invariant-loop-index g l =
     record {
       filled : (k : Link) (p : Placed) → IsToFill k p l.source.place (g.P.Places.look l.places) l.source.file.now.bytes
           → IsFilledTo k p l.source.place l.index l.initial.run.items l.out l.run.items;
-      front : IsInFront l.source.list.now.bytes l.source.list.now.section l.index l.previous;
+      front : IsInFront l.source.list.bytes l.source.list.section l.index l.previous;
     }

@@ -3,7 +3,7 @@ use Rattle.std.proofs.Common.{◌≡◌, refl, sym, subst, ap, map, length, arit
 use Rattle.std.proofs.lemmas.List.{length-map}
 use Rattle.std.proofs.lemmas.Result.{err_from_is_err_and}
 use Rattle.macho_model.specs.Needs.{libraries_needed}
-use Rattle.macho_linking.specs.steps.Imaged.{StandsAlways}
+use Rattle.macho_linking.specs.Planning.{StandsAlways}
 use Rattle.macho_linking.proofs.Closing.{to_planned, unwritten_stands, libraries_few}
 use Rattle.macho_linking.proofs.passes.make_image.Goals as goal
 

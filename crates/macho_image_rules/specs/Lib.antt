@@ -1,0 +1,14 @@
+pub mod Asking
+pub mod Bytes
+pub mod Chain
+pub mod Laws
+pub mod Needing
+pub mod Segments
+pub mod Viewed
+pub mod WordLaws
+pub mod Words
+pub mod Walks
+pub mod Commons
+pub mod PlainFields
+pub mod StubWalk
+pub mod steps

@@ -1,0 +1,5 @@
+-- The code's own steps: what private functions say, and what loops keep. No clause of a public function cites them.
+pub mod Marks
+pub mod Entries
+pub mod Gathered
+pub mod Merged

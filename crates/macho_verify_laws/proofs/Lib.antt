@@ -1,0 +1,16 @@
+pub mod OneMemory
+pub mod Choices
+pub mod Bytes
+pub mod Free
+pub mod Assembled
+pub mod Numbers
+pub mod Stubs
+pub mod Alone
+pub mod Found
+pub mod Written
+pub mod Pointing
+pub mod Missing
+pub mod Decided
+pub mod PlainFields
+pub mod FieldHalves
+pub mod Whole
