@@ -1,4 +1,4 @@
-//! Tests of the tools over devices in memory, a module for each tool.
+//! Tests of the tools over devices in memory, and of what a program of compilers is made of: a module for each.
 #![tactic(auto)]
 
 #[cfg(test)]
@@ -6,6 +6,10 @@ mod images;
 #[cfg(test)]
 mod inspector;
 #[cfg(test)]
+mod members;
+#[cfg(test)]
 mod retooler;
 #[cfg(test)]
 mod stubs;
+#[cfg(test)]
+mod words;
